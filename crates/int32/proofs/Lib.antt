@@ -1,0 +1,4 @@
+-- What holds of the definitions, for the proofs of this crate and of its callers.
+pub mod Laws
+pub mod Signs
+pub mod Division

@@ -1,0 +1,74 @@
+-- Document 01, Integers. A cell's value is a number of ℤ from -2^31 to 2^31 - 1. Each operation is done on ℤ and its result wrapped,
+-- so that "wrap at 32 bits" is said once. Assumes nothing.
+use Prim.Native.Nat.{ℕ, suc, _+_, _-_, _*_, _/_, _%_, _^_}
+use mathlib.Core.Bool.{Bool, false, cond, not}
+use lib.Dec.{ltb, eqb}
+use lib.IntN.{ℤ, pos, negsuc, negℤ, _+ℤ_, _-ℤ_, _*ℤ_}
+use lib.Signed.{ltZ, leZ}
+use Rattle.int32.specs.declared.Divided.{Divided}
+use Rattle.int32.specs.declared.Divided.the-variants.{Value, ByZero}
+use Rattle.int32.specs.declared.Relation.{Relation}
+use Rattle.int32.specs.declared.Relation.the-variants.{Equal, Unequal, Less, AtMost, Greater, AtLeast}
+
+-- "two's complement": the word of a number is its remainder modulo 2^32
+unfoldable pub word : ℤ → ℕ
+word (pos n) = n % 2 ^ 32
+word (negsuc n) = 2 ^ 32 - suc (n % 2 ^ 32)
+
+-- the number that a word stands for: the words from 2^31 up are the negative numbers
+unfoldable pub value : ℕ → ℤ
+value n = cond (ltb n (2 ^ 31)) (pos n) (negsuc (2 ^ 32 - suc n))
+
+-- "Sum, difference, product and negation wrap at 32 bits"
+unfoldable pub wrap : ℤ → ℤ
+wrap z = value (word z)
+
+unfoldable pub sum : ℤ → ℤ → ℤ
+sum x y = wrap (x +ℤ y)
+
+unfoldable pub difference : ℤ → ℤ → ℤ
+difference x y = wrap (x -ℤ y)
+
+unfoldable pub product : ℤ → ℤ → ℤ
+product x y = wrap (x *ℤ y)
+
+unfoldable pub negation : ℤ → ℤ
+negation x = wrap (negℤ x)
+
+-- a division of the magnitudes, with the sign that the quotient has
+unfoldable pub bySigns : (ℕ → ℕ → ℕ) → ℤ → ℤ → ℤ
+bySigns f (pos a) (pos b) = pos (f a b)
+bySigns f (pos a) (negsuc b) = negℤ (pos (f a (suc b)))
+bySigns f (negsuc a) (pos b) = negℤ (pos (f (suc a) b))
+bySigns f (negsuc a) (negsuc b) = pos (f (suc a) (suc b))
+
+-- "`/` truncates toward zero"; "−2147483648 divided by −1, either way, gives −2147483648", since 2^31 wraps to it
+unfoldable pub quotient : ℤ → ℤ → ℤ
+quotient x y = wrap (bySigns _/_ x y)
+
+-- "the nearest whole number, halves away from zero": of magnitudes, halves upward
+unfoldable pub nearest : ℕ → ℕ → ℕ
+nearest a b = (2 * a + b) / (2 * b)
+
+unfoldable pub rdiv : ℤ → ℤ → ℤ
+rdiv x y = wrap (bySigns nearest x y)
+
+-- whether two numbers are the same
+unfoldable pub same : ℤ → ℤ → Bool
+same (pos a) (pos b) = eqb a b
+same (pos a) (negsuc b) = false
+same (negsuc a) (pos b) = false
+same (negsuc a) (negsuc b) = eqb a b
+
+-- "a divisor against zero": a division by f has a value unless the divisor is 0
+unfoldable pub divided : (ℤ → ℤ → ℤ) → ℤ → ℤ → Divided
+divided f x y = cond (same y (pos 0)) ByZero (Value (f x y))
+
+-- "rel is ==, /=, <, <=, > or >="
+unfoldable pub related : Relation → ℤ → ℤ → Bool
+related Equal x y = same x y
+related Unequal x y = not (same x y)
+related Less x y = ltZ x y
+related AtMost x y = leZ x y
+related Greater x y = ltZ y x
+related AtLeast x y = leZ y x

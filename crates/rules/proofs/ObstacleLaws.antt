@@ -1,0 +1,24 @@
+-- Obstacles only grow with the log.
+use mathlib.Core.Logic.{inl, inr}
+use mathlib.Core.List.{_∷_}
+use Prim.Native.Nat.{ℕ}
+use Rattle.rules.specs.Loop.{Class, shared, lastprivate, reduction, Loop}
+use Rattle.rules.specs.Obstacles.{Clash, ObstacleAt, Obstacle, Obstructed}
+use Rattle.rules.specs.Log.{Access, Log, only}
+use Rattle.rules.specs.LogLaws.{Extends, extends-only, has-more, exposed-more, ordinary-more}
+
+module _ (f g : ℕ → Log) (x : (i : ℕ) → Extends (f i) (g i)) where
+  pub clash-more : (c : ℕ) → Clash f c → Clash g c
+  clash-more c (i, j, n, w, o) = (i, j, n, has-more (x i) w, ordinary-more (x j) o)
+
+  obstacle-at-more : (k : Class) (c : ℕ) → ObstacleAt k f c → ObstacleAt k g c
+  obstacle-at-more shared c o = clash-more c o
+  obstacle-at-more lastprivate c (i, j, n, w, o) = (i, j, n, has-more (x i) w, exposed-more (x j) o)
+  obstacle-at-more reduction c (inl (i, j, n, w, o)) = inl (i, j, n, has-more (x i) w, exposed-more (x j) o)
+  obstacle-at-more reduction c (inr (i, j, u, o)) = inr (i, j, has-more (x i) u, ordinary-more (x j) o)
+
+  pub obstacle-more : (l : Loop) → Obstacle l f → Obstacle l g
+  obstacle-more l (c, o) = (c, obstacle-at-more (l .class c) c o)
+
+pub obstructed-more : (l : Loop) (γ : ℕ → ℕ) (e : Access) (g : Log) → Obstructed l γ g → Obstructed l γ (e ∷ g)
+obstructed-more l γ e g = obstacle-more (λ i. only γ i g) (λ i. only γ i (e ∷ g)) (λ i. extends-only γ i e g) l

@@ -1,0 +1,18 @@
+-- What a loop run is. To be believed, in this order:
+pub mod Loop
+pub mod Blocks
+pub mod Log
+pub mod Steps
+pub mod Marks
+pub mod Serial
+pub mod Obstacles
+pub mod Merge
+pub mod Answer
+pub mod Proper
+-- what they are written with
+pub mod Choose
+pub mod Cells
+-- devices: laws that the decisions need, and decisions, whose types say what they decide
+pub mod ChooseLaws
+pub mod LogLaws
+pub mod Decide

@@ -1,0 +1,19 @@
+// The rules of a loop run (document 01, Steps). What a run is stands in specs/, the theorem that order decides nothing in
+// proofs/Theorem.antt; the code here deals the iterations out to the processors.
+ghost use mathlib.Core.Path.{_≡_};
+ghost use Prim.Native.Nat.{_≤_, _<_};
+ghost use Rattle.rules.specs.Blocks.{blockStart};
+
+// The index of an iteration, from 0. It is never used for a processor's number.
+pub struct Iteration(pub u32);
+
+// The number of a processor, from 0. It is never used for an iteration's index.
+pub struct Processor(pub u32);
+
+// The first iteration of processor p, of so many iterations and processors. The one after the last processor stands for the end.
+pub fn block_start(iterations: u32, processors: u32, p: Processor) -> Iteration
+    requires { ⌜ (iterations ≤ 65535) × ((0 < processors) × ((processors ≤ 8) × (p .0 ≤ processors))) ⌝ }
+    ensures { λ r. ⌜ r .0 ≡ blockStart iterations processors (p .0) ⌝ }
+{
+    Iteration(iterations * p.0 / processors)
+}

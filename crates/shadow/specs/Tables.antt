@@ -1,0 +1,122 @@
+-- The shadow tables: what is kept of a log so that marks, obstacles, private values, sums and write counts can be read off in a few steps.
+use mathlib.Core.List.{[], _∷_}
+use mathlib.Core.Bool.{Bool, true, false, cond}
+use mathlib.Core.Logic.{_⊎_}
+use mathlib.Core.Path.{_≡_}
+use mathlib.Core.Option.{Option, none, some}
+use Prim.Native.Nat.{ℕ, zero, suc, _+_, _<_}
+use lib.IntN.{ℤ}
+use Rattle.rules.specs.Choose.{pick, put, below}
+use Rattle.rules.specs.Loop.{Class, shared, lastprivate, reduction}
+use Rattle.rules.specs.Log.{Kind, reads, writes, updates, Access, access, Log}
+
+-- of a processor and a cell
+pub record Own : Type 0 where
+  pub value : ℤ  -- the last private value
+  pub wrote : ℕ  -- 1 + the group of the last ordinary write, 0 if none
+  pub exposed : ℕ  -- 1 + the group of the last exposed read, 0 if none
+  pub sum : ℤ  -- what was added
+  pub touched : ℕ  -- 1 + the iteration of the last write or update, 0 if none
+
+-- of a cell
+pub record Row : Type 0 where
+  pub met : ℕ  -- how many groups wrote it or read it exposed
+  pub writers : ℕ  -- how many groups wrote it
+  pub crossed : Bool  -- a group read it first and then wrote it
+  pub updated : Bool  -- it was updated
+  pub own : ℕ → Own
+
+pub record Tables : Type 0 where
+  pub rows : ℕ → Row
+  pub pairs : ℕ  -- different pairs of iteration and cell among writes and updates
+  pub cells : ℕ  -- different cells among them
+
+-- one more unless the processor's group wrote the cell or read it exposed already
+abbrev pub newcomer : ℕ → Own → ℕ → ℕ
+newcomer g o m = pick (o .wrote) (suc g) m (pick (o .exposed) (suc g) m (suc m))
+
+module _ (plus : ℤ → ℤ → ℤ) where
+  -- an access by iteration i of group g, with the value v: what its processor keeps of the cell
+  abbrev pub kept : Kind → ℕ → ℕ → ℤ → Own → Own
+  kept reads g i v o = record { value = o .value; wrote = o .wrote; exposed = pick (o .wrote) (suc g) (o .exposed) (suc g); sum = o .sum; touched = o .touched }
+  kept writes g i v o = record { value = v; wrote = suc g; exposed = o .exposed; sum = o .sum; touched = suc i }
+  kept updates g i v o = record { value = o .value; wrote = o .wrote; exposed = o .exposed; sum = plus v (o .sum); touched = suc i }
+
+  -- and what is kept of the cell; p is the processor
+  abbrev pub noted : Kind → ℕ → ℕ → ℕ → ℤ → Row → Row
+  noted reads p g i v r = record {
+    met = newcomer g (r .own p) (r .met);
+    writers = r .writers;
+    crossed = r .crossed;
+    updated = r .updated;
+    own = put (r .own) p (kept reads g i v (r .own p));
+  }
+  noted writes p g i v r = record {
+    met = newcomer g (r .own p) (r .met);
+    writers = pick (r .own p .wrote) (suc g) (r .writers) (suc (r .writers));
+    crossed = pick (r .own p .exposed) (suc g) true (r .crossed);
+    updated = r .updated;
+    own = put (r .own) p (kept writes g i v (r .own p));
+  }
+  noted updates p g i v r = record {
+    met = r .met;
+    writers = r .writers;
+    crossed = r .crossed;
+    updated = true;
+    own = put (r .own) p (kept updates g i v (r .own p));
+  }
+
+-- one more if iteration i had not written or updated the cell, and if nobody had
+abbrev pub paired : Kind → ℕ → Own → ℕ → ℕ
+paired reads i o m = m
+paired writes i o m = pick (o .touched) (suc i) m (suc m)
+paired updates i o m = pick (o .touched) (suc i) m (suc m)
+
+abbrev pub celled : Kind → Row → ℕ → ℕ
+celled reads r m = m
+celled writes r m = cond (r .updated) m (pick (r .writers) 0 (suc m) m)
+celled updates r m = cond (r .updated) m (pick (r .writers) 0 (suc m) m)
+
+-- γ takes an iteration to its group, π a group to its processor
+module _ (γ π : ℕ → ℕ) (plus : ℤ → ℤ → ℤ) (nought : ℤ) where
+  unfoldable pub note : Access → Tables → Tables
+  note (access k i c v) t = record {
+    rows = put (t .rows) c (noted plus k (π (γ i)) (γ i) i v (t .rows c));
+    pairs = paired k i (t .rows c .own (π (γ i))) (t .pairs);
+    cells = celled k (t .rows c) (t .cells);
+  }
+
+  abbrev pub blank : Row
+  blank = record { met = 0; writers = 0; crossed = false; updated = false; own = λ p. record { value = nought; wrote = 0; exposed = 0; sum = nought; touched = 0 } }
+
+  -- the tables of a log
+  unfoldable pub tables : Log → Tables
+  tables [] = record { rows = λ c. blank; pairs = 0; cells = 0 }
+  tables (e ∷ l) = note e (tables l)
+
+-- the private value of the highest of the processors below k that wrote
+unfoldable pub chosen : (ℕ → Own) → ℕ → Option ℤ
+chosen own zero = none
+chosen own (suc k) = pick (own k .wrote) 0 (chosen own k) (some (own k .value))
+
+-- what a processor wrote last
+abbrev pub last-own : Own → Option ℤ
+last-own o = pick (o .wrote) 0 none (some (o .value))
+
+-- what group g reads of its own
+abbrev pub own-value : ℕ → Own → Option ℤ
+own-value g o = pick (o .wrote) (suc g) (some (o .value)) none
+
+-- marks read off
+unfoldable pub shown : Row → ℕ
+shown r = below 0 (r .writers) 1 0 + below (r .writers) (r .met) 2 0 + cond (r .crossed) 4 0 + cond (r .updated) 8 0
+
+-- a group wrote it, a group read it exposed, and two different groups did one or the other
+abbrev pub Stale-row : Row → Type 0
+Stale-row r = (0 < r .writers) × (1 < r .met) × ((r .writers < r .met) ⊎ (r .crossed ≡ true))
+
+-- obstacles read off
+abbrev pub Blocked : Class → Row → Type 0
+Blocked shared r = (0 < r .writers) × (1 < r .met)
+Blocked lastprivate r = Stale-row r
+Blocked reduction r = Stale-row r ⊎ ((0 < r .met) × (r .updated ≡ true))
