@@ -1,0 +1,194 @@
+-- Document 01, The loop text, 1 to 6: the syntax of a line and the tokens that it is written with. A line follows the grammar exactly
+-- where its tokens are `showLine` of some syntax.
+use mathlib.Core.Bool.{Bool, cond}
+use mathlib.Core.List.{List, [], _∷_, _++_}
+use mathlib.Core.Option.{Option, none, some}
+use Prim.Native.Nat.{ℕ, _+_, _-_, _*_}
+use Prim.Native.String.{String}
+use Rattle.rules.specs.Loop.{Class, shared, lastprivate, reduction}
+use Rattle.int32.specs.declared.Relation.{Relation}
+use Rattle.int32.specs.declared.Relation.the-variants.{Equal, Unequal, Less, AtMost, Greater, AtLeast}
+use Rattle.syntax.specs.Bytes.{bytes, Token, name, digits, sign, word-of}
+
+-- ---- literals
+
+-- the number that digits write
+unfoldable pub number-from : ℕ → List ℕ → ℕ
+number-from n [] = n
+number-from n (d ∷ ds) = number-from (10 * n + (d - 48)) ds
+
+abbrev pub number : List ℕ → ℕ
+number = number-from 0
+
+-- ---- syntax: names and digits are their bytes
+
+pub data Lead : Type 0 where
+  bare plus minus : Lead
+
+-- "An expression holds terms, a term holds factors, a factor may hold an expression. Terms are joined by + and -, factors by * and /, both from
+-- the left. One sign may begin an expression." Further terms come after + (false) or - (true), further factors after * (false) or / (true).
+-- "A factor is a literal, v, a cell, `rdiv(e, e)`, or an expression in brackets."
+mutual
+  pub data Expr : Type 0 where
+    expr : Lead → Term → Terms → Expr
+
+  pub data Terms : Type 0 where
+    no-terms : Terms
+    terms : Bool → Term → Terms → Terms
+
+  pub data Term : Type 0 where
+    term : Factor → Factors → Term
+
+  pub data Factors : Type 0 where
+    no-factors : Factors
+    factors : Bool → Factor → Factors → Factors
+
+  pub data Factor : Type 0 where
+    literal : List ℕ → Factor
+    cell : Ref → Factor
+    rdiv : Expr → Expr → Factor
+    brackets : Expr → Factor
+
+  pub data Ref : Type 0 where
+    single : List ℕ → Ref
+    element : List ℕ → Expr → Ref
+
+-- "`z` is one cell, `a(n)` is n cells"
+pub data Declared : Type 0 where
+  one : List ℕ → Declared
+  array : List ℕ → List ℕ → Declared
+
+-- "an item is a literal with optional sign, or `r*` before it for r copies"
+pub data Item : Type 0 where
+  item : Option (List ℕ) → Lead → List ℕ → Item
+
+-- "`shared(list)`, `lastprivate(list)`, `reduction(+:list)`": "a list is one or more names parted by commas"
+pub data Clause : Type 0 where
+  clause : Class → List ℕ → List (List ℕ) → Clause
+
+-- "an assignment to a cell, or `if (e rel e) then`, statements, optional `else` and statements, `end if`": each on "one line of its own".
+-- (true: `endif`)
+pub data Statement : Type 0 where
+  assign : Ref → Expr → Statement
+  when : Expr → Relation → Expr → Statement
+  otherwise : Statement
+  end-if : Bool → Statement
+
+-- 1 integer; 2 data; 3 the directive, with "clauses in any order: `num_threads(p)` exactly once"; 4 do; 5 a statement; 6 `end do` (true: `enddo`),
+-- 7 the closing directive
+pub data Line : Type 0 where
+  declare : Declared → List Declared → Line
+  give : List ℕ → Item → List Item → Line
+  direct : List Clause → List ℕ → List Clause → Line
+  loop : List ℕ → Lead → List ℕ → Lead → List ℕ → Line
+  inside : Statement → Line
+  end-do : Bool → Line
+  close : Line
+
+-- ---- the tokens of it
+
+infixr 25 _⌢_
+-- one after the other
+abbrev pub _⌢_ : List Token → List Token → List Token
+a ⌢ b = a ++ b
+
+-- a word and a sign, by their bytes
+abbrev pub wd : String → List Token
+wd t = word-of (bytes t) ∷ []
+
+abbrev pub sg : String → List Token
+sg t = sign (bytes t) ∷ []
+
+abbrev pub showName : List ℕ → List Token
+showName x = name x ∷ []
+
+abbrev pub showDigits : List ℕ → List Token
+showDigits d = digits d ∷ []
+
+abbrev pub showLead : Lead → List Token
+showLead bare = []
+showLead plus = sg "+"
+showLead minus = sg "-"
+
+abbrev pub showRel : Relation → List Token
+showRel Equal = sg "=="
+showRel Unequal = sg "/="
+showRel Less = sg "<"
+showRel AtMost = sg "<="
+showRel Greater = sg ">"
+showRel AtLeast = sg ">="
+
+-- further parts, each after a comma
+unfoldable pub showMore : {A : Type 0} → (A → List Token) → List A → List Token
+showMore f [] = []
+showMore f (x ∷ xs) = sg "," ⌢ f x ⌢ showMore f xs
+
+abbrev pub showList : {A : Type 0} → (A → List Token) → A → List A → List Token
+showList f x xs = f x ⌢ showMore f xs
+
+unfoldable mutual
+  pub show : Expr → List Token
+  show (expr l t ts) = showLead l ⌢ showTerm t ⌢ showTerms ts
+
+  pub showTerms : Terms → List Token
+  showTerms no-terms = []
+  showTerms (terms minus? t ts) = cond minus? (sg "-") (sg "+") ⌢ showTerm t ⌢ showTerms ts
+
+  pub showTerm : Term → List Token
+  showTerm (term x xs) = showFactor x ⌢ showFactors xs
+
+  pub showFactors : Factors → List Token
+  showFactors no-factors = []
+  showFactors (factors over? x xs) = cond over? (sg "/") (sg "*") ⌢ showFactor x ⌢ showFactors xs
+
+  pub showFactor : Factor → List Token
+  showFactor (literal d) = showDigits d
+  showFactor (cell r) = showRef r
+  showFactor (rdiv a b) = wd "rdiv" ⌢ sg "(" ⌢ show a ⌢ sg "," ⌢ show b ⌢ sg ")"
+  showFactor (brackets e) = sg "(" ⌢ show e ⌢ sg ")"
+
+  pub showRef : Ref → List Token
+  showRef (single x) = showName x
+  showRef (element x e) = showName x ⌢ sg "(" ⌢ show e ⌢ sg ")"
+
+abbrev pub showDeclared : Declared → List Token
+showDeclared (one x) = showName x
+showDeclared (array x d) = showName x ⌢ sg "(" ⌢ showDigits d ⌢ sg ")"
+
+abbrev pub showRepeat : Option (List ℕ) → List Token
+showRepeat none = []
+showRepeat (some r) = showDigits r ⌢ sg "*"
+
+abbrev pub showSigned : Lead → List ℕ → List Token
+showSigned l d = showLead l ⌢ showDigits d
+
+abbrev pub showItem : Item → List Token
+showItem (item r l d) = showRepeat r ⌢ showSigned l d
+
+abbrev pub showClass : Class → List Token
+showClass shared = wd "shared" ⌢ sg "("
+showClass lastprivate = wd "lastprivate" ⌢ sg "("
+showClass reduction = wd "reduction" ⌢ sg "(" ⌢ sg "+" ⌢ sg ":"
+
+abbrev pub showClause : Clause → List Token
+showClause (clause c x xs) = showClass c ⌢ showList showName x xs ⌢ sg ")"
+
+unfoldable pub showClauses : List Clause → List Token
+showClauses [] = []
+showClauses (c ∷ cs) = showClause c ⌢ showClauses cs
+
+abbrev pub showStatement : Statement → List Token
+showStatement (assign r e) = showRef r ⌢ sg "=" ⌢ show e
+showStatement (when a r b) = wd "if" ⌢ sg "(" ⌢ show a ⌢ showRel r ⌢ show b ⌢ sg ")" ⌢ wd "then"
+showStatement otherwise = wd "else"
+showStatement (end-if joined?) = cond joined? (wd "endif") (wd "end" ⌢ wd "if")
+
+unfoldable pub showLine : Line → List Token
+showLine (declare d ds) = wd "integer" ⌢ showList showDeclared d ds
+showLine (give x i is) = wd "data" ⌢ showName x ⌢ sg "/" ⌢ showList showItem i is ⌢ sg "/"
+showLine (direct a p b) =
+    sg "!$omp" ⌢ wd "parallel" ⌢ wd "do" ⌢ showClauses a ⌢ wd "num_threads" ⌢ sg "(" ⌢ showDigits p ⌢ sg ")" ⌢ showClauses b
+showLine (loop v l m k n) = wd "do" ⌢ showName v ⌢ sg "=" ⌢ showSigned l m ⌢ sg "," ⌢ showSigned k n
+showLine (inside t) = showStatement t
+showLine (end-do joined?) = cond joined? (wd "enddo") (wd "end" ⌢ wd "do")
+showLine close = sg "!$omp" ⌢ wd "end" ⌢ wd "parallel" ⌢ wd "do"

@@ -1,0 +1,210 @@
+-- Document 01, The loop text: what the lines of a text make known, one after another: its names with their cells, classes and data, P, v, m
+-- and the iterations, and the statements.
+use mathlib.Core.Bool.{Bool, true, false, cond}
+use mathlib.Core.List.{List, [], _∷_, _++_, map}
+use mathlib.Core.Option.{Option, none, some}
+use Prim.Native.Nat.{ℕ, _+_}
+use lib.IntN.{ℤ, pos, negsuc, negℤ, _+ℤ_, _-ℤ_}
+use lib.ListN.{replicate}
+use Rattle.int32.specs.declared.Relation.{Relation}
+use Rattle.rules.specs.Loop.{Class, shared}
+use Rattle.syntax.specs.Bytes.{any, same}
+use Rattle.syntax.specs.Grammar.{number, Lead, bare, plus, minus, Expr, Ref, Declared, one, array, Item, item, Clause, clause, assign, when, otherwise, end-if, Line, declare, give, direct, loop, inside, end-do, close}
+
+-- ---- names
+
+-- its first cell, whether it takes a subscript, how many cells it has, its class, its data
+pub record Entry : Type 0 where
+  pub name : List ℕ
+  pub first : ℕ
+  pub subscripted : Bool
+  pub size : ℕ
+  pub class : Class
+  pub given : Option (List ℤ)
+
+abbrev pub named : List ℕ → Entry → Bool
+named x e = same x (e .name)
+
+abbrev pub known : List ℕ → List Entry → Bool
+known x = any (named x)
+
+abbrev pub nowhere : Entry
+nowhere = record { name = []; first = 0; subscripted = false; size = 0; class = shared; given = none }
+
+unfoldable pub find : List ℕ → List Entry → Entry
+find x [] = nowhere
+find x (e ∷ es) = cond (named x e) e (find x es)
+
+abbrev pub total : {A : Type 0} → (A → ℕ) → List A → ℕ
+total f [] = 0
+total f (x ∷ xs) = f x + total f xs
+
+-- N: "the number of cells"
+abbrev pub cells : List Entry → ℕ
+cells = total (λ e. e .size)
+
+-- ---- statements in one another
+
+-- what is done one after the other: nothing more; an assignment on a line; an `if` on a line without `else`, or with it
+pub data Stmts : Type 0 where
+  stop : Stmts
+  set : ℕ → Ref → Expr → Stmts → Stmts
+  if-then : ℕ → Expr → Relation → Expr → Stmts → Stmts → Stmts
+  if-else : ℕ → Expr → Relation → Expr → Stmts → Stmts → Stmts → Stmts
+
+-- the first statements, and then the second
+unfoldable pub then-do : Stmts → Stmts → Stmts
+then-do stop b = b
+then-do (set k r e a) b = set k r e (then-do a b)
+then-do (if-then k x rel y p a) b = if-then k x rel y p (then-do a b)
+then-do (if-else k x rel y p q a) b = if-else k x rel y p q (then-do a b)
+
+-- an `if` that is open: its line and condition, what stood before it in the part that it is in, and its first part once `else` was met
+pub record Open : Type 0 where
+  pub line : ℕ
+  pub left : Expr
+  pub relation : Relation
+  pub right : Expr
+  pub before : Stmts
+  pub first : Option Stmts
+
+-- `end if`, where `inner` are the statements of the part that it ends
+abbrev pub branched : Open → Option Stmts → Stmts → Stmts
+branched o none inner = if-then (o .line) (o .left) (o .relation) (o .right) inner stop
+branched o (some p) inner = if-else (o .line) (o .left) (o .relation) (o .right) p inner stop
+
+abbrev pub closed : Open → Stmts → Stmts
+closed o inner = then-do (o .before) (branched o (o .first) inner)
+
+-- `else`
+abbrev pub turned : Open → Stmts → Open
+turned o inner = record { line = o .line; left = o .left; relation = o .relation; right = o .right; before = o .before; first = some inner }
+
+-- ---- numbers that a line gives
+
+abbrev pub declaredName : Declared → List ℕ
+declaredName (one x) = x
+declaredName (array x d) = x
+
+abbrev pub declaredSize : Declared → ℕ
+declaredSize (one x) = 1
+declaredSize (array x d) = number d
+
+abbrev pub takesSubscript : Declared → Bool
+takesSubscript (one x) = false
+takesSubscript (array x d) = true
+
+abbrev pub signed : Lead → ℕ → ℤ
+signed bare n = pos n
+signed plus n = pos n
+signed minus n = negℤ (pos n)
+
+-- "`r*` before it for r copies"
+abbrev pub copiesOf : Option (List ℕ) → ℕ
+copiesOf none = 1
+copiesOf (some r) = number r
+
+abbrev pub copies : Item → ℕ
+copies (item r l d) = copiesOf r
+
+unfoldable pub values : List Item → List ℤ
+values [] = []
+values (item r l d ∷ is) = replicate (copiesOf r) (signed l (number d)) ++ values is
+
+abbrev pub natural : ℤ → ℕ
+natural (pos n) = n
+natural (negsuc n) = 0
+
+-- "If n < m there are no iterations"
+abbrev pub iterations : ℤ → ℤ → ℕ
+iterations m n = natural ((n -ℤ m) +ℤ pos 1)
+
+-- ---- the lines so far
+
+-- which of 1 to 7 stood last (0 none); the names in declared order; P; v, m and the iterations; the open ifs, the innermost first; and the
+-- statements so far of the part that the innermost is in
+pub record State : Type 0 where
+  pub stage : ℕ
+  pub table : List Entry
+  pub processors : ℕ
+  pub variable : List ℕ
+  pub from : ℤ
+  pub count : ℕ
+  pub opens : List Open
+  pub inner : Stmts
+
+abbrev pub nothing : State
+nothing = record { stage = 0; table = []; processors = 0; variable = []; from = pos 0; count = 0; opens = []; inner = stop }
+
+-- ---- what a good line adds
+
+-- "in declared order"; "a name in no clause is shared"
+abbrev pub entries : ℕ → List Declared → List Entry
+entries c [] = []
+entries c (d ∷ ds) =
+    record { name = declaredName d; first = c; subscripted = takesSubscript d; size = declaredSize d; class = shared; given = none }
+    ∷ entries (c + declaredSize d) ds
+
+abbrev pub give-to : List ℕ → List ℤ → Entry → Entry
+give-to x vs e =
+    cond (named x e)
+    (record { name = e .name; first = e .first; subscripted = e .subscripted; size = e .size; class = e .class; given = some vs })
+    e
+
+unfoldable pub class-in : List Clause → List ℕ → Class
+class-in [] x = shared
+class-in (clause c y ys ∷ cs) x = cond (any (same x) (y ∷ ys)) c (class-in cs x)
+
+abbrev pub classify : List Clause → Entry → Entry
+classify cs e =
+    record { name = e .name; first = e .first; subscripted = e .subscripted; size = e .size; class = class-in cs (e .name); given = e .given }
+
+-- a line of the part before the statements
+abbrev pub heading : ℕ → List Entry → ℕ → State
+heading k t p = record { stage = k; table = t; processors = p; variable = []; from = pos 0; count = 0; opens = []; inner = stop }
+
+-- a line after `do`, of which the open ifs and the statements of the innermost part are left
+abbrev pub stating : ℕ → State → List Open → Stmts → State
+stating j s os b = record {
+  stage = j;
+  table = s .table;
+  processors = s .processors;
+  variable = s .variable;
+  from = s .from;
+  count = s .count;
+  opens = os;
+  inner = b;
+}
+
+abbrev pub opened : ℕ → Expr → Relation → Expr → Stmts → Open
+opened k a rel b before = record { line = k; left = a; relation = rel; right = b; before = before; first = none }
+
+abbrev pub otherwise-after : State → List Open → State
+otherwise-after s [] = stating 5 s [] (s .inner)
+otherwise-after s (o ∷ os) = stating 5 s (turned o (s .inner) ∷ os) stop
+
+abbrev pub end-if-after : State → List Open → State
+end-if-after s [] = stating 5 s [] (s .inner)
+end-if-after s (o ∷ os) = stating 5 s os (closed o (s .inner))
+
+-- line k
+unfoldable pub after : ℕ → Line → State → State
+after k (declare d ds) s = heading 1 (s .table ++ entries (cells (s .table)) (d ∷ ds)) 0
+after k (give x i is) s = heading 2 (map (give-to x (values (i ∷ is))) (s .table)) 0
+after k (direct a p b) s = heading 3 (map (classify (a ++ b)) (s .table)) (number p)
+after k (loop v l m j n) s = record {
+  stage = 4;
+  table = s .table;
+  processors = s .processors;
+  variable = v;
+  from = signed l (number m);
+  count = iterations (signed l (number m)) (signed j (number n));
+  opens = [];
+  inner = stop;
+}
+after k (inside (assign r e)) s = stating 5 s (s .opens) (then-do (s .inner) (set k r e stop))
+after k (inside (when a rel b)) s = stating 5 s (opened k a rel b (s .inner) ∷ s .opens) stop
+after k (inside otherwise) s = otherwise-after s (s .opens)
+after k (inside (end-if j)) s = end-if-after s (s .opens)
+after k (end-do j) s = stating 6 s (s .opens) (s .inner)
+after k close s = stating 7 s (s .opens) (s .inner)

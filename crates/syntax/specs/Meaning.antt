@@ -1,0 +1,173 @@
+-- Document 01, Integers and The serial run: what an accepted text means: the accesses of each iteration as a tree, and the loop.
+use mathlib.Core.Bool.{Bool, true, false, cond, _&&_, not}
+use mathlib.Core.Option.{Option, none, some}
+use mathlib.Core.List.{List, [], _∷_}
+use Prim.Native.Nat.{ℕ, _+_, _-_}
+use lib.Dec.{ltb, leb, eqb}
+use lib.IntN.{ℤ, pos, negsuc, _+ℤ_}
+use Rattle.int32.specs.Integers.{sum, difference, product, negation, quotient, related}
+use Rattle.rules.specs.Loop.{Act, read, write, update, fault, done, Class, shared, lastprivate, reduction, Loop, Partition}
+use Rattle.rules.specs.Blocks.{singles}
+use Rattle.rules.specs.Cells.{cellOf}
+use Rattle.syntax.specs.Bytes.{choose, same, Token, name, word, digits, sign, equal}
+use Rattle.syntax.specs.Grammar.{number, Lead, bare, plus, minus, Expr, expr, Terms, no-terms, terms, Term, term, Factors, no-factors, factors, Factor, literal, cell, rdiv, brackets, Ref, single, element, showRef}
+use Rattle.syntax.specs.Known.{Entry, find, cells, State, Stmts, stop, set, if-then, if-else}
+use Rattle.syntax.specs.Conditions.{refName}
+use Rattle.int32.specs.Integers as integers
+
+-- ---- updates
+
+-- "a literal's leading zeros aside"
+unfoldable pub no-zeros : List ℕ → List ℕ
+no-zeros [] = []
+no-zeros (d ∷ ds) = choose (eqb d 48) (λ _. no-zeros ds) (λ _. d ∷ ds)
+
+abbrev pub zeros-aside : Token → Token
+zeros-aside (name b) = name b
+zeros-aside (word b) = word b
+zeros-aside (digits b) = digits (no-zeros b)
+zeros-aside (sign b) = sign b
+
+-- "token for token"
+unfoldable pub alike : List Token → List Token → Bool
+alike [] [] = true
+alike [] (u ∷ us) = false
+alike (t ∷ ts) [] = false
+alike (t ∷ ts) (u ∷ us) = equal (zeros-aside t) (zeros-aside u) && alike ts us
+
+-- "begins with the same reference, ... followed by +": the reference that an expression begins with, if + follows it
+abbrev pub lone : Factor → Factors → Option Ref
+lone (literal d) xs = none
+lone (cell q) no-factors = some q
+lone (cell q) (factors o x xs) = none
+lone (rdiv a b) xs = none
+lone (brackets e) xs = none
+
+abbrev pub unled : Lead → Option Ref → Option Ref
+unled bare q = q
+unled plus q = none
+unled minus q = none
+
+abbrev pub added : Terms → Bool
+added no-terms = false
+added (terms minus? t ts) = not minus?
+
+unfoldable pub summand : Expr → Option Ref
+summand (expr l (term x xs) ts) = cond (added ts) (unled l (lone x xs)) none
+
+abbrev pub same-ref : Ref → Option Ref → Bool
+same-ref r none = false
+same-ref r (some q) = alike (showRef r) (showRef q)
+
+abbrev pub is-reduction : Class → Bool
+is-reduction shared = false
+is-reduction lastprivate = false
+is-reduction reduction = true
+
+-- "An update is an assignment to a cell of a reduction name whose right side begins with the same reference"
+unfoldable pub is-update : List Entry → Ref → Expr → Bool
+is-update t r e = is-reduction (find (refName r) t .class) && same-ref r (summand e)
+
+-- "the remainder of the line is what is added"
+abbrev pub remaining : Lead → Term → Terms → Expr
+remaining l t no-terms = expr l t no-terms
+remaining l t (terms o u us) = expr bare u us
+
+unfoldable pub remainder : Expr → Expr
+remainder (expr l t ts) = remaining l t ts
+
+-- ---- what an expression and a statement do
+
+-- "One sign may begin an expression and applies to its whole first term"
+abbrev pub led : Lead → ℤ → ℤ
+led bare x = x
+led plus x = x
+led minus x = negation x
+
+-- "A subscript is tested against its array ... as soon as it is worked out": an array from cell `first` on, of so many cells
+unfoldable pub located : ℕ → ℕ → ℕ → ℤ → (ℕ → Act) → Act
+located line first size (pos n) k = choose (leb 1 n && leb n size) (λ _. k (first + (n - 1))) (λ _. fault 9 line)
+located line first size (negsuc n) k = fault 9 line
+
+-- "and a divisor against zero"
+unfoldable pub divides : ℕ → (ℤ → ℤ → ℤ) → ℤ → ℤ → (ℤ → Act) → Act
+divides line f a b k = choose (integers.same b (pos 0)) (λ _. fault 10 line) (λ _. k (f a b))
+
+-- `t` are the names, `v` is the loop's variable and `x` its value
+module _ (t : List Entry) (v : List ℕ) (x : ℤ) where
+  abbrev pub isVariable : Ref → Bool
+  isVariable (single y) = same y v
+  isVariable (element y e) = false
+
+  -- what stands on this line is worked out "from the left", and then comes k with its value
+  unfoldable mutual
+    pub eval : ℕ → Expr → (ℤ → Act) → Act
+    eval line (expr l a as′) k = evalTerm line a (λ y. evalTerms line as′ (led l y) k)
+
+    pub evalTerms : ℕ → Terms → ℤ → (ℤ → Act) → Act
+    evalTerms line no-terms y k = k y
+    evalTerms line (terms minus? a as′) y k = evalTerm line a (λ z. evalTerms line as′ (cond minus? (difference y z) (sum y z)) k)
+
+    pub evalTerm : ℕ → Term → (ℤ → Act) → Act
+    evalTerm line (term f fs) k = evalFactor line f (λ y. evalFactors line fs y k)
+
+    pub evalFactors : ℕ → Factors → ℤ → (ℤ → Act) → Act
+    evalFactors line no-factors y k = k y
+    evalFactors line (factors over? f fs) y k =
+        evalFactor line f (λ z.
+        choose over?
+        (λ _. divides line quotient y z (λ q. evalFactors line fs q k))
+        (λ _. evalFactors line fs (product y z) k))
+
+    pub evalFactor : ℕ → Factor → (ℤ → Act) → Act
+    evalFactor line (literal d) k = k (pos (number d))
+    evalFactor line (cell r) k = choose (isVariable r) (λ _. k x) (λ _. place line r (λ c. read c k))
+    evalFactor line (rdiv a b) k = eval line a (λ y. eval line b (λ z. divides line integers.rdiv y z k))
+    evalFactor line (brackets e) k = eval line e k
+
+    -- the cell that a reference means
+    pub place : ℕ → Ref → (ℕ → Act) → Act
+    place line (single y) k = k (find y t .first)
+    place line (element y e) k = eval line e (λ i. located line (find y t .first) (find y t .size) i k)
+
+  -- "The right side is worked out first, from the left, then the left subscript, then the write"; of an update "its subscript comes first, then the
+  -- remainder, then one access that updates"
+  unfoldable pub assigned : ℕ → Ref → Expr → Act → Act
+  assigned line r e after =
+      choose (is-update t r e)
+      (λ _. place line r (λ c. eval line (remainder e) (λ y. update c y after)))
+      (λ _. eval line e (λ y. place line r (λ c. write c y after)))
+
+  -- statements, and then `after`; "`if` works out its left e, then its right, then goes by rel"
+  unfoldable pub exec : Stmts → Act → Act
+  exec stop after = after
+  exec (set line r e rest) after = assigned line r e (exec rest after)
+  exec (if-then line a rel b p rest) after =
+      let next = exec rest after in
+      eval line a (λ y. eval line b (λ z. choose (related rel y z) (λ _. exec p next) (λ _. next)))
+  exec (if-else line a rel b p q rest) after =
+      let next = exec rest after in
+      eval line a (λ y. eval line b (λ z. choose (related rel y z) (λ _. exec p next) (λ _. exec q next)))
+
+-- ---- the loop
+
+-- the class of a cell's name
+unfoldable pub class-of : List Entry → ℕ → Class
+class-of [] c = shared
+class-of (e ∷ es) c = cond (leb (e .first) c && ltb c (e .first + e .size)) (e .class) (class-of es c)
+
+-- "v being m + index"
+unfoldable pub loopOf : State → List ℤ → Loop
+loopOf s m = record {
+  size = cells (s .table);
+  iterations = s .count;
+  body = λ i. exec (s .table) (s .variable) (s .from +ℤ pos i) (s .inner) done;
+  class = class-of (s .table);
+  entry = cellOf m;
+  plus = sum;
+  zero = pos 0;
+}
+
+-- each iteration by itself, over the text's processors
+unfoldable pub partitionOf : State → Partition
+partitionOf s = singles (s .count) (s .processors)
