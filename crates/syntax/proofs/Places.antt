@@ -1,17 +1,16 @@
 -- One law for every kind of place: a reader over places whose tokens are those of a list reads a line exactly where the list is the line's tokens.
--- Then the places of a line's bytes as such: what is left of the line. Laws: nothing here need be believed.
+-- Then what is left of a line's bytes as such a place.
 use mathlib.Core.Path.{_≡_, refl, sym, _∙_, ap, subst}
 use mathlib.Core.Bool.{Bool, true, false, cond, _||_}
 use mathlib.Core.List.{List, [], _∷_, _++_, append-nil}
-use mathlib.Core.Option.{Option, none, some}
+use mathlib.Core.Option.{Option}
 use Prim.Native.Nat.{ℕ, zero, suc, _+_, _-_, _*_, _≤_}
 use native.Mathlib.Omega.{arith}
 use lib.Dec.{eqb}
-use lib.ListN.{length, take, drop, length-drop}
-use lib.Seq.{drop-drop}
+use lib.ListN.{length, take, drop}
 use Rattle.syntax.specs.Bytes.{choose, letter, digit, in-word, run, token-size, token-of, tokens-after, tokens, trimmed, Token, starts, bytes}
 use Rattle.syntax.specs.Grammar.{Line, showLine}
-use Rattle.syntax.specs.Reader.{done, readLine, first, rest}
+use Rattle.syntax.specs.Reader.{done, readLine, first, rest, token-in, after-in, peek-in, skip-in}
 use Rattle.syntax.proofs.Spelling.{Spells, here, token}
 use Rattle.syntax.proofs.Sound.{line-sound, spells-list, none-first}
 use Rattle.syntax.proofs.Complete.{line-complete, yes-choose, no-choose}
@@ -40,23 +39,9 @@ module _ {S : Type 0} (peek : S → Option Token) (skip : S → S) (h : S → Li
       let r = placed s (showLine l) e in
       (r .0, line-complete peek skip f l s (r .0) b (r .1) (p (r .0) ∙ ap first (r .2)))
 
--- What is left of a line's bytes
+-- ---- what is left of a line's bytes
 
-abbrev pub token-in : List ℕ → Option Token
-token-in [] = none
-token-in (b ∷ s) = some (token-of b (take (token-size b s) (b ∷ s)))
-
-abbrev pub after-in : List ℕ → List ℕ
-after-in [] = []
-after-in (b ∷ s) = drop (token-size b s) (b ∷ s)
-
-unfoldable pub peek-in : List ℕ → Option Token
-peek-in s = token-in (trimmed s)
-
-unfoldable pub skip-in : List ℕ → List ℕ
-skip-in s = after-in (trimmed s)
-
-size-one : (b : ℕ) (s : List ℕ) → 1 ≤ token-size b s
+pub size-one : (b : ℕ) (s : List ℕ) → 1 ≤ token-size b s
 unfolding token-size
 size-one b s = go (letter b) (digit b) (starts (bytes "!$omp") (b ∷ s)) (starts (bytes "==") (b ∷ s) || (starts (bytes "/=") (b ∷ s) || (starts (bytes "<=") (b ∷ s) || starts (bytes ">=") (b ∷ s))))
   where
@@ -109,79 +94,3 @@ bytes-sound = places-sound peek-in skip-in tokens peek-tokens skip-tokens
 
 pub bytes-complete : (f : ℕ) (s : List ℕ) (l : Line) → 3 * length (showLine l) + 4 ≤ f → tokens s ≡ showLine l → (u : List ℕ) × (readLine peek-in skip-in f s ≡ done l u)
 bytes-complete = places-complete peek-in skip-in tokens peek-tokens skip-tokens
-
--- A place among the text's bytes
-
--- the bytes up to the newline, and what is left of the line from a place on
-unfoldable pub line-of : List ℕ → List ℕ
-line-of [] = []
-line-of (b ∷ s) = cond (eqb b 10) [] (b ∷ line-of s)
-
-abbrev pub left : List ℕ → ℕ → List ℕ
-left s at = line-of (drop at s)
-
--- the token at or after a place, and the place after it
-unfoldable pub peek-at : List ℕ → ℕ → Option Token
-peek-at s at = peek-in (left s at)
-
-unfoldable pub skip-at : List ℕ → ℕ → ℕ
-skip-at s at = at + (length (left s at) - length (skip-in (left s at)))
-
-line-drop : (k : ℕ) (s : List ℕ) → k ≤ length (line-of s) → line-of (drop k s) ≡ drop k (line-of s)
-unfolding line-of
-line-drop zero s h = refl
-line-drop (suc k) [] h = refl
-line-drop (suc k) (b ∷ s) h = go (eqb b 10) (line-drop k s) h
-  where
-    go : (x : Bool) → (k ≤ length (line-of s) → line-of (drop k s) ≡ drop k (line-of s)) → suc k ≤ length (cond x [] (b ∷ line-of s)) → line-of (drop k s) ≡ drop (suc k) (cond x [] (b ∷ line-of s))
-    go true i l = absurd (omega arith)
-    go false i l = i (omega arith)
-
-drop-back : (k : ℕ) (s : List ℕ) → drop (length s - length (drop k s)) s ≡ drop k s
-drop-back zero s = let c : length s - length s ≡ 0 = omega arith in ap (λ (n : ℕ). drop n s) c
-drop-back (suc k) [] = refl
-drop-back (suc k) (b ∷ s) =
-    let c : suc (length s) - length (drop k s) ≡ suc (length s - length (drop k s)) = omega (arith, length-drop k s) in
-    ap (λ (n : ℕ). drop n (b ∷ s)) c ∙ drop-back k s
-
-trimmed-drop : (s : List ℕ) → (j : ℕ) × (trimmed s ≡ drop j s)
-unfolding trimmed
-trimmed-drop [] = (0, refl)
-trimmed-drop (b ∷ s) = go (eqb b 32) (trimmed-drop s)
-  where
-    go : (x : Bool) → (j : ℕ) × (trimmed s ≡ drop j s) → (j : ℕ) × (choose x (λ _. trimmed s) (λ _. b ∷ s) ≡ drop j (b ∷ s))
-    go true (j, e) = (suc j, e)
-    go false i = (0, refl)
-
-skip-drop : (s : List ℕ) → (k : ℕ) × (skip-in s ≡ drop k s)
-unfolding skip-in
-skip-drop s = go (trimmed s) (trimmed-drop s)
-  where
-    go : (r : List ℕ) → (j : ℕ) × (r ≡ drop j s) → (k : ℕ) × (after-in r ≡ drop k s)
-    go [] (j, e) = (j, e)
-    go (b ∷ r) (j, e) = (j + token-size b r, ap (drop (token-size b r)) e ∙ drop-drop (token-size b r) j s)
-
-left-skip : (s : List ℕ) (at : ℕ) → left s (skip-at s at) ≡ skip-in (left s at)
-unfolding skip-at
-left-skip s at = go (skip-drop (left s at))
-  where
-    go : (k : ℕ) × (skip-in (left s at) ≡ drop k (left s at)) → left s (at + (length (left s at) - length (skip-in (left s at)))) ≡ skip-in (left s at)
-    go (k, e) =
-        let n = length (left s at) - length (skip-in (left s at)) in
-        ap line-of (sym (drop-drop n at s)) ∙ line-drop n (drop at s) (omega arith)
-        ∙ ap (λ (r : List ℕ). drop (length (left s at) - length r) (left s at)) e ∙ drop-back k (left s at) ∙ sym e
-
--- so a line is read by places of the text exactly where the tokens of what is left of the line are its tokens
-module _ (s : List ℕ) where
-  peek-left : (at : ℕ) → peek-at s at ≡ first (tokens (left s at))
-  unfolding peek-at
-  peek-left at = peek-tokens (left s at)
-
-  skip-left : (at : ℕ) → tokens (left s (skip-at s at)) ≡ rest (tokens (left s at))
-  skip-left at = ap tokens (left-skip s at) ∙ skip-tokens (left s at)
-
-  pub text-sound : (f at u : ℕ) (l : Line) → readLine (peek-at s) (skip-at s) f at ≡ done l u → tokens (left s at) ≡ showLine l
-  text-sound = places-sound (peek-at s) (skip-at s) (λ at. tokens (left s at)) peek-left skip-left
-
-  pub text-complete : (f at : ℕ) (l : Line) → 3 * length (showLine l) + 4 ≤ f → tokens (left s at) ≡ showLine l → (u : ℕ) × (readLine (peek-at s) (skip-at s) f at ≡ done l u)
-  text-complete = places-complete (peek-at s) (skip-at s) (λ at. tokens (left s at)) peek-left skip-left

@@ -7,11 +7,11 @@ use mathlib.Core.Option.{Option, none, some}
 use Prim.Native.Nat.{ℕ, zero, suc, _+_, _*_}
 use Prim.Native.String.{String}
 use lib.Dec.{eqb}
-use lib.ListN.{length}
+use lib.ListN.{length, take, drop}
 use Rattle.rules.specs.Loop.{Class, shared, lastprivate, reduction}
 use Rattle.int32.specs.declared.Relation.{Relation}
 use Rattle.int32.specs.declared.Relation.the-variants.{Equal, Unequal, Less, AtMost, Greater, AtLeast}
-use Rattle.syntax.specs.Bytes.{choose, same, bytes, Token, kindOf, bytesOf, sign, word-of}
+use Rattle.syntax.specs.Bytes.{choose, same, bytes, Token, kindOf, bytesOf, sign, word-of, token-of, token-size, trimmed}
 use Rattle.syntax.specs.Grammar.{Lead, bare, plus, minus, Expr, expr, Terms, no-terms, terms, Term, term, Factors, no-factors, factors, Factor, literal, cell, rdiv, brackets, Ref, single, element, Declared, one, array, Item, item, Clause, clause, assign, when, otherwise, end-if, Line, declare, give, direct, loop, inside, end-do, close}
 
 -- what is read, and the place after it
@@ -345,7 +345,7 @@ module _ {S : Type 0} (peek : S → Option Token) (skip : S → S) where
     finish
     yield l
 
--- A line as a list of tokens
+-- ---- a line as a list of tokens
 
 abbrev pub first : List Token → Option Token
 first [] = none
@@ -362,3 +362,20 @@ syntaxOf (done l s) = some l
 -- the syntax of a line's tokens, if they follow the grammar
 unfoldable pub parse : List Token → Option Line
 parse ts = syntaxOf (readLine first rest (3 * length ts + 4) ts)
+
+-- ---- a line as what is left of its bytes
+
+abbrev pub token-in : List ℕ → Option Token
+token-in [] = none
+token-in (b ∷ s) = some (token-of b (take (token-size b s) (b ∷ s)))
+
+abbrev pub after-in : List ℕ → List ℕ
+after-in [] = []
+after-in (b ∷ s) = drop (token-size b s) (b ∷ s)
+
+-- the token there, and what is left after it
+unfoldable pub peek-in : List ℕ → Option Token
+peek-in s = token-in (trimmed s)
+
+unfoldable pub skip-in : List ℕ → List ℕ
+skip-in s = after-in (trimmed s)

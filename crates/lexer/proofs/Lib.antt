@@ -1,0 +1,5 @@
+-- What holds of bytes, tokens and what they are compared with.
+pub mod Laws
+pub mod Tokens
+pub mod Signs
+pub mod Said

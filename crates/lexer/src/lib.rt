@@ -1,0 +1,286 @@
+// The bytes and tokens of a loop text (document 01, The loop text). A line is a slice of its own, in lower case and without its newline; a
+// token is read at a place of it.
+ghost use mathlib.Core.Path.{_≡_};
+ghost use mathlib.Core.List.{map};
+ghost use mathlib.Core.Bool.{Bool};
+ghost use Prim.Native.Nat.{_≤_, _<_, _+_, min};
+ghost use lib.ListN.{length, drop, take};
+ghost use lib.Seq.{sets};
+ghost use Rattle.syntax.specs.Bytes.{lower as lowerOf, same, starts as startsWith, any, reserved as reservedWords, word-of, kindOf, sign-size, run, letter as isLetter, digit as isDigit, in-word as inWord};
+ghost use Rattle.syntax.specs.Grammar.{number as numberOf};
+ghost use Rattle.lexer.specs.Lex.{goes, part, Lexed, ended, tens};
+
+// A token: its kind (0 the end of the line, 1 a word that may be a name, 2 a word that is no name, 3 digits, 4 a sign) and where it lies.
+pub struct Tok {
+    pub kind: u32,
+    pub start: usize,
+    pub stop: usize,
+}
+
+// ---- bytes
+
+// Upper case reads as lower case.
+fn lower(b: u8) -> u8
+    ensures { λ r. ⌜ r ≡ lowerOf b ⌝ }
+{
+    if 65 <= b {
+        if b <= 90 { b + 32 } else { b }
+    } else {
+        b
+    }
+}
+
+// The text in lower case.
+pub fn lowered(text: &[u8], low: &mut [u8])
+    requires { ⌜ length (now text) ≤ length (now low) ⌝ }
+    ensures { λ _. ⌜ now (low .exit) ≡ sets (now (low .entry)) 0 (map lowerOf (now (text .entry))) ⌝ }
+{
+    let mut i = 0;
+    while i < text.len() {
+        low[i] = lower(text[i]);
+        i += 1;
+    }
+}
+
+// The end of the line that begins at a place: its newline, or the end of the text.
+pub fn line_end(text: &[u8], at: usize) -> usize
+    requires { ⌜ at ≤ length (now text) ⌝ }
+    ensures { λ r. ⌜ r ≡ ended (now (text .entry)) at ⌝ }
+{
+    let mut i = at;
+    while i < text.len() {
+        if text[i] == 10 {
+            return i;
+        }
+        i += 1;
+    }
+    i
+}
+
+// Whether two strings of bytes are the same.
+pub fn equal(a: &[u8], b: &[u8]) -> bool
+    ensures { λ r. ⌜ r ≡ same (now (a .entry)) (now (b .entry)) ⌝ }
+{
+    if a.len() != b.len() {
+        return false;
+    }
+    let mut i = 0;
+    while i < a.len() {
+        if a[i] != b[i] {
+            return false;
+        }
+        i += 1;
+    }
+    true
+}
+
+// Whether s begins with w.
+pub fn starts(s: &[u8], w: &[u8]) -> bool
+    ensures { λ r. ⌜ r ≡ startsWith (now (w .entry)) (now (s .entry)) ⌝ }
+{
+    let n = w.len();
+    if s.len() < n {
+        return false;
+    }
+    equal(w, &s[..n])
+}
+
+// ---- tokens
+
+pub fn letter(b: u8) -> bool
+    ensures { λ r. ⌜ r ≡ isLetter b ⌝ }
+{
+    if 97 <= b { b <= 122 } else { false }
+}
+
+pub fn digit(b: u8) -> bool
+    ensures { λ r. ⌜ r ≡ isDigit b ⌝ }
+{
+    if 48 <= b { b <= 57 } else { false }
+}
+
+// Letters, digits and underscores go on in a word.
+fn in_word(b: u8) -> bool
+    ensures { λ r. ⌜ r ≡ inWord b ⌝ }
+{
+    if letter(b) {
+        return true;
+    }
+    if digit(b) {
+        return true;
+    }
+    b == 95
+}
+
+// Whether a run of blanks (0), of a word (1) or of digits (2) goes on over a byte.
+fn goes_on(what: u8, b: u8) -> bool
+    ensures { λ r. ⌜ r ≡ goes what b ⌝ }
+{
+    if what == 0 {
+        return b == 32;
+    }
+    if what == 1 {
+        return in_word(b);
+    }
+    digit(b)
+}
+
+// The end of the run that stands at a place.
+pub fn run_end(what: u8, s: &[u8], at: usize) -> usize
+    requires { ⌜ at ≤ length (now s) ⌝ }
+    ensures { λ r. ⌜ r ≡ at + run (goes what) (drop at (now (s .entry))) ⌝ }
+    ensures { λ r. ⌜ r ≤ length (now (s .entry)) ⌝ }
+{
+    let mut i = at;
+    while i < s.len() {
+        if !goes_on(what, s[i]) {
+            return i;
+        }
+        i += 1;
+    }
+    i
+}
+
+// Whether a word is none that may be a name.
+fn reserved(w: &[u8]) -> bool
+    ensures { λ r. ⌜ r ≡ any (same (now (w .entry))) reservedWords ⌝ }
+{
+    if equal(w, b"integer") {
+        return true;
+    }
+    if equal(w, b"data") {
+        return true;
+    }
+    if equal(w, b"do") {
+        return true;
+    }
+    if equal(w, b"end") {
+        return true;
+    }
+    if equal(w, b"enddo") {
+        return true;
+    }
+    if equal(w, b"endif") {
+        return true;
+    }
+    if equal(w, b"if") {
+        return true;
+    }
+    if equal(w, b"then") {
+        return true;
+    }
+    if equal(w, b"else") {
+        return true;
+    }
+    equal(w, b"rdiv")
+}
+
+// The kind of a word.
+fn word_kind(w: &[u8]) -> u32
+    ensures { λ r. ⌜ r ≡ kindOf (word-of (now (w .entry))) ⌝ }
+{
+    if 31 < w.len() {
+        return 2;
+    }
+    if reserved(w) { 2 } else { 1 }
+}
+
+// How many bytes the sign at the front has.
+fn sign_length(s: &[u8]) -> usize
+    ensures { λ r. ⌜ r ≡ sign-size (now (s .entry)) ⌝ }
+{
+    if starts(s, b"!$omp") {
+        return 5;
+    }
+    if starts(s, b"==") {
+        return 2;
+    }
+    if starts(s, b"/=") {
+        return 2;
+    }
+    if starts(s, b"<=") {
+        return 2;
+    }
+    if starts(s, b">=") {
+        return 2;
+    }
+    1
+}
+
+// The first token at or after a place of a line.
+pub fn token(s: &[u8], at: usize) -> Tok
+    requires { ⌜ at ≤ length (now s) ⌝ }
+    ensures { λ r. ⌜ Lexed (now (s .entry)) at r ⌝ }
+{
+    let a = run_end(0, s, at);
+    if s.len() <= a {
+        return Tok {
+            kind: 0,
+            start: a,
+            stop: a,
+        };
+    }
+    let b = s[a];
+    if letter(b) {
+        let e = run_end(1, s, a + 1);
+        return Tok {
+            kind: word_kind(&s[a..e]),
+            start: a,
+            stop: e,
+        };
+    }
+    if digit(b) {
+        let e = run_end(2, s, a + 1);
+        return Tok {
+            kind: 3,
+            start: a,
+            stop: e,
+        };
+    }
+    Tok {
+        kind: 4,
+        start: a,
+        stop: a + sign_length(&s[a..]),
+    }
+}
+
+// Whether a token has these bytes.
+pub fn reads(s: &[u8], t: Tok, w: &[u8]) -> bool
+    requires { ⌜ (t .start ≤ t .stop) × (t .stop ≤ length (now s)) ⌝ }
+    ensures { λ r. ⌜ r ≡ same (now (w .entry)) (part (now (s .entry)) (t .start) (t .stop)) ⌝ }
+{
+    let a = t.start;
+    let e = t.stop;
+    equal(w, &s[a..e])
+}
+
+// ---- literals
+
+// A digit more, up to 2^31, which is over every limit.
+fn shifted(n: u32, b: u8) -> u32
+    ensures { λ r. ⌜ r ≡ tens n b ⌝ }
+{
+    if 214748364 < n {
+        return 2147483648;
+    }
+    if b < 48 {
+        return n * 10;
+    }
+    let m = n * 10 + (b - 48) as u32;
+    if 2147483648 < m { 2147483648 } else { m }
+}
+
+// The number that the digits of a token write, up to 2^31.
+pub fn literal(s: &[u8], t: Tok) -> u32
+    requires { ⌜ (t .start ≤ t .stop) × (t .stop ≤ length (now s)) ⌝ }
+    ensures { λ r. ⌜ r ≡ min (numberOf (part (now (s .entry)) (t .start) (t .stop))) 2147483648 ⌝ }
+{
+    let e = t.stop;
+    let mut i = t.start;
+    let mut n = 0;
+    while i < e {
+        n = shifted(n, s[i]);
+        i += 1;
+    }
+    n
+}
