@@ -15,6 +15,7 @@ use Rattle.syntax.specs.Known.{State, nothing, after, Open, otherwise-af
 use Rattle.syntax.specs.Conditions.{names, limits, stands, finished, stageOf}
 use Rattle.syntax.specs.Text.{Verdict, refused, good, judged, judge-line, is-last, go-on, judge, read}
 use Rattle.syntax.specs.Follows.{Program, spoken, written, InOrder, Follows, learnt}
+use Rattle.syntax.proofs.TestLaws.{both-hold}
 use Rattle.syntax.proofs.Spelling.{both-true}
 use Rattle.syntax.proofs.Sound.{parse-sound}
 use Rattle.syntax.proofs.Complete.{parse-complete}
@@ -104,9 +105,6 @@ line-good k last s b t h =
 
 -- ---- sound
 
-both : {a b : Bool} → a ≡ true → b ≡ true → a && b ≡ true
-both {b} p q = ap (λ (x : Bool). x && b) p ∙ q
-
 -- what lines from line k on that are good say
 record Says (k : ℕ) (s : State) (ls : List (List ℕ)) (t : State) : Type 0 where
   program : Program
@@ -123,14 +121,14 @@ judge-sound k s (b ∷ ls) t f h = go (λ u. judge-sound (suc k) u ls t) (judge-
     more : (u : State) → (sound-line b ≡ true) × Good k (is-last ls) s b u → Says (suc k) u ls t → Says k s (b ∷ ls) t
     more u (x, skips e i q) r = record {
       program = r .program;
-      sound = both x (r .sound);
+      sound = both-hold x (r .sound);
       spelled = ap (λ (c : Bool). cond c (spoken (suc k) ls) ((k, tokens b) ∷ spoken (suc k) ls)) e ∙ r .spelled;
       ordered = subst (λ (w : State). InOrder w (r .program)) (sym i) (r .ordered);
       known = ap (λ (w : State). learnt w (r .program)) i ∙ r .known;
     }
     more u (x, speaks l e i y n m j q) r = record {
       program = (k, l) ∷ r .program;
-      sound = both x (r .sound);
+      sound = both-hold x (r .sound);
       spelled = ap (λ (c : Bool). cond c (spoken (suc k) ls) ((k, tokens b) ∷ spoken (suc k) ls)) e ∙ cc (i, r .spelled);
       ordered = (y, n, m, subst (λ (w : State). InOrder w (r .program)) (sym j) (r .ordered));
       known = ap (λ (w : State). learnt w (r .program)) j ∙ r .known;

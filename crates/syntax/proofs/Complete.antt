@@ -7,25 +7,18 @@ use mathlib.Core.Option.{Option, none, some}
 use Prim.Native.Nat.{ℕ, zero, suc, _+_, _*_, _≤_, _<_}
 use Prim.Native.String.{String}
 use native.Mathlib.Omega.{arith}
-use lib.Dec.{T, eqb, eqb-refl}
+use lib.Dec.{eqb}
 use lib.ListN.{length, length-append}
 use Rattle.int32.specs.declared.Relation.{Relation}
 use Rattle.int32.specs.declared.Relation.the-variants.{Equal, Unequal, Less, AtMost, Greater, AtLeast}
 use Rattle.rules.specs.Loop.{Class, shared, lastprivate, reduction}
-use Rattle.syntax.specs.Bytes.{choose, same, bytes, Token, name, word, digits, sign, word-of}
+use Rattle.syntax.specs.Bytes.{choose, bytes, Token, name, word, digits, sign, word-of}
 use Rattle.syntax.specs.Grammar.{Lead, bare, plus, minus, Expr, expr, Terms, no-terms, terms, Term, term, Factors, no-factors, factors, Factor, literal, cell, rdiv, brackets, Ref, single, element, Declared, one, array, Item, item, Clause, clause, assign, when, otherwise, end-if, Line, declare, give, direct, loop, inside, end-do, close, showLead, showRel, showMore, showList, showName, show, showTerms, showTerm, showFactors, showFactor, showRef, showDeclared, showSigned, showItem, showClause, showClauses, showLine}
 use Rattle.syntax.specs.Reader.{Parsed, done, Reader, next, kind, text, is, sees, expects, wants, readName, isDigits, readDigits, given, relOf, readRel, readLead, readExpr, readTerms, readTerm, readFactors, readFactor, readRef, readMore, readDeclared, readDeclare, readSigned, readItem, readGive, readNames, readClause, readClauses, readDirective, readLoop, readAssign, readWhen, readEnd, readStart, readLine, first, rest, syntaxOf, parse}
 use Rattle.syntax.proofs.Spelling.{Spells, here, token, spells-split}
+use Rattle.syntax.proofs.TestLaws.{same-refl}
 
 -- Tests that come out
-
-same-refl : (b : List ℕ) → same b b ≡ true
-same-refl [] = refl
-same-refl (x ∷ xs) = go (eqb x x) (eqb-refl x) (same-refl xs)
-  where
-    go : (b : Bool) → T b → same xs xs ≡ true → b && same xs xs ≡ true
-    go true h e = e
-    go false h e = absurd h
 
 is-refl : (t : Token) → is t (some t) ≡ true
 is-refl (name b) = same-refl b

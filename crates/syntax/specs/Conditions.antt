@@ -8,7 +8,7 @@ use lib.Dec.{ltb, leb, eqb}
 use lib.ListN.{length}
 use Rattle.syntax.specs.Bytes.{all, any, same}
 use Rattle.syntax.specs.Grammar.{number, Expr, expr, Terms, no-terms, terms, Term, term, Factors, no-factors, factors, Factor, literal, cell, rdiv, brackets, Ref, single, element, Declared, one, array, Item, item, Clause, clause, assign, when, otherwise, end-if, Line, declare, give, direct, loop, inside, end-do, close}
-use Rattle.syntax.specs.Known.{Open, State, declaredName, declaredSize, total, signed, copies, iterations, cells, known, find}
+use Rattle.syntax.specs.Known.{Entry, Open, State, declaredName, declaredSize, total, signed, copies, iterations, cells, known, find}
 
 -- ---- what a line's names and limits are judged by
 
@@ -71,11 +71,11 @@ inLine close = []
 
 -- ---- 3: names
 
--- not "name unknown, ... a subscript missing, or on a single cell or v"
-abbrev pub rightly : State → Mention → Bool
-rightly s (digits d) = true
-rightly s (refers x b) = cond (same x (s .variable)) (not b) (known x (s .table) && Bool·beq b (find x (s .table) .subscripted))
-rightly s (opens n) = true
+-- not "name unknown, ... a subscript missing, or on a single cell or v": t are the names and v is the loop's variable
+abbrev pub rightly : List Entry → List ℕ → Mention → Bool
+rightly t v (digits d) = true
+rightly t v (refers x b) = cond (same x v) (not b) (known x t && Bool·beq b (find x t .subscripted))
+rightly t v (opens n) = true
 
 abbrev pub refName : Ref → List ℕ
 refName (single x) = x
@@ -108,7 +108,7 @@ singly s (end-do j) = true
 singly s close = true
 
 unfoldable pub names : State → Line → Bool
-names s l = all (rightly s) (inLine l) && singly s l
+names s l = all (rightly (s .table) (s .variable)) (inLine l) && singly s l
 
 -- ---- 4: limits
 

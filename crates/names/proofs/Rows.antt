@@ -1,0 +1,332 @@
+-- What a change of some words does to the names that the table stands for.
+use mathlib.Core.Path.{_≡_, refl, sym, _∙_, ap, ap₂, subst}
+use mathlib.Core.Bool.{Bool, true, false, cond}
+use mathlib.Core.List.{List, [], _∷_, _++_, map}
+use mathlib.Core.Option.{some}
+use Prim.Native.Nat.{ℕ, zero, suc, _+_, _*_, _/_, _%_, _≤_, _<_, min}
+use native.Mathlib.Decide.{decLt, ℕ-discrete}
+use native.Mathlib.Omega.{arith}
+use lib.Dec.{eqb}
+use lib.IntN.{ℤ}
+use lib.ListN.{length, getD, set, length-set, length-map, length-append}
+use lib.Seq.{getD-set-same, getD-append-seam}
+use Rattle.rules.specs.Loop.{Class, shared}
+use Rattle.rules.specs.Cells.{listed}
+use Rattle.rules.proofs.CellsLaws.{listed-length, listed-same}
+use Rattle.syntax.specs.Bytes.{same}
+use Rattle.syntax.specs.Known.{Entry, named, known, nowhere, give-to}
+use Rattle.syntax.specs.Conditions.{isGiven}
+use Rattle.syntax.proofs.TestLaws.{neither-holds, same-refl, same-comm-false}
+use Rattle.names.specs.Table.{wordAt, nameAt, classOf, Row, Tabled, Put, declared, Added, Gave, class-to, Classed}
+use Rattle.names.proofs.Laws.{set-elsewhere}
+
+-- ---- one entry
+
+pub name-length : (T : List ℕ) (i : ℕ) → length (nameAt T i) ≡ wordAt T i 32
+unfolding nameAt
+name-length T i = listed-length (wordAt T i 32) (λ k. wordAt T i k)
+
+-- the words of the name are as they were
+pub name-kept : (T T′ : List ℕ) (i : ℕ) → wordAt T i 32 ≤ 32 → ((k : ℕ) → k < 33 → wordAt T′ i k ≡ wordAt T i k) → nameAt T′ i ≡ nameAt T i
+unfolding nameAt
+name-kept T T′ i b h =
+    ap (λ (n : ℕ). listed n (λ k. wordAt T′ i k)) (h 32 (omega arith))
+    ∙ listed-same (wordAt T i 32) (λ k. wordAt T′ i k) (λ k. wordAt T i k) (λ k l. h k (omega arith))
+
+module _ (T T′ : List ℕ) (i : ℕ) (e : Entry) (o : Row T i e) where
+  short-word : wordAt T i 32 ≤ 32
+  short-word = omega (arith, name-length T i, ap length (o .name), o .short)
+
+  -- all but the facts are as they were
+  pub row-with : (e′ : Entry) → ((k : ℕ) → k < 35 → wordAt T′ i k ≡ wordAt T i k) → e′ .name ≡ e .name → e′ .first ≡ e .first → e′ .size ≡ e .size
+      → eqb (wordAt T′ i 35 % 2) 1 ≡ e′ .subscripted → eqb (wordAt T′ i 35 / 2 % 2) 1 ≡ isGiven (e′ .given) → classOf (wordAt T′ i 35 / 4) ≡ e′ .class → Row T′ i e′
+  row-with e′ h en ef es hs hg hc = record {
+    name = name-kept T T′ i short-word (λ k l. h k (omega arith)) ∙ o .name ∙ sym en;
+    first = h 33 (omega arith) ∙ o .first ∙ sym ef;
+    size = h 34 (omega arith) ∙ o .size ∙ sym es;
+    subscripted = hs;
+    given = hg;
+    class = hc;
+    short = omega (arith, o .short, ap length en);
+  }
+
+  -- all is as it was
+  pub row-kept : ((k : ℕ) → k < 36 → wordAt T′ i k ≡ wordAt T i k) → Row T′ i e
+  row-kept h =
+      let f = h 35 (omega arith) in
+      row-with e (λ k l. h k (omega arith)) refl refl refl
+      (ap (λ (n : ℕ). eqb (n % 2) 1) f ∙ o .subscripted)
+      (ap (λ (n : ℕ). eqb (n / 2 % 2) 1) f ∙ o .given)
+      (ap (λ (n : ℕ). classOf (n / 4)) f ∙ o .class)
+
+-- ---- the facts of one entry
+
+getD-map : {A B : Type 0} (f : A → B) (l : List A) (i : ℕ) (d : A) (d′ : B) → i < length l → getD (map f l) i d′ ≡ f (getD l i d)
+getD-map f [] i d d′ h = absurd (omega arith)
+getD-map f (x ∷ xs) zero d d′ h = refl
+getD-map f (x ∷ xs) (suc i) d d′ h = getD-map f xs i d d′ (omega arith)
+
+-- a change of entries that leaves name, first cell and size alone
+abbrev Alike : Entry → Entry → Type 0
+Alike e e′ = (e′ .name ≡ e .name) × (e′ .first ≡ e .first) × (e′ .size ≡ e .size) × (e′ .subscripted ≡ e .subscripted)
+
+module _ (T : List ℕ) (i facts : ℕ) (b : i < 16) where
+  abbrev with-facts : List ℕ
+  with-facts = set T (i * 36 + 35) facts
+
+  pub others-kept : (j k : ℕ) → k < 36 → (j ≡ i → ⊥) → wordAt with-facts j k ≡ wordAt T j k
+  others-kept j k l n = set-elsewhere T (i * 36 + 35) (36 * j + k) facts (omega arith)
+
+  pub facts-here : 613 ≤ length T → wordAt with-facts i 35 ≡ facts
+  facts-here l = ap (λ (p : ℕ). getD with-facts p 0) (omega arith) ∙ getD-set-same T (i * 36 + 35) facts 0 (omega arith)
+
+  pub rest-kept : (k : ℕ) → k < 35 → wordAt with-facts i k ≡ wordAt T i k
+  rest-kept k l = set-elsewhere T (i * 36 + 35) (36 * i + k) facts (omega arith)
+
+  pub variable-kept : wordAt T 16 32 ≤ 32 → nameAt with-facts 16 ≡ nameAt T 16
+  variable-kept h = name-kept T with-facts 16 h (λ k l. others-kept 16 k (omega arith) (λ e. omega arith))
+
+  -- the table with other facts for entry i stands for the names with another entry i
+  module _ (t : List Entry) (d : Tabled T t) (h : i < length t) (f : Entry → Entry) (a : (e : Entry) → Alike e (f e)) (others : (j : ℕ) → j < length t → (j ≡ i → ⊥) → f (getD t j nowhere) ≡ getD t j nowhere)
+      (hs : eqb (facts % 2) 1 ≡ f (getD t i nowhere) .subscripted) (hg : eqb (facts / 2 % 2) 1 ≡ isGiven (f (getD t i nowhere) .given)) (hc : classOf (facts / 4) ≡ f (getD t i nowhere) .class) where
+    row-of : (j : ℕ) → j < length t → Row with-facts j (f (getD t j nowhere))
+    row-of j l = elim (ℕ-discrete j i) [
+      | yes q ↦ simp q (let w = facts-here (d .long) in let e = getD t i nowhere in
+          row-with T with-facts i e (d .rows i h) (f e) rest-kept (a e .0) (a e .1) (a e .2)
+          (ap (λ (n : ℕ). eqb (n % 2) 1) w ∙ hs) (ap (λ (n : ℕ). eqb (n / 2 % 2) 1) w ∙ hg) (ap (λ (n : ℕ). classOf (n / 4)) w ∙ hc))
+      | no n ↦ simp (others j l n) (row-kept T with-facts j (getD t j nowhere) (d .rows j l) (λ k m. others-kept j k m n))
+    ]
+
+    at-map : (j : ℕ) → j < length t → getD (map f t) j nowhere ≡ f (getD t j nowhere)
+    at-map j l = getD-map f t j nowhere nowhere l
+
+    same-name : (j : ℕ) → j < length t → getD (map f t) j nowhere .name ≡ getD t j nowhere .name
+    same-name j l = ap (λ (e : Entry). e .name) (at-map j l) ∙ a (getD t j nowhere) .0
+
+    pub tabled-with : Tabled with-facts (map f t)
+    tabled-with =
+        let n = length-map t f in
+        record {
+          long = simp length-set (d .long);
+          count = set-elsewhere T (i * 36 + 35) 612 facts (omega arith) ∙ d .count ∙ sym n;
+          few = omega (arith, n, d .few);
+          rows = λ j l. simp (at-map j (omega (arith, n))) (row-of j (omega (arith, n)));
+          distinct = λ p q l m. ap₂ same (same-name q (omega (arith, n))) (same-name p (omega (arith, n))) ∙ d .distinct p q l (omega (arith, n));
+          bounded = λ j l.
+              let m : j < length t = omega (arith, n) in
+              let e = getD t j nowhere in
+              let g = at-map j m in
+              let o = d .bounded j m in
+              (omega (arith, ap (λ (x : Entry). x .first) g, a e .1, o .0), omega (arith, ap (λ (x : Entry). x .size) g, a e .2, o .1));
+        }
+
+-- ---- data, clauses
+
+-- the parts of the facts
+with-data : (q r : ℕ) → r < 2 → ((q * 4 + 2 + r) % 2 ≡ r) × ((q * 4 + 2 + r) / 2 % 2 ≡ 1) × ((q * 4 + 2 + r) / 4 ≡ q)
+with-data q r h = (omega arith, omega arith, omega arith)
+
+in-clause : (q f : ℕ) → ((q * 4 + f % 4) % 2 ≡ f % 2) × ((q * 4 + f % 4) / 2 % 2 ≡ f / 2 % 2) × ((q * 4 + f % 4) / 4 ≡ q)
+in-clause q f = (omega arith, omega arith, omega arith)
+
+untouched : (b : Bool) (x e : Entry) → b ≡ false → cond b x e ≡ e
+untouched b x e h = ap (λ (y : Bool). cond y x e) h
+
+module _ (T : List ℕ) (i : ℕ) (b : i < 16) (facts : ℕ) (ef : facts ≡ wordAt T i 35) where
+  -- the others have another name than entry i
+  other-name : (t : List Entry) → Tabled T t → i < length t → (j : ℕ) → j < length t → (j ≡ i → ⊥) → same (getD t i nowhere .name) (getD t j nowhere .name) ≡ false
+  other-name t d h j l n = elim (decLt j i) [
+    | yes p ↦ d .distinct j i p h
+    | no p ↦ same-comm-false (getD t j nowhere .name) (getD t i nowhere .name) (d .distinct i j (omega arith) l)
+  ]
+
+  pub gave : Gave T i (set T (i * 36 + 35) (facts / 4 * 4 + 2 + facts % 2))
+  gave = record {
+    variable = variable-kept T i _ b;
+    table = λ t vs d h.
+        let e = getD t i nowhere in
+        let o = d .rows i h in
+        let here : named (e .name) e ≡ true = same-refl (e .name) in
+        let g = ap (λ (x : Bool). cond x (record { name = e .name; first = e .first; subscripted = e .subscripted; size = e .size; class = e .class; given = some vs }) e) here in
+        let q = with-data (facts / 4) (facts % 2) (omega arith) in
+        let n0 = q .0 ∙ ap (λ (n : ℕ). n % 2) ef in
+        let n1 = q .1 in
+        let n2 = q .2 ∙ ap (λ (n : ℕ). n / 4) ef in
+        tabled-with T i (facts / 4 * 4 + 2 + facts % 2) b t d h (give-to (e .name) vs)
+        (λ x. kept (e .name) vs x (named (e .name) x))
+        (λ j l n. untouched _ _ (getD t j nowhere) (other-name t d h j l n))
+        (ap (λ (n : ℕ). eqb n 1) n0 ∙ o .subscripted ∙ sym (ap (λ (x : Entry). x .subscripted) g))
+        (ap (λ (n : ℕ). eqb n 1) n1 ∙ sym (ap (λ (x : Entry). isGiven (x .given)) g))
+        (ap classOf n2 ∙ o .class ∙ sym (ap (λ (x : Entry). x .class) g));
+  }
+    where
+      kept : (x : List ℕ) (vs : List ℤ) (e : Entry) (y : Bool) → Alike e (cond y (record { name = e .name; first = e .first; subscripted = e .subscripted; size = e .size; class = e .class; given = some vs }) e)
+      kept x vs e true = (refl, refl, refl, refl)
+      kept x vs e false = (refl, refl, refl, refl)
+
+  pub classed : (clause : ℕ) → clause ≤ 3 → Classed T i clause (set T (i * 36 + 35) (clause * 4 + facts % 4))
+  classed clause m = record {
+    variable = variable-kept T i _ b;
+    here = λ l. ap (λ (n : ℕ). n / 4) (facts-here T i (clause * 4 + facts % 4) b l) ∙ omega arith;
+    others = λ j n. others-kept T i (clause * 4 + facts % 4) b j 35 (omega arith) n;
+    table = λ t d h.
+        let e = getD t i nowhere in
+        let o = d .rows i h in
+        let here : named (e .name) e ≡ true = same-refl (e .name) in
+        let g = ap (λ (x : Bool). cond x (record { name = e .name; first = e .first; subscripted = e .subscripted; size = e .size; class = classOf clause; given = e .given }) e) here in
+        let q = in-clause clause facts in
+        let n0 = q .0 ∙ ap (λ (n : ℕ). n % 2) ef in
+        let n1 = q .1 ∙ ap (λ (n : ℕ). n / 2 % 2) ef in
+        let n2 = q .2 in
+        tabled-with T i (clause * 4 + facts % 4) b t d h (class-to (e .name) (classOf clause))
+        (λ x. kept (e .name) (classOf clause) x (named (e .name) x))
+        (λ j l n. untouched _ _ (getD t j nowhere) (other-name t d h j l n))
+        (ap (λ (n : ℕ). eqb n 1) n0 ∙ o .subscripted ∙ sym (ap (λ (x : Entry). x .subscripted) g))
+        (ap (λ (n : ℕ). eqb n 1) n1 ∙ o .given ∙ sym (ap (λ (x : Entry). isGiven (x .given)) g))
+        (ap classOf n2 ∙ sym (ap (λ (x : Entry). x .class) g));
+  }
+    where
+      kept : (x : List ℕ) (c : Class) (e : Entry) (y : Bool) → Alike e (cond y (record { name = e .name; first = e .first; subscripted = e .subscripted; size = e .size; class = c; given = e .given }) e)
+      kept x c e true = (refl, refl, refl, refl)
+      kept x c e false = (refl, refl, refl, refl)
+
+-- ---- a name more
+
+getD-left : (t u : List Entry) (i : ℕ) → i < length t → getD (t ++ u) i nowhere ≡ getD t i nowhere
+getD-left [] u i h = absurd (omega arith)
+getD-left (x ∷ t) u zero h = refl
+getD-left (x ∷ t) u (suc i) h = getD-left t u i (omega arith)
+
+unknown-at : (w : List ℕ) (t : List Entry) → known w t ≡ false → (i : ℕ) → i < length t → same w (getD t i nowhere .name) ≡ false
+unknown-at w [] h i l = absurd (omega arith)
+unknown-at w (x ∷ t) h zero l = neither-holds (same w (x .name)) (known w t) h .0
+unknown-at w (x ∷ t) h (suc i) l = unknown-at w t (neither-holds (same w (x .name)) (known w t) h .1) i (omega arith)
+
+module _ (T w : List ℕ) (n first size : ℕ) (sub : Bool) (T₁ : List ℕ) (p : Put T n w T₁) (en : n ≡ min (getD T 612 0) 16) (bn : n < 16) (short : length w ≤ 32) (facts : ℕ) (ef : facts ≡ cond sub 1 0) where
+  abbrev T₂ : List ℕ
+  T₂ = set T₁ (n * 36 + 33) first
+
+  abbrev T₃ : List ℕ
+  T₃ = set T₂ (n * 36 + 34) size
+
+  abbrev T₄ : List ℕ
+  T₄ = set T₃ (n * 36 + 35) facts
+
+  abbrev more-names : List ℕ
+  more-names = set T₄ 612 (n + 1)
+
+  long₂ : length T₂ ≡ length T₁
+  long₂ = length-set T₁ (n * 36 + 33) first
+
+  long₃ : length T₃ ≡ length T₁
+  long₃ = length-set T₂ (n * 36 + 34) size ∙ long₂
+
+  long₄ : length T₄ ≡ length T₁
+  long₄ = length-set T₃ (n * 36 + 35) facts ∙ long₃
+
+  more-long : length more-names ≡ length T₁
+  more-long = length-set T₄ 612 (n + 1) ∙ long₄
+
+  -- of the words only these changed
+  elsewhere : (q : ℕ) → (q ≡ n * 36 + 33 → ⊥) → (q ≡ n * 36 + 34 → ⊥) → (q ≡ n * 36 + 35 → ⊥) → (q ≡ 612 → ⊥) → getD more-names q 0 ≡ getD T₁ q 0
+  elsewhere q a b c d = set-elsewhere T₄ 612 q (n + 1) d ∙ set-elsewhere T₃ (n * 36 + 35) q facts c ∙ set-elsewhere T₂ (n * 36 + 34) q size b ∙ set-elsewhere T₁ (n * 36 + 33) q first a
+
+  -- and these are
+  module _ (l : 613 ≤ length T₁) where
+    first-here : wordAt more-names n 33 ≡ first
+    first-here =
+        let q : 36 * n + 33 ≡ n * 36 + 33 = omega arith in
+        set-elsewhere T₄ 612 (36 * n + 33) (n + 1) (omega arith) ∙ set-elsewhere T₃ (n * 36 + 35) (36 * n + 33) facts (omega arith) ∙ set-elsewhere T₂ (n * 36 + 34) (36 * n + 33) size (omega arith)
+        ∙ ap (λ (p : ℕ). getD T₂ p 0) q ∙ getD-set-same T₁ (n * 36 + 33) first 0 (omega arith)
+
+    size-here : wordAt more-names n 34 ≡ size
+    size-here =
+        let q : 36 * n + 34 ≡ n * 36 + 34 = omega arith in
+        set-elsewhere T₄ 612 (36 * n + 34) (n + 1) (omega arith) ∙ set-elsewhere T₃ (n * 36 + 35) (36 * n + 34) facts (omega arith)
+        ∙ ap (λ (p : ℕ). getD T₃ p 0) q ∙ getD-set-same T₂ (n * 36 + 34) size 0 (omega (arith, long₂))
+
+    facts-there : wordAt more-names n 35 ≡ facts
+    facts-there =
+        let q : 36 * n + 35 ≡ n * 36 + 35 = omega arith in
+        set-elsewhere T₄ 612 (36 * n + 35) (n + 1) (omega arith)
+        ∙ ap (λ (p : ℕ). getD T₄ p 0) q ∙ getD-set-same T₃ (n * 36 + 35) facts 0 (omega (arith, long₃))
+
+    count-here : getD more-names 612 0 ≡ n + 1
+    count-here = getD-set-same T₄ 612 (n + 1) 0 (omega (arith, long₄))
+
+  module _ (t : List Entry) (d : Tabled T t) (f : length t < 16) (u : known w t ≡ false) where
+    abbrev e : Entry
+    e = declared w first size sub
+
+    at-end : n ≡ length t
+    at-end = omega (arith, d .count)
+
+    long₁ : 613 ≤ length T₁
+    long₁ = omega (arith, p .long, d .long)
+
+    many : length (t ++ (e ∷ [])) ≡ suc (length t)
+    many = length-append t (e ∷ []) ∙ omega arith
+
+    old : (i : ℕ) → i < length t → Row more-names i (getD t i nowhere)
+    old i l = row-kept T more-names i (getD t i nowhere) (d .rows i l) (λ k m.
+        elsewhere (36 * i + k) (omega (arith, at-end)) (omega (arith, at-end)) (omega (arith, at-end)) (omega (arith, at-end)) ∙ p .before (36 * i + k) (omega (arith, at-end)))
+
+    new : Row more-names n e
+    new =
+        let g = name-length T₁ n in
+        let x = p .name (d .long) in
+        let fh = facts-there long₁ in
+        record {
+          name = name-kept T₁ more-names n (omega (arith, g, ap length x)) (λ k m. elsewhere (36 * n + k) (omega arith) (omega arith) (omega arith) (omega arith)) ∙ x;
+          first = first-here long₁;
+          size = size-here long₁;
+          subscripted = ap (λ (q : ℕ). eqb (q % 2) 1) (fh ∙ ef) ∙ is-sub sub;
+          given = ap (λ (q : ℕ). eqb (q / 2 % 2) 1) (fh ∙ ef) ∙ not-given sub;
+          class = ap (λ (q : ℕ). classOf (q / 4)) (fh ∙ ef) ∙ in-none sub;
+          short = short;
+        }
+      where
+        is-sub : (b : Bool) → eqb (cond b 1 0 % 2) 1 ≡ b
+        is-sub true = refl
+        is-sub false = refl
+
+        not-given : (b : Bool) → eqb (cond b 1 0 / 2 % 2) 1 ≡ false
+        not-given true = refl
+        not-given false = refl
+
+        in-none : (b : Bool) → classOf (cond b 1 0 / 4) ≡ shared
+        in-none true = refl
+        in-none false = refl
+
+    -- an entry is an old one or the new one
+    each : (P : ℕ → Entry → Type 0) → ((i : ℕ) → i < length t → P i (getD t i nowhere)) → P n e → (i : ℕ) → i < length (t ++ (e ∷ [])) → P i (getD (t ++ (e ∷ [])) i nowhere)
+    each P o h i l = elim (decLt i (length t)) [
+      | yes b ↦ subst (P i) (sym (getD-left t (e ∷ []) i b)) (o i b)
+      | no b ↦ let q : i ≡ length t = omega (arith, many) in subst (λ (j : ℕ). P j (getD (t ++ (e ∷ [])) j nowhere)) (sym q) (subst (P (length t)) (sym (getD-append-seam t e [] nowhere)) (subst (λ (j : ℕ). P j e) at-end h))
+    ]
+
+    pub tabled-more : first ≤ 4096 → size ≤ 4096 → Tabled more-names (t ++ (e ∷ []))
+    tabled-more bf bs = record {
+      long = omega (arith, more-long, long₁);
+      count = count-here long₁ ∙ omega (arith, at-end, many);
+      few = omega (arith, many);
+      rows = each (Row more-names) old new;
+      distinct = λ i j l m. each (λ j x. i < j → same (x .name) (getD (t ++ (e ∷ [])) i nowhere .name) ≡ false)
+          (λ j b l. ap (λ (x : Entry). same (getD t j nowhere .name) (x .name)) (getD-left t (e ∷ []) i (omega arith)) ∙ d .distinct i j l b)
+          (λ l. ap (λ (x : Entry). same w (x .name)) (getD-left t (e ∷ []) i (omega (arith, at-end))) ∙ unknown-at w t u i (omega (arith, at-end)))
+          j m l;
+      bounded = each (λ i x. (x .first ≤ 4096) × (x .size ≤ 4096)) (d .bounded) (bf, bs);
+    }
+
+  pub added : Added T w first size sub more-names
+  added = record {
+    variable = λ h. name-kept T more-names 16 h (λ k m. elsewhere (576 + k) (omega arith) (omega arith) (omega arith) (omega arith) ∙ p .after (576 + k) (omega arith));
+    table = λ t d f u bf bs. tabled-more t d f u bf bs;
+  }
+
+-- a full table
+pub full : (T w : List ℕ) (first size : ℕ) (sub : Bool) → 16 ≤ min (getD T 612 0) 16 → Added T w first size sub T
+full T w first size sub h = record {
+  variable = λ _. refl;
+  table = λ t d f u bf bs. absurd (omega (arith, d .count));
+}

@@ -1,0 +1,109 @@
+-- The name table as the reader holds it: 613 words. Entry i, below 16, has its name's bytes at 36 i, one to a word, and after them, from 36 i + 32 on, how
+-- many bytes, the first cell, how many cells, and facts. Entry 16 is the loop's variable. Word 612 is the number of names.
+use mathlib.Core.Path.{_≡_}
+use mathlib.Core.Bool.{Bool, true, false, cond}
+use mathlib.Core.List.{List, [], _∷_, _++_, map}
+use mathlib.Core.Option.{none}
+use Prim.Native.Nat.{ℕ, zero, suc, _+_, _*_, _/_, _%_, _≤_, _<_}
+use lib.Dec.{eqb}
+use lib.ListN.{length, getD}
+use lib.IntN.{ℤ}
+use Rattle.rules.specs.Loop.{Class, shared, lastprivate, reduction}
+use Rattle.rules.specs.Cells.{listed}
+use Rattle.syntax.specs.Bytes.{same}
+use Rattle.syntax.specs.Known.{Entry, named, known, find, nowhere, give-to}
+use Rattle.syntax.specs.Conditions.{isGiven}
+use Rattle.names.specs.declared.Named.{Named}
+
+-- the word at a place of entry i
+abbrev pub wordAt : List ℕ → ℕ → ℕ → ℕ
+wordAt T i k = getD T (36 * i + k) 0
+
+unfoldable pub nameAt : List ℕ → ℕ → List ℕ
+nameAt T i = listed (wordAt T i 32) (λ k. wordAt T i k)
+
+-- the loop's variable
+abbrev pub variableOf : List ℕ → List ℕ
+variableOf T = nameAt T 16
+
+-- facts: 1 it takes a subscript, 2 it was given data, 4, 8 and 12 it stands in a clause: shared, lastprivate, reduction
+abbrev pub classOf : ℕ → Class
+classOf zero = shared
+classOf (suc zero) = shared
+classOf (suc (suc zero)) = lastprivate
+classOf (suc (suc (suc n))) = reduction
+
+-- entry i stands for e
+pub record Row (T : List ℕ) (i : ℕ) (e : Entry) : Type 0 where
+  pub name : nameAt T i ≡ e .name
+  pub first : wordAt T i 33 ≡ e .first
+  pub size : wordAt T i 34 ≡ e .size
+  pub subscripted : eqb (wordAt T i 35 % 2) 1 ≡ e .subscripted
+  pub given : eqb (wordAt T i 35 / 2 % 2) 1 ≡ isGiven (e .given)
+  pub class : classOf (wordAt T i 35 / 4) ≡ e .class
+  pub short : length (e .name) ≤ 32
+
+-- the table stands for these names
+pub record Tabled (T : List ℕ) (t : List Entry) : Type 0 where
+  pub long : 613 ≤ length T
+  pub count : getD T 612 0 ≡ length t
+  pub few : length t ≤ 16
+  pub rows : (i : ℕ) → i < length t → Row T i (getD t i nowhere)
+  pub distinct : (i j : ℕ) → i < j → j < length t → same (getD t j nowhere .name) (getD t i nowhere .name) ≡ false
+  pub bounded : (i : ℕ) → i < length t → (getD t i nowhere .first ≤ 4096) × (getD t i nowhere .size ≤ 4096)
+
+-- i is the first entry with the name w, of n entries; n where there is none
+pub record Found (T : List ℕ) (n : ℕ) (w : List ℕ) (i : ℕ) : Type 0 where
+  pub within : i ≤ n
+  pub before : (k : ℕ) → k < i → same w (nameAt T k) ≡ false
+  pub there : i < n → same w (nameAt T i) ≡ true
+
+-- T′ is T with the name w in entry i
+pub record Put (T : List ℕ) (i : ℕ) (w : List ℕ) (T′ : List ℕ) : Type 0 where
+  pub long : length T′ ≡ length T
+  pub name : 613 ≤ length T → nameAt T′ i ≡ w
+  pub before : (p : ℕ) → p < 36 * i → getD T′ p 0 ≡ getD T p 0
+  pub after : (p : ℕ) → 36 * i + 33 ≤ p → getD T′ p 0 ≡ getD T p 0
+
+-- a declared name
+abbrev pub declared : List ℕ → ℕ → ℕ → Bool → Entry
+declared w first size sub = record { name = w; first = first; subscripted = sub; size = size; class = shared; given = none }
+
+-- T′ is T with a name more
+pub record Added (T w : List ℕ) (first size : ℕ) (sub : Bool) (T′ : List ℕ) : Type 0 where
+  pub variable : wordAt T 16 32 ≤ 32 → variableOf T′ ≡ variableOf T
+  pub table : (t : List Entry) → Tabled T t → length t < 16 → known w t ≡ false → first ≤ 4096 → size ≤ 4096 → Tabled T′ (t ++ (declared w first size sub ∷ []))
+
+-- T′ is T with data given to entry i
+pub record Gave (T : List ℕ) (i : ℕ) (T′ : List ℕ) : Type 0 where
+  pub variable : wordAt T 16 32 ≤ 32 → variableOf T′ ≡ variableOf T
+  pub table : (t : List Entry) (vs : List ℤ) → Tabled T t → i < length t → Tabled T′ (map (give-to (getD t i nowhere .name) vs) t)
+
+-- the entry with the name x stands in a clause for c
+abbrev pub class-to : List ℕ → Class → Entry → Entry
+class-to x c e =
+    cond (named x e)
+    (record { name = e .name; first = e .first; subscripted = e .subscripted; size = e .size; class = c; given = e .given })
+    e
+
+-- T′ is T with entry i in a clause
+pub record Classed (T : List ℕ) (i clause : ℕ) (T′ : List ℕ) : Type 0 where
+  pub variable : wordAt T 16 32 ≤ 32 → variableOf T′ ≡ variableOf T
+  pub here : 613 ≤ length T → wordAt T′ i 35 / 4 ≡ clause
+  pub others : (j : ℕ) → (j ≡ i → ⊥) → wordAt T′ j 35 ≡ wordAt T j 35
+  pub table : (t : List Entry) → Tabled T t → i < length t → Tabled T′ (map (class-to (getD t i nowhere .name) (classOf clause)) t)
+
+-- what is known of the name w
+pub record Knows (t : List Entry) (w : List ℕ) (r : Named) : Type 0 where
+  pub known : r .known ≡ known w t
+  pub first : r .first ≡ find w t .first
+  pub size : r .size ≡ find w t .size
+  pub subscripted : r .subscripted ≡ find w t .subscripted
+  pub given : r .given ≡ isGiven (find w t .given)
+  pub class : classOf (r .clause) ≡ find w t .class
+
+-- and where it stands
+pub record Stands (T : List ℕ) (t : List Entry) (w : List ℕ) (r : Named) : Type 0 where
+  pub within : r .index < length t
+  pub name : getD t (r .index) nowhere .name ≡ w
+  pub clause : r .clause ≡ wordAt T (r .index) 35 / 4

@@ -1,0 +1,149 @@
+-- The loop of an accepted text is proper: its statements access only cells of the table and update only those of reduction names.
+-- One induction over expressions and statements serves both: it carries any property of what is still done that such accesses keep.
+use mathlib.Core.Path.{_≡_, refl, _∙_}
+use mathlib.Core.Bool.{true, _&&_}
+use mathlib.Core.List.{List}
+use Prim.Native.Nat.{ℕ, _+_, _≤_, _<_}
+use native.Mathlib.Omega.{arith}
+use lib.Dec.{leb}
+use lib.IntN.{ℤ, pos, negsuc, _+ℤ_}
+use borrow.Author.Tests.{leb-true}
+use Rattle.int32.specs.declared.Relation.{Relation}
+use Rattle.int32.specs.Integers.{sum, quotient, related}
+use Rattle.int32.proofs.Laws.{sum-assoc, sum-comm, sum-zero-r, sum-fits}
+use Rattle.rules.specs.Loop.{Act, read, write, update, fault, done, Class, shared, lastprivate, reduction}
+use Rattle.rules.specs.Proper.{Sums, Sized, Proper}
+use Rattle.rules.proofs.BlocksLaws.{singles-proper}
+use Rattle.syntax.specs.Bytes.{choose}
+use Rattle.syntax.specs.Grammar.{Expr, expr, Terms, no-terms, terms, Term, term, Factors, no-factors, factors, Factor, literal, cell, rdiv, brackets, Ref, single, element}
+use Rattle.syntax.specs.Known.{Entry, find, cells, State, Stmts, stop, set, if-then, if-else}
+use Rattle.syntax.specs.Conditions.{refName, finished}
+use Rattle.syntax.specs.Text.{read as accepts, good}
+use Rattle.syntax.specs.Meaning.{is-reduction, same-ref, summand, is-update, remainder, led, located, divides, isVariable, eval, evalTerms, evalTerm, evalFactors, evalFactor, place, assigned, exec, class-of, loopOf, partitionOf}
+use Rattle.syntax.proofs.Spelling.{both-true}
+use Rattle.syntax.proofs.TestLaws.{choose-each, each-weaken}
+use Rattle.syntax.proofs.Sane.{Sane, accepted-sane, accepted-finished}
+use Rattle.syntax.proofs.Table.{SaneEntry, SaneTable, find-each, find-ends, find-first, class-of-found}
+use Rattle.int32.specs.Integers as integers
+
+-- "An update is an assignment to a cell of a reduction name"
+update-reduces : (t : List Entry) (r : Ref) (e : Expr) → is-update t r e ≡ true → find (refName r) t .class ≡ reduction
+unfolding is-update
+update-reduces t r e u = go (find (refName r) t .class) (both-true _ (same-ref r (summand e)) u .0)
+  where
+    go : (c : Class) → is-reduction c ≡ true → c ≡ reduction
+    go shared h = let z : _≡_ {A = ℕ} 0 1 = cc in absurd (omega arith)
+    go lastprivate h = let z : _≡_ {A = ℕ} 0 1 = cc in absurd (omega arith)
+    go reduction h = refl
+
+-- ---- the cell of a reference
+
+-- cell c is one of the table, and of a reduction name where name x is one
+record Meant (t : List Entry) (x : List ℕ) (c : ℕ) : Type 0 where
+  below : c < cells t
+  updated : find x t .class ≡ reduction → class-of t c ≡ reduction
+
+module _ (t : List Entry) (h : SaneTable t) where
+  -- nothing that is not found is of a reduction name
+  found-some : (x : List ℕ) → find x t .class ≡ reduction → 0 < find x t .size
+  found-some x =
+      find-each (λ e. e .class ≡ reduction → 0 < e .size) x t (λ k. let z : _≡_ {A = ℕ} 0 1 = cc in absurd (omega arith))
+      (each-weaken SaneEntry _ (λ e s _. s .some-cells) t (h .sized))
+
+  meant : (x : List ℕ) (c : ℕ) → find x t .first ≤ c → c < find x t .first + find x t .size → Meant t x c
+  meant x c p q = record { below = omega (arith, find-ends x t h); updated = λ e. class-of-found x 0 t c (h .laid) p q ∙ e }
+
+  meant-first : 0 < cells t → (x : List ℕ) → Meant t x (find x t .first)
+  meant-first k x = record {
+    below = find-first x t h k;
+    updated = λ e. class-of-found x 0 t (find x t .first) (h .laid) (omega arith) (omega (arith, found-some x e)) ∙ e;
+  }
+
+-- ---- what the accesses keep
+
+record Kept (t : List Entry) (P : Act → Type 0) : Type 0 where
+  reads : (c : ℕ) (k : ℤ → Act) → c < cells t → ((y : ℤ) → P (k y)) → P (read c k)
+  writes : (c : ℕ) (y : ℤ) (a : Act) → c < cells t → P a → P (write c y a)
+  updates : (c : ℕ) (y : ℤ) (a : Act) → c < cells t → class-of t c ≡ reduction → P a → P (update c y a)
+  faults : (n line : ℕ) → P (fault n line)
+
+module _ (t : List Entry) (v : List ℕ) (x : ℤ) (h : SaneTable t) (filled : 0 < cells t) (P : Act → Type 0) (keep : Kept t P) where
+  located-kept : (line : ℕ) (y : List ℕ) (i : ℤ) (k : ℕ → Act) → ((c : ℕ) → Meant t y c → P (k c)) → P (located line (find y t .first) (find y t .size) i k)
+  unfolding located
+  located-kept line y (pos n) k q = choose-each P (leb 1 n && leb n (find y t .size)) _ _ (λ e.
+      let (a, b) = both-true (leb 1 n) (leb n (find y t .size)) e in
+      q _ (meant t h y _ (omega arith) (omega (arith, leb-true 1 n a, leb-true n (find y t .size) b)))) (λ _. keep .faults 9 line)
+  located-kept line y (negsuc n) k q = keep .faults 9 line
+
+  divides-kept : (line : ℕ) (f : ℤ → ℤ → ℤ) (a b : ℤ) (k : ℤ → Act) → ((y : ℤ) → P (k y)) → P (divides line f a b k)
+  unfolding divides
+  divides-kept line f a b k q = choose-each P (integers.same b (pos 0)) _ _ (λ _. keep .faults 10 line) (λ _. q (f a b))
+
+  mutual
+    unfolding eval evalTerms evalTerm evalFactors evalFactor place
+
+    eval-kept : (line : ℕ) (e : Expr) (k : ℤ → Act) → ((y : ℤ) → P (k y)) → P (eval t v x line e k)
+    eval-kept line (expr l a as′) k q = evalTerm-kept line a _ (λ y. evalTerms-kept line as′ (led l y) k q)
+
+    evalTerms-kept : (line : ℕ) (as′ : Terms) (y : ℤ) (k : ℤ → Act) → ((y : ℤ) → P (k y)) → P (evalTerms t v x line as′ y k)
+    evalTerms-kept line no-terms y k q = q y
+    evalTerms-kept line (terms o a as′) y k q = evalTerm-kept line a _ (λ z. evalTerms-kept line as′ _ k q)
+
+    evalTerm-kept : (line : ℕ) (a : Term) (k : ℤ → Act) → ((y : ℤ) → P (k y)) → P (evalTerm t v x line a k)
+    evalTerm-kept line (term f fs) k q = evalFactor-kept line f _ (λ y. evalFactors-kept line fs y k q)
+
+    evalFactors-kept : (line : ℕ) (fs : Factors) (y : ℤ) (k : ℤ → Act) → ((y : ℤ) → P (k y)) → P (evalFactors t v x line fs y k)
+    evalFactors-kept line no-factors y k q = q y
+    evalFactors-kept line (factors o f fs) y k q = evalFactor-kept line f _ (λ z. choose-each P o _ _
+        (λ _. divides-kept line quotient y z _ (λ w. evalFactors-kept line fs w k q))
+        (λ _. evalFactors-kept line fs _ k q))
+
+    evalFactor-kept : (line : ℕ) (f : Factor) (k : ℤ → Act) → ((y : ℤ) → P (k y)) → P (evalFactor t v x line f k)
+    evalFactor-kept line (literal d) k q = q _
+    evalFactor-kept line (cell r) k q = choose-each P (isVariable t v x r) _ _ (λ _. q x) (λ _. place-kept line r _ (λ c m. keep .reads c k (m .below) q))
+    evalFactor-kept line (rdiv a b) k q = eval-kept line a _ (λ y. eval-kept line b _ (λ z. divides-kept line _ y z k q))
+    evalFactor-kept line (brackets e) k q = eval-kept line e k q
+
+    place-kept : (line : ℕ) (r : Ref) (k : ℕ → Act) → ((c : ℕ) → Meant t (refName r) c → P (k c)) → P (place t v x line r k)
+    place-kept line (single y) k q = q _ (meant-first t h filled y)
+    place-kept line (element y e) k q = eval-kept line e _ (λ i. located-kept line y i k q)
+
+  assigned-kept : (line : ℕ) (r : Ref) (e : Expr) (a : Act) → P a → P (assigned t v x line r e a)
+  unfolding assigned
+  assigned-kept line r e a p = choose-each P (is-update t r e) _ _
+      (λ u. place-kept line r _ (λ c m. eval-kept line (remainder e) _ (λ y. keep .updates c y a (m .below) (m .updated (update-reduces t r e u)) p)))
+      (λ _. eval-kept line e _ (λ y. place-kept line r _ (λ c m. keep .writes c y a (m .below) p)))
+
+  branch-kept : (line : ℕ) (a b : Expr) (rel : Relation) (f g : Act) → P f → P g
+      → P (eval t v x line a (λ y. eval t v x line b (λ z. choose (related rel y z) (λ _. f) (λ _. g))))
+  branch-kept line a b rel f g p q = eval-kept line a _ (λ y. eval-kept line b _ (λ z. choose-each P (related rel y z) _ _ (λ _. p) (λ _. q)))
+
+  exec-kept : (b : Stmts) (after : Act) → P after → P (exec t v x b after)
+  unfolding exec
+  exec-kept stop after q = q
+  exec-kept (set line r e rest) after q = assigned-kept line r e _ (exec-kept rest after q)
+  exec-kept (if-then line a rel b f rest) after q = branch-kept line a b rel _ _ (exec-kept f _ (exec-kept rest after q)) (exec-kept rest after q)
+  exec-kept (if-else line a rel b f g rest) after q = branch-kept line a b rel _ _ (exec-kept f _ (exec-kept rest after q)) (exec-kept g _ (exec-kept rest after q))
+
+-- ---- the two properties
+
+sums-kept : (t : List Entry) → Kept t (Sums (class-of t))
+sums-kept t = record { reads = λ c k b q. q; writes = λ c y a b q. q; updates = λ c y a b r q. (r, q); faults = λ n line. tt }
+
+sized-kept : (t : List Entry) → Kept t (Sized (cells t))
+sized-kept t = record { reads = λ c k b q. (b, q); writes = λ c y a b q. (b, q); updates = λ c y a b r q. (b, q); faults = λ n line. tt }
+
+-- ---- the loop
+
+pub proper-loop : (s : State) → Sane s → finished (s .stage) ≡ true → (m : List ℤ) → Proper (loopOf s m) (partitionOf s)
+unfolding loopOf partitionOf
+proper-loop s h f m =
+    let k : 6 ≤ s .stage = leb-true 6 (s .stage) f in
+    let c : 0 < cells (s .table) = h .some-cells (omega arith) in
+    singles-proper (loopOf s m) (s .processors) (h .some-processors (omega arith))
+    (λ i. exec-kept (s .table) (s .variable) (s .from +ℤ pos i) (h .table) c _ (sums-kept (s .table)) (s .inner) done tt)
+    (λ i. exec-kept (s .table) (s .variable) (s .from +ℤ pos i) (h .table) c _ (sized-kept (s .table)) (s .inner) done tt)
+    sum-assoc sum-comm (λ x y. sum-zero-r (sum x y) (sum-fits x y)) (sum-zero-r (pos 0) (record { sfits = omega arith }))
+
+pub accepted-proper : (text : List ℕ) (s : State) (m : List ℤ) → accepts text ≡ good s → Proper (loopOf s m) (partitionOf s)
+accepted-proper text s m h = proper-loop s (accepted-sane text s h) (accepted-finished text s h) m

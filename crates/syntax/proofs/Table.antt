@@ -1,0 +1,112 @@
+-- The table of an accepted text's names: its entries follow one another from cell 0 on, so the cells of the entry that a name finds are cells
+-- of the table, and their class is that entry's.
+use mathlib.Core.Path.{_≡_}
+use mathlib.Core.Bool.{Bool, true, false, cond, _&&_, _||_}
+use mathlib.Core.List.{List, [], _∷_, map}
+use mathlib.Core.Option.{Option, none, some}
+use Prim.Native.Nat.{ℕ, zero, suc, _+_, _≤_, _<_}
+use native.Mathlib.Omega.{arith}
+use lib.Dec.{ltb, leb}
+use lib.ListN.{length, getD, take}
+use lib.IntN.{ℤ}
+use mir.Syntax.{w32}
+use mir.Val.{SFits}
+use borrow.Author.Tests.{lt-ltb, le-ltb, le-leb}
+use Rattle.syntax.specs.Known.{Entry, named, known, nowhere, find, cells}
+use Rattle.syntax.specs.Conditions.{different}
+use Rattle.syntax.specs.Meaning.{class-of}
+use Rattle.syntax.proofs.TestLaws.{both-hold, cond-each, Each}
+
+-- "in declared order": from cell c on each entry begins where the one before it ends
+abbrev pub Laid : ℕ → List Entry → Type 0
+Laid c [] = Unit {0}
+Laid c (e ∷ es) = (e .first ≡ c) × Laid (c + e .size) es
+
+-- data: "a value for each cell of the name"
+abbrev pub Data : ℕ → Option (List ℤ) → Type 0
+Data n none = Unit {0}
+Data n (some vs) = (length vs ≡ n) × Each (SFits w32) vs
+
+-- "array length 1 to 4,096"
+pub record SaneEntry (e : Entry) : Type 0 where
+  pub some-cells : 1 ≤ e .size
+  pub few-cells : e .size ≤ 4096
+  pub given : Data (e .size) (e .given)
+
+-- "names 16", "N to 4,096", no name twice
+pub record SaneTable (t : List Entry) : Type 0 where
+  pub laid : Laid 0 t
+  pub sized : Each SaneEntry t
+  pub apart : different (map (λ e. e .name) t) ≡ true
+  pub few-names : length t ≤ 16
+  pub few-cells : cells t ≤ 4096
+
+pub cells-filled : (t : List Entry) → SaneTable t → 0 < length t → 0 < cells t
+cells-filled [] h k = absurd (omega arith)
+cells-filled (e ∷ es) h k = omega (arith, h .sized .0 .some-cells)
+
+-- ---- the entry at a place
+
+pub laid-at : (c : ℕ) (t : List Entry) (i : ℕ) → Laid c t → i < length t → getD t i nowhere .first ≡ c + cells (take i t)
+laid-at c [] i h k = absurd (omega arith)
+laid-at c (e ∷ es) zero h k = omega (arith, h .0)
+laid-at c (e ∷ es) (suc i) h k = omega (arith, laid-at (c + e .size) es i (h .1) (omega arith))
+
+-- ---- the entry that a name finds
+
+pub find-each : (P : Entry → Type 0) (x : List ℕ) (t : List Entry) → P nowhere → Each P t → P (find x t)
+unfolding find
+find-each P x [] n h = n
+find-each P x (e ∷ es) n h = cond-each P (named x e) (h .0) (find-each P x es n (h .1))
+
+pub find-known : (P : Entry → Type 0) (x : List ℕ) (t : List Entry) → known x t ≡ true → Each P t → P (find x t)
+unfolding find
+find-known P x [] k h = let z : _≡_ {A = ℕ} 0 1 = cc in absurd (omega arith)
+find-known P x (e ∷ es) k h = go (named x e) k (λ r. find-known P x es r (h .1))
+  where
+    go : (b : Bool) → b || known x es ≡ true → (known x es ≡ true → P (find x es)) → P (cond b e (find x es))
+    go true r ih = h .0
+    go false r ih = ih r
+
+-- its cells lie from a up to below z
+record Between (a z : ℕ) (e : Entry) : Type 0 where
+  from : 0 < e .size → a ≤ e .first
+  to : e .first + e .size ≤ z
+
+laid-between : (a z c : ℕ) (t : List Entry) → a ≤ c → c + cells t ≤ z → Laid c t → Each (Between a z) t
+laid-between a z c [] p q h = tt
+laid-between a z c (e ∷ es) p q h =
+    (record { from = λ _. omega (arith, h .0); to = omega (arith, h .0) }, laid-between a z (c + e .size) es (omega arith) (omega arith) (h .1))
+
+find-between : (x : List ℕ) (c : ℕ) (t : List Entry) → Laid c t → Between c (c + cells t) (find x t)
+find-between x c t h =
+    find-each (Between c (c + cells t)) x t (record { from = λ k. omega arith; to = omega arith })
+    (laid-between c (c + cells t) c t (omega arith) (omega arith) h)
+
+-- the cells of the entry found are below N; where nothing is found it has none
+pub find-ends : (x : List ℕ) (t : List Entry) → SaneTable t → find x t .first + find x t .size ≤ cells t
+find-ends x t h = omega (arith, find-between x 0 t (h .laid) .to)
+
+-- in a table that has cells the first is one of them, found or not
+pub find-first : (x : List ℕ) (t : List Entry) → SaneTable t → 0 < cells t → find x t .first < cells t
+find-first x t h k = find-each (λ e. e .first < cells t) x t k (go 0 t (h .laid) (h .sized) (omega arith))
+  where
+    go : (c : ℕ) (es : List Entry) → Laid c es → Each SaneEntry es → c + cells es ≤ cells t → Each (λ e. e .first < cells t) es
+    go c [] l s b = tt
+    go c (e ∷ es) l s b = (omega (arith, l .0, s .0 .some-cells), go (c + e .size) es (l .1) (s .1) (omega arith))
+
+-- ---- the class of a cell
+
+pub class-of-found : (x : List ℕ) (c : ℕ) (t : List Entry) (k : ℕ) → Laid c t → find x t .first ≤ k → k < find x t .first + find x t .size
+    → class-of t k ≡ find x t .class
+unfolding find class-of
+class-of-found x c [] k h p q = absurd (omega arith)
+class-of-found x c (e ∷ es) k h p q = go (named x e) (class-of-found x (c + e .size) es k (h .1)) p q
+  where
+    go : (b : Bool) → (find x es .first ≤ k → k < find x es .first + find x es .size → class-of es k ≡ find x es .class)
+        → cond b e (find x es) .first ≤ k → k < cond b e (find x es) .first + cond b e (find x es) .size
+        → cond (leb (e .first) k && ltb k (e .first + e .size)) (e .class) (class-of es k) ≡ cond b e (find x es) .class
+    go true ih p q = rw (both-hold (le-leb (e .first) k p) (lt-ltb k (e .first + e .size) q))
+    go false ih p q =
+        let f = find-between x (c + e .size) es (h .1) .from (omega arith) in
+        rw (le-leb (e .first) k (omega (arith, h .0)), le-ltb k (e .first + e .size) (omega (arith, h .0))) (ih p q)
