@@ -8,7 +8,8 @@ use native.Mathlib.Omega.{arith}
 use lib.ListN.{length}
 use lib.IntN.{ℤ, pos}
 use borrow.Author.Tests.{lt-ltb, leb-true}
-use Rattle.int32.specs.Integers.{sum, difference, product, quotient}
+use Rattle.int32.specs.Integers.{value, sum, difference, product, quotient}
+use Rattle.int32.proofs.Laws.{value-cases}
 use Rattle.rules.specs.Loop.{Act, read}
 use Rattle.syntax.specs.Bytes.{choose, all, same}
 use Rattle.syntax.specs.Grammar.{number, Lead, bare, plus, minus, Expr, expr, Terms, no-terms, terms, Term, term, Factors, no-factors, factors, Factor, literal, cell, rdiv, brackets, Ref, single, element}
@@ -61,7 +62,10 @@ module _ (x : ℤ) (rest : List Instr) (s : List ℤ) where
   resume-literal : (d : List ℕ) → number d ≤ 2147483647 → length s < 32
       → resume (push (min (number d) 2147483648) ∷ rest) 0 s x ≡ resume rest 0 (pos (number d) ∷ s) x
   unfolding resume perform
-  resume-literal d h k = let e : min (number d) 2147483648 ≡ number d = omega arith in rw e (room-left s _ k)
+  resume-literal d h k =
+      let e : min (number d) 2147483648 ≡ number d = omega arith in
+      let w : value (number d) ≡ pos (number d) = value-cases (λ z. z ≡ pos (number d)) (number d) (λ _. refl) (λ b. absurd (omega arith)) in
+      rw e (rw w (room-left s _ k))
 
 -- ---- expressions
 

@@ -5,15 +5,15 @@ use mathlib.Core.List.{List, [], _∷_}
 use Prim.Native.Nat.{ℕ, zero, suc, _+_, _*_, _/_, _%_}
 use lib.Dec.{ltb}
 use lib.ListN.{length, getD}
-use lib.IntN.{ℤ, pos}
+use lib.IntN.{ℤ}
 use Rattle.int32.specs.declared.Relation.{Relation}
 use Rattle.int32.specs.declared.Relation.the-variants.{Equal, Unequal, Less, AtMost, Greater, AtLeast}
-use Rattle.int32.specs.Integers.{sum, difference, product, negation, quotient, rdiv, related}
+use Rattle.int32.specs.Integers.{value, sum, difference, product, negation, quotient, rdiv, related}
 use Rattle.rules.specs.Loop.{Act, read, write, done}
 use Rattle.syntax.specs.Meaning.{located, divides}
 use Rattle.rules.specs.Loop as loop
 
--- A literal, v, a cell; an element of an array with its first cell, its length and the line; the operations, a division with its line; the
+-- A literal by its word, v, a cell; an element of an array with its first cell, its length and the line; the operations, a division with its line; the
 -- store of a value in a cell or an element; the test of an update's subscript, which stays pending, and the update; jumps over so many
 -- instructions.
 pub data Instr : Type 0 where
@@ -146,7 +146,7 @@ with2 (y ∷ x ∷ s) k = k x y s
 -- one instruction at pending values s, the last first, and value v of the loop's variable; `on` is what is done next, and `past n` after n
 -- instructions more
 unfoldable pub perform : Instr → (List ℤ → Act) → (ℕ → List ℤ → Act) → List ℤ → ℤ → Act
-perform (push n) on past s v = room s (on (pos n ∷ s))
+perform (push n) on past s v = room s (on (value n ∷ s))
 perform push-v on past s v = room s (on (v ∷ s))
 perform (load c) on past s v = room s (read c (λ x. on (x ∷ s)))
 perform (load-at b n l) on past s v = with1 s (λ i t. located l b n i (λ c. read c (λ x. on (x ∷ t))))
