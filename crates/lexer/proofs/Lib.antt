@@ -3,3 +3,4 @@ pub mod Laws
 pub mod Tokens
 pub mod Signs
 pub mod Said
+pub mod PlaceLaws

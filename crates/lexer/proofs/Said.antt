@@ -119,11 +119,19 @@ word-made (c ∷ x) h m = go (leb (length (c ∷ x)) 31 && not (any (same (c ∷
         at false true t a e f = other u b w 3 a (apart-kinds u .0) _
         at false false t a e f = other u b w 4 a (apart-kinds u .1) _
 
+-- ---- what stands first in what is left of a line
+
+pub sign-text : (x : List ℕ) → signed x ≡ true → (u : List ℕ) → is (sign x) (peek-in u) ≡ same x (text (peek-in u))
+sign-text x h u = sign-made x h (made-in u)
+
+pub word-text : (x : List ℕ) → lettered x ≡ true → (u : List ℕ) → is (word-of x) (peek-in u) ≡ same x (text (peek-in u))
+word-text x h u = word-made x h (made-in u)
+
 -- ---- a token of the code
 
 module _ {s : List ℕ} {at : ℕ} {t : Tok} (l : Lexed s at t) where
   pub sees-said : (x : List ℕ) → signed x ≡ true → is (sign x) (peek-in (drop at s)) ≡ same x (part s (t .start) (t .stop))
-  sees-said x h = sign-made x h (made-in (drop at s)) ∙ ap (same x) (l .bytes)
+  sees-said x h = sign-text x h (drop at s) ∙ ap (same x) (l .bytes)
 
   pub says-said : (x : List ℕ) → lettered x ≡ true → is (word-of x) (peek-in (drop at s)) ≡ same x (part s (t .start) (t .stop))
-  says-said x h = word-made x h (made-in (drop at s)) ∙ ap (same x) (l .bytes)
+  says-said x h = word-text x h (drop at s) ∙ ap (same x) (l .bytes)

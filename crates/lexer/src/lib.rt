@@ -8,6 +8,7 @@ ghost use lib.ListN.{length, drop, take};
 ghost use lib.Seq.{sets};
 ghost use Rattle.syntax.specs.Bytes.{lower as lowerOf, same, starts as startsWith, any, reserved as reservedWords, word-of, kindOf, sign-size, run, letter as isLetter, digit as isDigit, in-word as inWord};
 ghost use Rattle.syntax.specs.Grammar.{number as numberOf};
+ghost use Rattle.lexer.specs.Places.{Goes, Any, passes};
 ghost use Rattle.lexer.specs.Lex.{goes, part, Lexed, ended, tens};
 
 // A token: its kind (0 the end of the line, 1 a word that may be a name, 2 a word that is no name, 3 digits, 4 a sign) and where it lies.
@@ -252,6 +253,19 @@ pub fn reads(s: &[u8], t: Tok, w: &[u8]) -> bool
     let a = t.start;
     let e = t.stop;
     equal(w, &s[a..e])
+}
+
+// The place after the token w, where it stands at a place; past the line's end where another stands, or where the place itself lies past it.
+pub fn pass(s: &[u8], at: usize, w: &[u8]) -> usize
+    requires { ⌜ length (now s) ≤ 2048 ⌝ }
+    ensures { λ r. ⌜ Goes Any (now (s .entry)) at (passes (now (w .entry))) r ⌝ }
+{
+    if s.len() < at {
+        return s.len() + 1;
+    }
+    let t = token(s, at);
+    let e = t.stop;
+    if reads(s, t, w) { e } else { s.len() + 1 }
 }
 
 // ---- literals
