@@ -158,6 +158,10 @@ module _ (T : List ℕ) (i : ℕ) (b : i < 16) (facts : ℕ) (ef : facts ≡ wor
         (ap (λ (n : ℕ). eqb n 1) n0 ∙ o .subscripted ∙ sym (ap (λ (x : Entry). x .subscripted) g))
         (ap (λ (n : ℕ). eqb n 1) n1 ∙ sym (ap (λ (x : Entry). isGiven (x .given)) g))
         (ap classOf n2 ∙ o .class ∙ sym (ap (λ (x : Entry). x .class) g));
+    unclaimed = λ h n u j l. elim (ℕ-discrete j i) [
+      | yes q ↦ ap (λ (k : ℕ). wordAt (set T (i * 36 + 35) (facts / 4 * 4 + 2 + facts % 2)) k 35 / 4) q ∙ ap (λ (x : ℕ). x / 4) (facts-here T i (facts / 4 * 4 + 2 + facts % 2) b h) ∙ with-data (facts / 4) (facts % 2) (omega arith) .2 ∙ ap (λ (x : ℕ). x / 4) ef ∙ ap (λ (k : ℕ). wordAt T k 35 / 4) (sym q) ∙ u j l
+      | no m ↦ ap (λ (x : ℕ). x / 4) (others-kept T i (facts / 4 * 4 + 2 + facts % 2) b j 35 (omega arith) m) ∙ u j l
+    ];
   }
     where
       kept : (x : List ℕ) (vs : List ℤ) (e : Entry) (y : Bool) → Alike e (cond y (record { name = e .name; first = e .first; subscripted = e .subscripted; size = e .size; class = e .class; given = some vs }) e)
@@ -322,11 +326,20 @@ module _ (T w : List ℕ) (n first size : ℕ) (sub : Bool) (T₁ : List ℕ) (p
   added = record {
     variable = λ h. name-kept T more-names 16 h (λ k m. elsewhere (576 + k) (omega arith) (omega arith) (omega arith) (omega arith) ∙ p .after (576 + k) (omega arith));
     table = λ t d f u bf bs. tabled-more t d f u bf bs;
+    unclaimed = λ t d f v j l. elim (ℕ-discrete j n) [
+      | yes q ↦ ap (λ (k : ℕ). wordAt more-names k 35 / 4) q ∙ ap (λ (x : ℕ). x / 4) (facts-there (omega (arith, p .long, d .long)) ∙ ef) ∙ none-in sub
+      | no m ↦ ap (λ (x : ℕ). x / 4) (elsewhere (36 * j + 35) (omega arith) (omega arith) (omega arith) (omega (arith, d .count)) ∙ p .before (36 * j + 35) (omega (arith, d .count))) ∙ v j (omega (arith, d .count))
+    ];
   }
+    where
+      none-in : (b : Bool) → cond b 1 0 / 4 ≡ 0
+      none-in true = refl
+      none-in false = refl
 
 -- a full table
 pub full : (T w : List ℕ) (first size : ℕ) (sub : Bool) → 16 ≤ min (getD T 612 0) 16 → Added T w first size sub T
 full T w first size sub h = record {
   variable = λ _. refl;
   table = λ t d f u bf bs. absurd (omega (arith, d .count));
+  unclaimed = λ t d f v. absurd (omega (arith, d .count));
 }

@@ -52,6 +52,10 @@ pub record Tabled (T : List ℕ) (t : List Entry) : Type 0 where
   pub distinct : (i j : ℕ) → i < j → j < length t → same (getD t j nowhere .name) (getD t i nowhere .name) ≡ false
   pub bounded : (i : ℕ) → i < length t → (getD t i nowhere .first ≤ 4096) × (getD t i nowhere .size ≤ 4096)
 
+-- none of the first n names stands in a clause
+abbrev pub Unclaimed : List ℕ → ℕ → Type 0
+Unclaimed T n = (i : ℕ) → i < n → wordAt T i 35 / 4 ≡ 0
+
 -- i is the first entry with the name w, of n entries; n where there is none
 pub record Found (T : List ℕ) (n : ℕ) (w : List ℕ) (i : ℕ) : Type 0 where
   pub within : i ≤ n
@@ -73,11 +77,13 @@ declared w first size sub = record { name = w; first = first; subscripted = sub;
 pub record Added (T w : List ℕ) (first size : ℕ) (sub : Bool) (T′ : List ℕ) : Type 0 where
   pub variable : wordAt T 16 32 ≤ 32 → variableOf T′ ≡ variableOf T
   pub table : (t : List Entry) → Tabled T t → length t < 16 → known w t ≡ false → first ≤ 4096 → size ≤ 4096 → Tabled T′ (t ++ (declared w first size sub ∷ []))
+  pub unclaimed : (t : List Entry) → Tabled T t → length t < 16 → Unclaimed T (length t) → Unclaimed T′ (length t + 1)
 
 -- T′ is T with data given to entry i
 pub record Gave (T : List ℕ) (i : ℕ) (T′ : List ℕ) : Type 0 where
   pub variable : wordAt T 16 32 ≤ 32 → variableOf T′ ≡ variableOf T
   pub table : (t : List Entry) (vs : List ℤ) → Tabled T t → i < length t → Tabled T′ (map (give-to (getD t i nowhere .name) vs) t)
+  pub unclaimed : 613 ≤ length T → (n : ℕ) → Unclaimed T n → Unclaimed T′ n
 
 -- the entry with the name x stands in a clause for c
 abbrev pub class-to : List ℕ → Class → Entry → Entry
