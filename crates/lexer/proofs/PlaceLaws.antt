@@ -7,11 +7,14 @@ use Prim.Native.String.{String}
 use native.Mathlib.Omega.{arith}
 use lib.ListN.{length, drop}
 use Rattle.syntax.specs.Bytes.{same, bytes, sign, word-of}
-use Rattle.syntax.specs.Reader.{Parsed, broken, done, Reader, next, text, is, expects, wants, peek-in, skip-in}
+use borrow.Author.Tests.{eq-eqb, ne-eqb}
+use lib.Dec.{eqb}
+use Rattle.syntax.specs.Grammar.{Lead, bare, plus, minus}
+use Rattle.syntax.specs.Reader.{Parsed, broken, done, Reader, next, kind, text, is, expects, wants, readLead, peek-in, skip-in}
 use Rattle.lexer.specs.declared.Tok.{Tok}
 use Rattle.lexer.specs.Lex.{part, Lexed}
-use Rattle.lexer.specs.Places.{Lands, Goes, Any, passes}
-use Rattle.lexer.proofs.Said.{signed, lettered, sign-text, word-text}
+use Rattle.lexer.specs.Places.{Lands, Goes, Any, passes, Spells}
+use Rattle.lexer.proofs.Said.{signed, lettered, sign-text, word-text, name-short}
 
 module _ {A B : Type 0} (P : A → Type 0) (Q : B → Type 0) (s : List ℕ) (k : A → Reader (List ℕ) B) (m r : ℕ) where
   -- what comes after a part that lands at m
@@ -41,3 +44,54 @@ module _ {s : List ℕ} {at : ℕ} {t : Tok} (l : Lexed s at t) (w : List ℕ) w
 
   pub passes-other : same w (part s (t .start) (t .stop)) ≡ false → Lands Any s (passes w (drop at s)) (length s + 1)
   passes-other h = subst (λ (p : Parsed (List ℕ) (Unit {0})). Lands Any s p (length s + 1)) (sym (ap (λ (b : Bool). cond b (done tt (skip-in (drop at s))) broken) (ap (same w) (l .bytes) ∙ h))) refl
+
+-- ---- where a token stands or not
+
+module _ (s w : List ℕ) (at r : ℕ) (g : Goes Any s at (passes w) r) (b : at ≤ length s) where
+  abbrev passed : Bool → Parsed (List ℕ) (Unit {0})
+  passed x = cond x (done tt (skip-in (drop at s))) broken
+
+  found : (x : Bool) → same w (text (peek-in (drop at s))) ≡ x → Lands {A = Unit {0}} Any s (passed x) r → (r ≤ length s → (same w (text (peek-in (drop at s))) ≡ true) × (skip-in (drop at s) ≡ drop r s)) × (length s < r → same w (text (peek-in (drop at s))) ≡ false)
+  found true e l = (λ h. (e, l .0), λ h. absurd (omega (arith, l .1)))
+  found false e l = (λ h. absurd (omega (arith, l)), λ h. e)
+
+  pub pass-there : r ≤ length s → (same w (text (peek-in (drop at s))) ≡ true) × (skip-in (drop at s) ≡ drop r s)
+  pass-there = found (same w (text (peek-in (drop at s)))) refl (g .lands b) .0
+
+  pub pass-not : length s < r → same w (text (peek-in (drop at s))) ≡ false
+  pass-not = found (same w (text (peek-in (drop at s)))) refl (g .lands b) .1
+
+-- ---- a name, digits, a sign
+
+-- a token of kind k, and what is read of it
+module _ {s : List ℕ} {at : ℕ} {t : Tok} (l : Lexed s at t) (k : ℕ) (P : List ℕ → Type 0) where
+  abbrev reads-kind : List ℕ → Parsed (List ℕ) (List ℕ)
+  reads-kind u = cond (eqb (kind (peek-in u)) k) (done (text (peek-in u)) (skip-in u)) broken
+
+  pub kind-there : t .kind ≡ k → P (text (peek-in (drop at s))) → Lands P s (reads-kind (drop at s)) (t .stop)
+  kind-there e p = subst (λ (x : Parsed (List ℕ) (List ℕ)). Lands P s x (t .stop)) (sym (ap (λ (b : Bool). cond b (done (text (peek-in (drop at s))) (skip-in (drop at s))) broken) (eq-eqb _ k (l .kinds ∙ e)))) (l .next, l .within, p)
+
+  pub kind-other : (t .kind ≡ k → ⊥) → Lands P s (reads-kind (drop at s)) (length s + 1)
+  kind-other n = subst (λ (x : Parsed (List ℕ) (List ℕ)). Lands P s x (length s + 1)) (sym (ap (λ (b : Bool). cond b (done (text (peek-in (drop at s))) (skip-in (drop at s))) broken) (ne-eqb _ k (λ (e : kind (peek-in (drop at s)) ≡ k). n (sym (l .kinds) ∙ e))))) refl
+
+pub spells : {s : List ℕ} {at : ℕ} {t : Tok} → Lexed s at t → t .kind ≡ 1 → Spells s (record { next = t .stop; start = t .start }) (text (peek-in (drop at s)))
+spells {s} {at} l e = record { bytes = l .bytes; order = l .order; short = name-short (drop at s) (l .kinds ∙ e) }
+
+module _ (s : List ℕ) (at : ℕ) (b : at ≤ length s) (P : Lead → Type 0) where
+  abbrev lead-as : Bool → Bool → List ℕ → Parsed (List ℕ) Lead
+  lead-as p m u = cond p (done plus (skip-in u)) (cond m (done minus (skip-in u)) (done bare u))
+
+  by-text : readLead peek-in skip-in (drop at s) ≡ lead-as (same (bytes "+") (text (peek-in (drop at s)))) (same (bytes "-") (text (peek-in (drop at s)))) (drop at s)
+  by-text = λ i. lead-as (sign-text (bytes "+") refl (drop at s) i) (sign-text (bytes "-") refl (drop at s) i) (drop at s)
+
+  to : (p m : Bool) → same (bytes "+") (text (peek-in (drop at s))) ≡ p → same (bytes "-") (text (peek-in (drop at s))) ≡ m → (r : ℕ) → Lands P s (lead-as p m (drop at s)) r → Lands P s (readLead peek-in skip-in (drop at s)) r
+  to p m ep em r h = subst (λ (x : Parsed (List ℕ) Lead). Lands P s x r) (sym (by-text ∙ (λ i. lead-as (ep i) (em i) (drop at s)))) h
+
+  pub lead-plus : (r : ℕ) → Goes Any s at (passes (bytes "+")) r → r ≤ length s → P plus → Lands P s (readLead peek-in skip-in (drop at s)) r
+  lead-plus r g h p = let (e, n) = pass-there s (bytes "+") at r g b h in to true _ e refl r (n, h, p)
+
+  pub lead-minus : (q r : ℕ) → Goes Any s at (passes (bytes "+")) q → length s < q → Goes Any s at (passes (bytes "-")) r → r ≤ length s → P minus → Lands P s (readLead peek-in skip-in (drop at s)) r
+  lead-minus q r f l g h p = let (e, n) = pass-there s (bytes "-") at r g b h in to false true (pass-not s (bytes "+") at q f b l) e r (n, h, p)
+
+  pub lead-bare : (q r : ℕ) → Goes Any s at (passes (bytes "+")) q → length s < q → Goes Any s at (passes (bytes "-")) r → length s < r → P bare → Lands P s (readLead peek-in skip-in (drop at s)) at
+  lead-bare q r f l g h p = to false false (pass-not s (bytes "+") at q f b l) (pass-not s (bytes "-") at r g b h) at (refl, b, p)

@@ -6,11 +6,11 @@ use mathlib.Core.List.{List, [], _∷_}
 use mathlib.Core.Option.{Option, none, some}
 use Prim.Native.Nat.{ℕ, zero, suc, _≤_}
 use native.Mathlib.Omega.{arith}
-use borrow.Author.Tests.{eqb-true}
+use borrow.Author.Tests.{eqb-true, leb-true}
 use lib.Dec.{eqb, leb}
 use lib.ListN.{length, take, drop}
 use Rattle.syntax.specs.Bytes.{letter, digit, same, any, reserved, word-of, Token, token-of, token-size, kindOf, bytesOf, name, word, digits, sign, trimmed}
-use Rattle.syntax.specs.Reader.{text, is, peek-in, token-in}
+use Rattle.syntax.specs.Reader.{kind, text, is, peek-in, token-in}
 use Rattle.syntax.proofs.Places.{size-one}
 use Rattle.syntax.proofs.Spelling.{same-true}
 use Rattle.lexer.specs.declared.Tok.{Tok}
@@ -126,6 +126,22 @@ sign-text x h u = sign-made x h (made-in u)
 
 pub word-text : (x : List ℕ) → lettered x ≡ true → (u : List ℕ) → is (word-of x) (peek-in u) ≡ same x (text (peek-in u))
 word-text x h u = word-made x h (made-in u)
+
+-- a name is not long
+name-made : {o : Option Token} → Made o → kind o ≡ 1 → length (text o) ≤ 31
+name-made made-none h = absurd (omega (arith, h))
+name-made (made b w) h = go (letter b) (digit b) (leb (length (b ∷ w)) 31) (not (any (same (b ∷ w)) reserved)) refl h
+  where
+    go : (l d m n : Bool) → leb (length (b ∷ w)) 31 ≡ m → kindOf (cond l (cond (m && n) (name (b ∷ w)) (word (b ∷ w))) (cond d (digits (b ∷ w)) (sign (b ∷ w)))) ≡ 1
+        → length (bytesOf (cond l (cond (m && n) (name (b ∷ w)) (word (b ∷ w))) (cond d (digits (b ∷ w)) (sign (b ∷ w))))) ≤ 31
+    go true d true true e h = leb-true (length (b ∷ w)) 31 e
+    go true d true false e h = absurd (omega (arith, h))
+    go true d false n e h = absurd (omega (arith, h))
+    go false true m n e h = absurd (omega (arith, h))
+    go false false m n e h = absurd (omega (arith, h))
+
+pub name-short : (u : List ℕ) → kind (peek-in u) ≡ 1 → length (text (peek-in u)) ≤ 31
+name-short u = name-made (made-in u)
 
 -- ---- a token of the code
 

@@ -2,10 +2,13 @@
 use mathlib.Core.Path.{_≡_}
 use mathlib.Core.Bool.{cond}
 use mathlib.Core.List.{List}
-use Prim.Native.Nat.{ℕ, _+_, _≤_, _<_}
+use Prim.Native.Nat.{ℕ, zero, suc, _+_, _≤_, _<_}
 use lib.ListN.{length, drop}
 use Rattle.syntax.specs.Bytes.{same}
+use Rattle.syntax.specs.Grammar.{Lead, bare, plus, minus}
 use Rattle.syntax.specs.Reader.{Parsed, broken, done, Reader, text, peek-in, skip-in}
+use Rattle.lexer.specs.declared.Word.{Word}
+use Rattle.lexer.specs.Lex.{part}
 
 -- P holds of what is read
 abbrev pub Lands : {A : Type 0} → (A → Type 0) → List ℕ → Parsed (List ℕ) A → ℕ → Type 0
@@ -24,3 +27,15 @@ Any a = Unit {0}
 -- the token with the bytes w
 abbrev pub passes : List ℕ → Reader (List ℕ) (Unit {0})
 passes w u = cond (same w (text (peek-in u))) (done tt (skip-in u)) broken
+
+-- these bytes lie where the code found a name; "a letter and up to 30 letters, digits or underscores"
+pub record Spells (s : List ℕ) (r : Word) (w : List ℕ) : Type 0 where
+  pub bytes : w ≡ part s (r .start) (r .next)
+  pub order : r .start ≤ r .next
+  pub short : length w ≤ 31
+
+-- a sign's number
+abbrev pub leadOf : ℕ → Lead
+leadOf zero = bare
+leadOf (suc zero) = plus
+leadOf (suc (suc n)) = minus

@@ -8,7 +8,8 @@ ghost use lib.ListN.{length, drop, take};
 ghost use lib.Seq.{sets};
 ghost use Rattle.syntax.specs.Bytes.{lower as lowerOf, same, starts as startsWith, any, reserved as reservedWords, word-of, kindOf, sign-size, run, letter as isLetter, digit as isDigit, in-word as inWord};
 ghost use Rattle.syntax.specs.Grammar.{number as numberOf};
-ghost use Rattle.lexer.specs.Places.{Goes, Any, passes};
+ghost use Rattle.syntax.specs.Reader.{readName, readDigits, readLead, peek-in, skip-in};
+ghost use Rattle.lexer.specs.Places.{Goes, Any, passes, Spells, leadOf};
 ghost use Rattle.lexer.specs.Lex.{goes, part, Lexed, ended, tens};
 
 // A token: its kind (0 the end of the line, 1 a word that may be a name, 2 a word that is no name, 3 digits, 4 a sign) and where it lies.
@@ -297,4 +298,102 @@ pub fn literal(s: &[u8], t: Tok) -> u32
         i += 1;
     }
     n
+}
+
+// ---- a name, digits, a sign before digits
+
+// A name: where it lies, and the place after it, which lies past the line's end where there is none.
+pub struct Word {
+    pub next: usize,
+    pub start: usize,
+}
+
+// Digits: the number that they write, up to 2^31, and the place after them.
+pub struct Number {
+    pub next: usize,
+    pub number: u32,
+}
+
+// A sign that may begin digits: 0 none, 1 plus, 2 minus; and the place after it.
+pub struct Sign {
+    pub next: usize,
+    pub sign: u32,
+}
+
+pub fn name(s: &[u8], at: usize) -> Word
+    requires { ⌜ length (now s) ≤ 2048 ⌝ }
+    ensures { λ r. ⌜ Goes (Spells (now (s .entry)) r) (now (s .entry)) at (readName peek-in skip-in) (r .next) ⌝ }
+{
+    if s.len() < at {
+        return Word {
+            next: s.len() + 1,
+            start: 0,
+        };
+    }
+    let t = token(s, at);
+    let k = t.kind;
+    if k == 1 {
+        Word {
+            next: t.stop,
+            start: t.start,
+        }
+    } else {
+        Word {
+            next: s.len() + 1,
+            start: 0,
+        }
+    }
+}
+
+pub fn digits(s: &[u8], at: usize) -> Number
+    requires { ⌜ length (now s) ≤ 2048 ⌝ }
+    ensures { λ r. ⌜ Goes (λ d. r .number ≡ min (numberOf d) 2147483648) (now (s .entry)) at (readDigits peek-in skip-in) (r .next) ⌝ }
+{
+    if s.len() < at {
+        return Number {
+            next: s.len() + 1,
+            number: 0,
+        };
+    }
+    let t = token(s, at);
+    let k = t.kind;
+    let e = t.stop;
+    if k == 3 {
+        Number {
+            next: e,
+            number: literal(s, t),
+        }
+    } else {
+        Number {
+            next: s.len() + 1,
+            number: 0,
+        }
+    }
+}
+
+pub fn lead(s: &[u8], at: usize) -> Sign
+    requires { ⌜ length (now s) ≤ 2048 ⌝ }
+    ensures { λ r. ⌜ Goes (λ l. leadOf (r .sign) ≡ l) (now (s .entry)) at (readLead peek-in skip-in) (r .next) ⌝ }
+{
+    if s.len() < at {
+        return Sign {
+            next: s.len() + 1,
+            sign: 0,
+        };
+    }
+    let plus = pass(s, at, b"+");
+    if plus <= s.len() {
+        return Sign {
+            next: plus,
+            sign: 1,
+        };
+    }
+    let minus = pass(s, at, b"-");
+    if minus <= s.len() {
+        return Sign {
+            next: minus,
+            sign: 2,
+        };
+    }
+    Sign { next: at, sign: 0 }
 }
