@@ -1,16 +1,19 @@
 -- One reader after the other, by the places where they land.
 use mathlib.Core.Path.{_≡_, refl, sym, _∙_, ap, subst}
 use mathlib.Core.Bool.{Bool, true, false, cond}
-use mathlib.Core.List.{List}
+use mathlib.Core.List.{List, [], _∷_}
 use Prim.Native.Nat.{ℕ, _+_, _≤_, _<_}
 use Prim.Native.String.{String}
+use native.Mathlib.Decide.{decLt}
 use native.Mathlib.Omega.{arith}
-use lib.ListN.{length, drop}
-use Rattle.syntax.specs.Bytes.{same, bytes, sign, word-of}
+use lib.ListN.{length, drop, length-drop}
+use Rattle.syntax.specs.Bytes.{choose, same, bytes, sign, word-of, token-size, trimmed}
+use Rattle.syntax.proofs.Places.{size-one}
+use Rattle.syntax.proofs.Spelling.{same-true}
 use borrow.Author.Tests.{eq-eqb, ne-eqb}
 use lib.Dec.{eqb}
 use Rattle.syntax.specs.Grammar.{Lead, bare, plus, minus}
-use Rattle.syntax.specs.Reader.{Parsed, broken, done, Reader, next, kind, text, is, expects, wants, readLead, peek-in, skip-in}
+use Rattle.syntax.specs.Reader.{Parsed, broken, done, Reader, next, kind, text, is, expects, wants, readLead, token-in, after-in, peek-in, skip-in}
 use Rattle.lexer.specs.declared.Tok.{Tok}
 use Rattle.lexer.specs.Lex.{part, Lexed}
 use Rattle.lexer.specs.Places.{Lands, Goes, Any, passes, Spells}
@@ -22,13 +25,31 @@ module _ {A B : Type 0} (P : A → Type 0) (Q : B → Type 0) (s : List ℕ) (k 
   lands-next broken h f g = g (omega (arith, h))
   lands-next (done a u) h f g = subst (λ (w : List ℕ). Lands Q s (k a w) r) (sym (h .0)) (f a (h .2) (h .1))
 
-  pub goes-next : {at : ℕ} {R : Reader (List ℕ) A} → Goes P s at R m → ((a : A) → P a → m ≤ length s → Lands Q s (k a (drop m s)) r) → (length s < m → r ≡ length s + 1) → Goes Q s at (λ u. next (R u) k) r
-  goes-next {at} {R} h f g = record { lands = λ b. lands-next (R (drop at s)) (h .lands b) f g; lost = λ b. g (omega (arith, h .lost b)) }
+  pub goes-next : {at : ℕ} {R : Reader (List ℕ) A} → Goes P s at R m → ((a : A) → P a → m ≤ length s → Lands Q s (k a (drop m s)) r) → (m ≤ length s → m ≤ r) → (length s < m → r ≡ length s + 1) → Goes Q s at (λ u. next (R u) k) r
+  goes-next {at} {R} h f e g = record {
+    lands = λ b. lands-next (R (drop at s)) (h .lands b) f g;
+    from = λ b. elim (decLt (length s) m) [
+      | yes l ↦ omega (arith, g l)
+      | no l ↦ omega (arith, h .from b, e (omega arith))
+    ];
+    lost = λ b. g (omega (arith, h .lost b));
+  }
 
 -- nothing more is read
 pub lands-yield : {A B : Type 0} (P : A → Type 0) (Q : B → Type 0) (s : List ℕ) (f : A → B) (m : ℕ) (p : Parsed (List ℕ) A) → Lands P s p m → ((a : A) → P a → Q (f a)) → Lands Q s (next p (λ a. done (f a))) m
 lands-yield P Q s f m broken h g = h
 lands-yield P Q s f m (done a u) h g = (h .0, h .1, g a (h .2))
+
+-- a place past the line's end is the one that stands for nothing read
+pub lands-end : {A : Type 0} (P : A → Type 0) (s : List ℕ) (p : Parsed (List ℕ) A) (m : ℕ) → Lands P s p m → length s < m → m ≡ length s + 1
+lands-end P s broken m h b = h
+lands-end P s (done a u) m h b = absurd (omega (arith, h .1))
+
+pub goes-end : {A : Type 0} {P : A → Type 0} {s : List ℕ} {at : ℕ} {R : Reader (List ℕ) A} {m : ℕ} → Goes P s at R m → length s < m → m ≡ length s + 1
+goes-end {P} {s} {at} {R} {m} h b = elim (decLt (length s) at) [
+  | yes l ↦ h .lost l
+  | no l ↦ lands-end P s (R (drop at s)) m (h .lands (omega arith)) b
+]
 
 -- a sign and a word, by their bytes
 pub expects-passes : (t : String) → signed (bytes t) ≡ true → (u : List ℕ) → expects peek-in skip-in t u ≡ passes (bytes t) u
@@ -60,6 +81,31 @@ module _ (s w : List ℕ) (at r : ℕ) (g : Goes Any s at (passes w) r) (b : at 
 
   pub pass-not : length s < r → same w (text (peek-in (drop at s))) ≡ false
   pass-not = found (same w (text (peek-in (drop at s)))) refl (g .lands b) .1
+
+-- ---- a token that is passed over has bytes
+
+trimmed-length : (u : List ℕ) → length (trimmed u) ≤ length u
+unfolding trimmed
+trimmed-length [] = omega arith
+trimmed-length (b ∷ u) = go (eqb b 32) (trimmed-length u)
+  where
+    go : (x : Bool) → length (trimmed u) ≤ length u → length (choose x (λ _. trimmed u) (λ _. b ∷ u)) ≤ length (b ∷ u)
+    go true h = omega (arith, h)
+    go false h = omega arith
+
+skip-shorter : (u : List ℕ) → 0 < length (text (peek-in u)) → length (skip-in u) < length u
+unfolding peek-in skip-in
+skip-shorter u h = go (trimmed u) (trimmed-length u) h
+  where
+    go : (l : List ℕ) → length l ≤ length u → 0 < length (text (token-in l)) → length (after-in l) < length u
+    go [] b h = absurd (omega (arith, h))
+    go (b ∷ l) k h = omega (arith, length-drop (token-size b l) (b ∷ l), size-one b l, k)
+
+pub pass-onward : (s w : List ℕ) (at r : ℕ) → Goes Any s at (passes w) r → 0 < length w → at ≤ length s → r ≤ length s → at < r
+pass-onward s w at r g h b k =
+    let (e, n) = pass-there s w at r g b k in
+    let q = ap length (same-true w (text (peek-in (drop at s))) e) in
+    omega (arith, skip-shorter (drop at s) (omega (arith, q)), ap length n, length-drop at s, length-drop r s)
 
 -- ---- a name, digits, a sign
 
@@ -95,3 +141,7 @@ module _ (s : List ℕ) (at : ℕ) (b : at ≤ length s) (P : Lead → Type 0) w
 
   pub lead-bare : (q r : ℕ) → Goes Any s at (passes (bytes "+")) q → length s < q → Goes Any s at (passes (bytes "-")) r → length s < r → P bare → Lands P s (readLead peek-in skip-in (drop at s)) at
   lead-bare q r f l g h p = to false false (pass-not s (bytes "+") at q f b l) (pass-not s (bytes "-") at r g b h) at (refl, b, p)
+
+-- a sign that ends what is read
+pub lands-expect : {B : Type 0} (Q : B → Type 0) (s : List ℕ) (t : String) → signed (bytes t) ≡ true → (m c : ℕ) → Goes Any s m (passes (bytes t)) c → m ≤ length s → (b : B) → Q b → Lands Q s (next (expects peek-in skip-in t (drop m s)) (λ _. done b)) c
+lands-expect Q s t h m c g l b q = lands-yield Any Q s (λ _. b) c (expects peek-in skip-in t (drop m s)) (subst (λ (x : Parsed (List ℕ) (Unit {0})). Lands Any s x c) (sym (expects-passes t h (drop m s))) (g .lands l)) (λ _ _. q)

@@ -18,6 +18,7 @@ Lands P s (done a u) r = (u ≡ drop r s) × (r ≤ length s) × P a
 -- from a place, which may itself lie past the line's end
 pub record Goes {A : Type 0} (P : A → Type 0) (s : List ℕ) (at : ℕ) (read : Reader (List ℕ) A) (r : ℕ) : Type 0 where
   pub lands : at ≤ length s → Lands P s (read (drop at s)) r
+  pub from : at ≤ length s → at ≤ r
   pub lost : length s < at → r ≡ length s + 1
 
 -- nothing is said of what is read

@@ -19,7 +19,7 @@ add-t9 c = search needs
 
 -- src/lib.rt:353:9
 returns : tie.Need-returns
-returns c = record { lands = λ h. absurd (omega arith); lost = λ h. refl }
+returns c = record { lands = λ h. absurd (omega arith); from = λ h. absurd (omega arith); lost = λ h. refl }
 
 -- src/lib.rt:358:9
 token-requires : tie.Need-token-requires
@@ -35,11 +35,11 @@ add-t13 c = search needs
 
 -- src/lib.rt:348:1
 returns-2 : tie.Need-returns-2
-returns-2 c = record { lands = λ h. kind-there (c .before .before .token .ensures) 3 _ (c .before .if2 .taken) (c .literal .ensures ∙ ap (λ (w : List ℕ). min (number w) 2147483648) (sym (c .before .before .token .ensures .bytes))); lost = λ h. absurd (omega arith) }
+returns-2 c = record { lands = λ h. kind-there (c .before .before .token .ensures) 3 _ (c .before .if2 .taken) (c .literal .ensures ∙ ap (λ (w : List ℕ). min (number w) 2147483648) (sym (c .before .before .token .ensures .bytes))); from = λ h. omega (arith, c .before .before .token .ensures .from, c .before .before .token .ensures .order, c .before .before .token .ensures .within); lost = λ h. absurd (omega arith) }
 
 -- src/lib.rt:348:1
 returns-3 : tie.Need-returns-3
-returns-3 c = record { lands = λ h. kind-other (c .before .token .ensures) 3 _ (c .if2 .left); lost = λ h. absurd (omega arith) }
+returns-3 c = record { lands = λ h. kind-other (c .before .token .ensures) 3 _ (c .if2 .left); from = λ h. omega (arith, c .before .token .ensures .from, c .before .token .ensures .order, c .before .token .ensures .within); lost = λ h. absurd (omega arith) }
 
 pub digits-spec : {M : Type 1} → statement M
 digits-spec =

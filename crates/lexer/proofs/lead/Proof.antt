@@ -15,7 +15,7 @@ add-t10 c = search needs
 
 -- src/lib.rt:379:9
 returns : tie.Need-returns
-returns c = record { lands = λ h. absurd (omega arith); lost = λ h. refl }
+returns c = record { lands = λ h. absurd (omega arith); from = λ h. absurd (omega arith); lost = λ h. refl }
 
 -- src/lib.rt:384:28
 slice-aggregate-pass : tie.Need-slice-aggregate-pass
@@ -27,7 +27,7 @@ pass-requires c κs = search needs
 
 -- src/lib.rt:386:9
 returns-2 : tie.Need-returns-2
-returns-2 c = record { lands = λ h. lead-plus _ _ h _ _ (c .before .pass .ensures) (c .if2 .taken) refl; lost = λ h. absurd (omega arith) }
+returns-2 c = record { lands = λ h. lead-plus _ _ h _ _ (c .before .pass .ensures) (c .if2 .taken) refl; from = λ h. omega (arith, c .before .pass .ensures .from h); lost = λ h. absurd (omega arith) }
 
 -- src/lib.rt:391:29
 slice-aggregate-pass-2 : tie.Need-slice-aggregate-pass-2
@@ -39,11 +39,11 @@ pass-requires-2 c κs = search needs
 
 -- src/lib.rt:393:9
 returns-3 : tie.Need-returns-3
-returns-3 c = record { lands = λ h. lead-minus _ _ h _ _ _ (c .before .before .before .before .pass .ensures) (omega arith) (c .before .pass2 .ensures) (c .if3 .taken) refl; lost = λ h. absurd (omega arith) }
+returns-3 c = record { lands = λ h. lead-minus _ _ h _ _ _ (c .before .before .before .before .pass .ensures) (omega arith) (c .before .pass2 .ensures) (c .if3 .taken) refl; from = λ h. omega (arith, c .before .pass2 .ensures .from h); lost = λ h. absurd (omega arith) }
 
 -- src/lib.rt:374:1
 returns-4 : tie.Need-returns-4
-returns-4 c = record { lands = λ h. lead-bare _ _ h _ _ _ (c .before .before .before .before .pass .ensures) (omega arith) (c .before .pass2 .ensures) (omega arith) refl; lost = λ h. absurd (omega arith) }
+returns-4 c = record { lands = λ h. lead-bare _ _ h _ _ _ (c .before .before .before .before .pass .ensures) (omega arith) (c .before .pass2 .ensures) (omega arith) refl; from = λ h. omega arith; lost = λ h. absurd (omega arith) }
 
 pub lead-spec : {M : Type 1} → statement M
 lead-spec =

@@ -15,7 +15,7 @@ add-t8 c = search needs
 
 -- src/lib.rt:328:9
 returns : tie.Need-returns
-returns c = record { lands = λ h. absurd (omega arith); lost = λ h. refl }
+returns c = record { lands = λ h. absurd (omega arith); from = λ h. absurd (omega arith); lost = λ h. refl }
 
 -- src/lib.rt:333:9
 token-requires : tie.Need-token-requires
@@ -27,11 +27,11 @@ add-t11 c = search needs
 
 -- src/lib.rt:323:1
 returns-2 : tie.Need-returns-2
-returns-2 c = record { lands = λ h. kind-there (c .before .token .ensures) 1 _ (c .if2 .taken) (spells (c .before .token .ensures) (c .if2 .taken)); lost = λ h. absurd (omega arith) }
+returns-2 c = record { lands = λ h. kind-there (c .before .token .ensures) 1 _ (c .if2 .taken) (spells (c .before .token .ensures) (c .if2 .taken)); from = λ h. omega (arith, c .before .token .ensures .from, c .before .token .ensures .order, c .before .token .ensures .within); lost = λ h. absurd (omega arith) }
 
 -- src/lib.rt:323:1
 returns-3 : tie.Need-returns-3
-returns-3 c = record { lands = λ h. kind-other (c .before .token .ensures) 1 _ (c .if2 .left); lost = λ h. absurd (omega arith) }
+returns-3 c = record { lands = λ h. kind-other (c .before .token .ensures) 1 _ (c .if2 .left); from = λ h. omega (arith, c .before .token .ensures .from, c .before .token .ensures .order, c .before .token .ensures .within); lost = λ h. absurd (omega arith) }
 
 pub name-spec : {M : Type 1} → statement M
 name-spec = tie.close (tie.spec add-t8 returns token-requires add-t11 returns-2 returns-3)

@@ -16,7 +16,7 @@ add-result c = search needs
 
 -- src/lib.rt:264:9
 returns : tie.Need-returns
-returns c = record { lands = λ h. absurd (omega arith); lost = λ h. refl }
+returns c = record { lands = λ h. absurd (omega arith); from = λ h. absurd (omega arith); lost = λ h. refl }
 
 -- src/lib.rt:266:9
 token-requires : tie.Need-token-requires
@@ -32,11 +32,11 @@ add-result-2 c = search needs
 
 -- src/lib.rt:259:1
 returns-2 : tie.Need-returns-2
-returns-2 c = record { lands = λ h. passes-there (c .before .before .token .ensures) (c .before .before .before .before .before .before .args .w .now) (sym (c .before .reads .ensures) ∙ c .if2 .taken); lost = λ h. absurd (omega arith) }
+returns-2 c = record { lands = λ h. passes-there (c .before .before .token .ensures) (c .before .before .before .before .before .before .args .w .now) (sym (c .before .reads .ensures) ∙ c .if2 .taken); from = λ h. omega (arith, c .before .before .token .ensures .from, c .before .before .token .ensures .order, c .before .before .token .ensures .within); lost = λ h. absurd (omega arith) }
 
 -- src/lib.rt:259:1
 returns-3 : tie.Need-returns-3
-returns-3 c = record { lands = λ h. passes-other (c .before .before .token .ensures) (c .before .before .before .before .before .before .args .w .now) (sym (c .before .reads .ensures) ∙ c .if2 .left); lost = λ h. absurd (omega arith) }
+returns-3 c = record { lands = λ h. passes-other (c .before .before .token .ensures) (c .before .before .before .before .before .before .args .w .now) (sym (c .before .reads .ensures) ∙ c .if2 .left); from = λ h. omega (arith, c .before .before .token .ensures .from, c .before .before .token .ensures .order, c .before .before .token .ensures .within); lost = λ h. absurd (omega arith) }
 
 pub pass-spec : {M : Type 1} → statement M
 pass-spec =
