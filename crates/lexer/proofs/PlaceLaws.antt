@@ -7,13 +7,13 @@ use Prim.Native.String.{String}
 use native.Mathlib.Decide.{decLt}
 use native.Mathlib.Omega.{arith}
 use lib.ListN.{length, drop, length-drop}
-use Rattle.syntax.specs.Bytes.{choose, same, bytes, sign, word-of, token-size, trimmed}
+use Rattle.syntax.specs.Bytes.{choose, same, bytes, token-size, trimmed}
 use Rattle.syntax.proofs.Places.{size-one}
 use Rattle.syntax.proofs.Spelling.{same-true}
 use borrow.Author.Tests.{eq-eqb, ne-eqb}
 use lib.Dec.{eqb}
 use Rattle.syntax.specs.Grammar.{Lead, bare, plus, minus}
-use Rattle.syntax.specs.Reader.{Parsed, broken, done, Reader, next, kind, text, is, expects, wants, readLead, token-in, after-in, peek-in, skip-in}
+use Rattle.syntax.specs.Reader.{Parsed, broken, done, Reader, next, kind, text, expects, wants, readLead, token-in, after-in, peek-in, skip-in}
 use Rattle.lexer.specs.declared.Tok.{Tok}
 use Rattle.lexer.specs.Lex.{part, Lexed}
 use Rattle.lexer.specs.Places.{Lands, Goes, Any, passes, Spells}
@@ -50,6 +50,25 @@ goes-end {P} {s} {at} {R} {m} h b = elim (decLt (length s) at) [
   | yes l ↦ h .lost l
   | no l ↦ lands-end P s (R (drop at s)) m (h .lands (omega arith)) b
 ]
+
+-- something else is said of what is read
+pub goes-saying : {A : Type 0} {P Q : A → Type 0} {s : List ℕ} {at : ℕ} {R : Reader (List ℕ) A} {m : ℕ} → Goes P s at R m → (m ≤ length s → (a : A) → P a → Q a) → Goes Q s at R m
+goes-saying {A} {P} {Q} {s} {at} {R} {m} h f = record { lands = λ b. go (R (drop at s)) (h .lands b); from = h .from; lost = h .lost }
+  where
+    go : (p : Parsed (List ℕ) A) → Lands P s p m → Lands Q s p m
+    go broken w = w
+    go (done a u) w = (w .0, w .1, f (w .1) a (w .2))
+
+-- what is read where a place in the line is reached
+pub goes-some : {A : Type 0} {P : A → Type 0} {s : List ℕ} {at : ℕ} {R : Reader (List ℕ) A} {m : ℕ} → Goes P s at R m → m ≤ length s → (a : A) × (at ≤ length s) × (R (drop at s) ≡ done a (drop m s)) × P a
+goes-some {A} {P} {s} {at} {R} {m} h b = elim (decLt (length s) at) [
+  | yes l ↦ absurd (omega (arith, h .lost l))
+  | no l ↦ go (omega arith) (R (drop at s)) refl (h .lands (omega arith))
+]
+  where
+    go : at ≤ length s → (p : Parsed (List ℕ) A) → R (drop at s) ≡ p → Lands P s p m → (a : A) × (at ≤ length s) × (R (drop at s) ≡ done a (drop m s)) × P a
+    go l broken e w = absurd (omega (arith, w))
+    go l (done a u) e w = (a, l, e ∙ ap (done a) (w .0), w .2)
 
 -- a sign and a word, by their bytes
 pub expects-passes : (t : String) → signed (bytes t) ≡ true → (u : List ℕ) → expects peek-in skip-in t u ≡ passes (bytes t) u

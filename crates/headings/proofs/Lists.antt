@@ -1,0 +1,74 @@
+-- A list of parts with commas between them, by the places where its parts land.
+use mathlib.Core.Path.{_≡_, refl, sym, _∙_, ap, subst}
+use mathlib.Core.Bool.{Bool, true, false}
+use mathlib.Core.List.{List, [], _∷_}
+use Prim.Native.Nat.{ℕ, suc, _≤_, _<_, max}
+use native.Mathlib.Omega.{arith}
+use lib.ListN.{length, drop}
+use Rattle.syntax.specs.Bytes.{bytes, choose, same}
+use Rattle.syntax.specs.Reader.{Parsed, broken, done, Reader, next, text, readMore, peek-in, skip-in}
+use Rattle.lexer.specs.Places.{Lands, Goes, Any, passes}
+use Rattle.lexer.proofs.PlaceLaws.{pass-there, pass-not, lands-next, lands-end}
+use Rattle.lexer.proofs.Said.{sign-text}
+use Rattle.headings.specs.Lists.{readSome, order}
+
+module _ {A : Type 0} (r : Reader (List ℕ) A) (s : List ℕ) where
+  -- further parts where a comma stands, and where none does
+  more-by : (f : ℕ) (m : ℕ) (b : Bool) → same (bytes ",") (text (peek-in (drop m s))) ≡ b → readMore peek-in skip-in (suc f) r (drop m s) ≡ choose b (λ _. readSome f r (skip-in (drop m s))) (λ _. done [] (drop m s))
+  unfolding readMore
+  more-by f m b e = ap (λ (c : Bool). choose c (λ _. readSome f r (skip-in (drop m s))) (λ _. done [] (drop m s))) (sign-text (bytes ",") refl (drop m s) ∙ e)
+
+  pub more-comma : (f m c : ℕ) → Goes Any s m (passes (bytes ",")) c → m ≤ length s → c ≤ length s → readMore peek-in skip-in (suc f) r (drop m s) ≡ readSome f r (drop c s)
+  more-comma f m c g h k = let (e, n) = pass-there s (bytes ",") m c g h k in more-by f m true e ∙ ap (readSome f r) n
+
+  pub more-none : (f m c : ℕ) → Goes Any s m (passes (bytes ",")) c → m ≤ length s → length s < c → readMore peek-in skip-in (suc f) r (drop m s) ≡ done [] (drop m s)
+  more-none f m c g h k = more-by f m false (pass-not s (bytes ",") m c g h k)
+
+  module _ (Q : List A → Type 0) (at m c n : ℕ) (f : ℕ) (g : Goes Any s m (passes (bytes ",")) c) where
+    -- a part that is not read
+    pub some-broken : (P : A → Type 0) → Lands P s (r (drop at s)) m → length s < m → Lands Q s (readSome (suc f) r (drop at s)) m
+    some-broken P h b = lands-next P Q s (λ a u. next (readMore peek-in skip-in (suc f) r u) (λ xs. done (a ∷ xs))) m m (r (drop at s)) h (λ a p l. absurd (omega arith)) (λ _. lands-end P s (r (drop at s)) m h b)
+
+    module _ (a : A) (h : r (drop at s) ≡ done a (drop m s)) (b : m ≤ length s) where
+      by : (x : Parsed (List ℕ) (List A)) → readMore peek-in skip-in (suc f) r (drop m s) ≡ x → (k : ℕ) → Lands Q s (next x (λ xs. done (a ∷ xs))) k → Lands Q s (readSome (suc f) r (drop at s)) k
+      by x e k l = subst (λ (p : Parsed (List ℕ) A). Lands Q s (next p (λ a u. next (readMore peek-in skip-in (suc f) r u) (λ xs. done (a ∷ xs)))) k) (sym h) (subst (λ (y : Parsed (List ℕ) (List A)). Lands Q s (next y (λ xs. done (a ∷ xs))) k) (sym e) l)
+
+      -- the last part
+      pub some-last : length s < c → Q (a ∷ []) → Lands Q s (readSome (suc f) r (drop at s)) m
+      some-last k q = by (done [] (drop m s)) (more-none f m c g b k) m (refl, b, q)
+
+      -- a part, a comma, and the rest
+      pub some-more : c ≤ length s → (R : List A → Type 0) → Lands R s (readSome f r (drop c s)) n → ((xs : List A) (u : List ℕ) → readMore peek-in skip-in (suc f) r (drop m s) ≡ done xs u → R xs → Q (a ∷ xs)) → Lands Q s (readSome (suc f) r (drop at s)) n
+      some-more k R w q = go (readSome f r (drop c s)) (more-comma f m c g b k) w
+        where
+          go : (x : Parsed (List ℕ) (List A)) → readMore peek-in skip-in (suc f) r (drop m s) ≡ x → Lands R s x n → Lands Q s (readSome (suc f) r (drop at s)) n
+          go broken e w = by broken e n w
+          go (done xs u) e w = by (done xs u) e n (w .0, w .1, q xs u e (w .2))
+
+-- ---- ranks
+
+pub order-unnamed : (n b : Bool) → n ≡ false → order n b ≡ 2
+order-unnamed n b h = ap (λ (x : Bool). order x b) h
+
+pub order-good : (n b : Bool) → n ≡ true → b ≡ true → order n b ≡ 0
+order-good n b h k = ap (λ (x : Bool). order x b) h ∙ ap (λ (x : Bool). order true x) k
+
+pub order-large : (n b : Bool) → n ≡ true → b ≡ false → order n b ≡ 1
+order-large n b h k = ap (λ (x : Bool). order x b) h ∙ ap (λ (x : Bool). order true x) k
+
+pub order-most : (n b : Bool) → order n b ≤ 2
+order-most true true = omega arith
+order-most true false = omega arith
+order-most false b = omega arith
+
+pub order-some : (n : Bool) → 1 ≤ order n false
+order-some true = omega arith
+order-some false = omega arith
+
+-- limits are no matter once one is passed
+pub order-either : (n a b : Bool) (m : ℕ) → 1 ≤ m → max m (order n a) ≡ max m (order n b)
+order-either true true true m h = refl
+order-either true true false m h = omega arith
+order-either true false true m h = omega arith
+order-either true false false m h = refl
+order-either false a b m h = refl

@@ -1,0 +1,22 @@
+-- Lists of parts with a comma between them, and ranks.
+use mathlib.Core.Bool.{Bool, cond}
+use mathlib.Core.List.{List, _∷_}
+use mathlib.Core.Path.{_≡_}
+use Prim.Native.Nat.{ℕ, _≤_}
+use Rattle.syntax.specs.Reader.{Reader, yield, readMore, peek-in, skip-in}
+use Rattle.names.specs.Table.{wordAt, variableOf}
+
+-- one part, and further ones
+abbrev pub readSome : {A : Type 0} → ℕ → Reader (List ℕ) A → Reader (List ℕ) (List A)
+readSome f r = do
+  a ← r
+  more ← readMore peek-in skip-in f r
+  yield (a ∷ more)
+
+-- 0 in order, 1 over a limit (number 4), 2 a wrong name (number 3)
+abbrev pub order : Bool → Bool → ℕ
+order named small = cond named (cond small 0 1) 2
+
+-- the loop's variable stays as it is
+abbrev pub Keeps : List ℕ → List ℕ → Type 0
+Keeps T T′ = wordAt T 16 32 ≤ 32 → (wordAt T′ 16 32 ≤ 32) × (variableOf T′ ≡ variableOf T)
