@@ -271,7 +271,7 @@ module _ (t : List Entry) (T s : List ℕ) (c most : ℕ) (T₁ : List ℕ) (r�
 
     pub tabled₁ : Tabled T₁ (t ++ (e ∷ []))
     tabled₁ = subst (λ (n : ℕ). Tabled T₁ (t ++ (declared (declaredName d) c n (takesSubscript d) ∷ []))) least
-        (p .enters .added z .table t tab (sizes .3) (good .1) (omega (arith, sizes .2)) (omega (arith, sizes .1)))
+        (p .enters .added z .table t tab (sizes .3) (good .1) (omega (arith, sizes .1, sizes .2)))
 
     pub cells₁ : r₁ .cells ≡ c + declaredSize d
     cells₁ = p .enters .more z ∙ ap (λ (n : ℕ). c + n) least

@@ -3,7 +3,7 @@ use mathlib.Core.Bool.{Bool, cond}
 use mathlib.Core.List.{List, _∷_}
 use mathlib.Core.Path.{_≡_}
 use Prim.Native.Nat.{ℕ, _≤_}
-use Rattle.syntax.specs.Reader.{Reader, yield, readMore, peek-in, skip-in}
+use Rattle.syntax.specs.Reader.{Reader, _>>=_, yield, readMore, peek-in, skip-in}
 use Rattle.names.specs.Table.{wordAt, variableOf}
 
 -- one part, and further ones

@@ -117,7 +117,7 @@ module _ (T : List ℕ) (i facts : ℕ) (b : i < 16) where
               let e = getD t j nowhere in
               let g = at-map j m in
               let o = d .bounded j m in
-              (omega (arith, ap (λ (x : Entry). x .first) g, a e .1, o .0), omega (arith, ap (λ (x : Entry). x .size) g, a e .2, o .1));
+              omega (arith, ap (λ (x : Entry). x .first) g, a e .1, o, ap (λ (x : Entry). x .size) g, a e .2);
         }
 
 -- ---- data, clauses
@@ -309,8 +309,8 @@ module _ (T w : List ℕ) (n first size : ℕ) (sub : Bool) (T₁ : List ℕ) (p
       | no b ↦ let q : i ≡ length t = omega (arith, many) in subst (λ (j : ℕ). P j (getD (t ++ (e ∷ [])) j nowhere)) (sym q) (subst (P (length t)) (sym (getD-append-seam t e [] nowhere)) (subst (λ (j : ℕ). P j e) at-end h))
     ]
 
-    pub tabled-more : first ≤ 4096 → size ≤ 4096 → Tabled more-names (t ++ (e ∷ []))
-    tabled-more bf bs = record {
+    pub tabled-more : first + size ≤ 4096 → Tabled more-names (t ++ (e ∷ []))
+    tabled-more b = record {
       long = omega (arith, more-long, long₁);
       count = count-here long₁ ∙ omega (arith, at-end, many);
       few = omega (arith, many);
@@ -319,13 +319,13 @@ module _ (T w : List ℕ) (n first size : ℕ) (sub : Bool) (T₁ : List ℕ) (p
           (λ j b l. ap (λ (x : Entry). same (getD t j nowhere .name) (x .name)) (getD-left t (e ∷ []) i (omega arith)) ∙ d .distinct i j l b)
           (λ l. ap (λ (x : Entry). same w (x .name)) (getD-left t (e ∷ []) i (omega (arith, at-end))) ∙ unknown-at w t u i (omega (arith, at-end)))
           j m l;
-      bounded = each (λ i x. (x .first ≤ 4096) × (x .size ≤ 4096)) (d .bounded) (bf, bs);
+      bounded = each (λ i x. x .first + x .size ≤ 4096) (d .bounded) b;
     }
 
   pub added : Added T w first size sub more-names
   added = record {
     variable = λ h. name-kept T more-names 16 h (λ k m. elsewhere (576 + k) (omega arith) (omega arith) (omega arith) (omega arith) ∙ p .after (576 + k) (omega arith));
-    table = λ t d f u bf bs. tabled-more t d f u bf bs;
+    table = λ t d f u b. tabled-more t d f u b;
     unclaimed = λ t d f v j l. elim (ℕ-discrete j n) [
       | yes q ↦ ap (λ (k : ℕ). wordAt more-names k 35 / 4) q ∙ ap (λ (x : ℕ). x / 4) (facts-there (omega (arith, p .long, d .long)) ∙ ef) ∙ none-in sub
       | no m ↦ ap (λ (x : ℕ). x / 4) (elsewhere (36 * j + 35) (omega arith) (omega arith) (omega arith) (omega (arith, d .count)) ∙ p .before (36 * j + 35) (omega (arith, d .count))) ∙ v j (omega (arith, d .count))
@@ -340,6 +340,6 @@ module _ (T w : List ℕ) (n first size : ℕ) (sub : Bool) (T₁ : List ℕ) (p
 pub full : (T w : List ℕ) (first size : ℕ) (sub : Bool) → 16 ≤ min (getD T 612 0) 16 → Added T w first size sub T
 full T w first size sub h = record {
   variable = λ _. refl;
-  table = λ t d f u bf bs. absurd (omega (arith, d .count));
+  table = λ t d f u b. absurd (omega (arith, d .count));
   unclaimed = λ t d f v. absurd (omega (arith, d .count));
 }

@@ -50,7 +50,7 @@ pub record Tabled (T : List ℕ) (t : List Entry) : Type 0 where
   pub few : length t ≤ 16
   pub rows : (i : ℕ) → i < length t → Row T i (getD t i nowhere)
   pub distinct : (i j : ℕ) → i < j → j < length t → same (getD t j nowhere .name) (getD t i nowhere .name) ≡ false
-  pub bounded : (i : ℕ) → i < length t → (getD t i nowhere .first ≤ 4096) × (getD t i nowhere .size ≤ 4096)
+  pub bounded : (i : ℕ) → i < length t → getD t i nowhere .first + getD t i nowhere .size ≤ 4096
 
 -- none of the first n names stands in a clause
 abbrev pub Unclaimed : List ℕ → ℕ → Type 0
@@ -76,7 +76,7 @@ declared w first size sub = record { name = w; first = first; subscripted = sub;
 -- T′ is T with a name more
 pub record Added (T w : List ℕ) (first size : ℕ) (sub : Bool) (T′ : List ℕ) : Type 0 where
   pub variable : wordAt T 16 32 ≤ 32 → variableOf T′ ≡ variableOf T
-  pub table : (t : List Entry) → Tabled T t → length t < 16 → known w t ≡ false → first ≤ 4096 → size ≤ 4096 → Tabled T′ (t ++ (declared w first size sub ∷ []))
+  pub table : (t : List Entry) → Tabled T t → length t < 16 → known w t ≡ false → first + size ≤ 4096 → Tabled T′ (t ++ (declared w first size sub ∷ []))
   pub unclaimed : (t : List Entry) → Tabled T t → length t < 16 → Unclaimed T (length t) → Unclaimed T′ (length t + 1)
 
 -- T′ is T with data given to entry i

@@ -1,3 +1,4 @@
+-- `headings::later` meets its contract: none follows, or the first that follows has the name, or one after it.
 use borrow.Author.Needs.{needs}
 use mathlib.Core.Path.{sym, _∙_}
 use native.Mathlib.Omega.{arith}
@@ -8,9 +9,7 @@ use Rattle.lexer.proofs.PlaceLaws.{pass-onward, goes-some}
 use Rattle.headings.proofs.IntegerLines.{later-none, later-broken, later-here, later-on}
 use borrow.Fn.Kinds.{In}
 use borrow.Fn.PlainCycle.{Measures, is, falls, and}
-use Rattle.headings.proofs.+later.{statement}
-use Rattle.syntax.specs.Grammar.{close}
--- `headings::later` meets its contract: none follows, or the first that follows has the name, or one after it.
+use Rattle.headings.proofs.+later.{statement, close}
 use Rattle.headings.proofs.later.Reads as later
 use Rattle.headings.proofs.later.Kinds as later-kinds
 use Rattle.headings.proofs.+later.Lts-later as later-lts
