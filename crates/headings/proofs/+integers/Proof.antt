@@ -6,7 +6,8 @@ use borrow.Author.Needs.{needs}
 use Rattle.headings.proofs.IntegerLines.{integers-last, integers-more, keeps-on, onward}
 use borrow.Fn.Kinds.{In}
 use borrow.Fn.PlainCycle.{Measures, is, falls, and}
-use Rattle.headings.proofs.+integers.{statement, close}
+use Rattle.headings.proofs.+integers.{statement}
+use Rattle.headings.proofs.+integers.Tie.{close}
 use Rattle.headings.proofs.integers.Reads as integers
 use Rattle.headings.proofs.integers.Kinds as integers-kinds
 use Rattle.headings.proofs.+integers.Lts-integers as integers-lts

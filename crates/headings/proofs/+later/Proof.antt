@@ -9,7 +9,8 @@ use Rattle.lexer.proofs.PlaceLaws.{pass-onward, goes-some}
 use Rattle.headings.proofs.IntegerLines.{later-none, later-broken, later-here, later-on}
 use borrow.Fn.Kinds.{In}
 use borrow.Fn.PlainCycle.{Measures, is, falls, and}
-use Rattle.headings.proofs.+later.{statement, close}
+use Rattle.headings.proofs.+later.{statement}
+use Rattle.headings.proofs.+later.Tie.{close}
 use Rattle.headings.proofs.later.Reads as later
 use Rattle.headings.proofs.later.Kinds as later-kinds
 use Rattle.headings.proofs.+later.Lts-later as later-lts
