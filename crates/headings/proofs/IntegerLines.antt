@@ -19,14 +19,14 @@ use Rattle.syntax.proofs.TestLaws.{both-hold, any-append, neither-holds, same-c
 use Rattle.syntax.specs.Reader.{Parsed, broken, done, Reader, next, sees, expects, readName, readDigits, readMore, readDeclared, peek-in, skip-in}
 use Rattle.lexer.specs.declared.Word.{Word}
 use Rattle.lexer.specs.Places.{Lands, Goes, Any, passes, Spells}
-use Rattle.lexer.proofs.PlaceLaws.{goes-next, goes-end, lands-next, lands-expect, pass-there, pass-not, pass-onward, goes-some}
+use Rattle.lexer.proofs.PlaceLaws.{goes-next, goes-end, lands-next, lands-expect, pass-there, pass-not, pass-onward, goes-some, goes-same}
 use Rattle.lexer.proofs.Said.{sign-text}
 use Rattle.headings.specs.declared.Item.{Item}
 use Rattle.lexer.specs.Lex.{part}
 use Rattle.headings.specs.Integer.{Declares, Follow, namesOf, Later, Repeated, Enters, fits, Entered, apart, fit, Enlists, Integers}
 use Rattle.headings.specs.declared.Listed.{Listed}
 use Rattle.headings.specs.Lists.{readSome, order, Keeps}
-use Rattle.headings.proofs.Lists.{more-comma, more-none, some-broken, some-last, some-more, order-unnamed, order-most, order-some, order-either}
+use Rattle.headings.proofs.Lists.{more-comma, more-none, list-last, list-more, read-there, order-unnamed, order-most, order-some, order-either}
 
 -- a reading that comes to something
 broken-done : {A : Type 0} {a : A} {u : List ℕ} → broken ≡ done a u → ⊥
@@ -349,10 +349,6 @@ enlists-nil t T r tab b = record {
 
 -- a declared name, and then none or a comma and others
 module _ (T s : List ℕ) (from c most : ℕ) (T₁ : List ℕ) (r₁ : Listed) (h : Goes (Entered T s c most T₁ r₁) s from (readDeclared peek-in skip-in) (r₁ .next)) (k : ℕ) (g : Goes Any s (r₁ .next) (passes (bytes ",")) k) where
-  fuelled : (P : ℕ → Type 0) → ((f : ℕ) → P (suc f)) → (n f : ℕ) → n < f → P f
-  fuelled P p n zero b = absurd (omega arith)
-  fuelled P p n (suc f) b = p f
-
   -- the table that it left
   left : (t : List Entry) → Tabled T t → (d : Declared) → Entered T s c most T₁ r₁ d → (t₁ : List Entry) × Tabled T₁ t₁ × ((ds : List Declared) → Follow s (r₁ .next) ds → (T₂ : List ℕ) (r₂ : Listed) → Enlists t₁ T₁ (r₁ .cells) (r₁ .rank) T₂ r₂ ds → Enlists t T c most T₂ r₂ (d ∷ ds))
   left t tab d p = elim (ℕ-discrete (r₁ .rank) 0) [
@@ -361,36 +357,16 @@ module _ (T s : List ℕ) (from c most : ℕ) (T₁ : List ℕ) (r₁ : Listed) 
   ]
 
   pub integers-last : length s < k → r₁ .cells ≤ 4096 → Integers T s from c most T₁ r₁
-  integers-last l b t tab f m = record {
-    lands = λ i. fuelled (λ f. Lands (Enlists t T c most T₁ r₁) s (readSome f (readDeclared peek-in skip-in) (drop from s)) (r₁ .next)) (λ f. go f i) _ f m;
-    from = h .from;
-    lost = h .lost;
-  }
-    where
-      go : (f : ℕ) → from ≤ length s → Lands (Enlists t T c most T₁ r₁) s (readSome (suc f) (readDeclared peek-in skip-in) (drop from s)) (r₁ .next)
-      go f i = elim (decLt (length s) (r₁ .next)) [
-        | yes x ↦ some-broken (readDeclared peek-in skip-in) s (Enlists t T c most T₁ r₁) from (r₁ .next) k 0 f g (Entered T s c most T₁ r₁) (h .lands i) x
-        | no x ↦
-            let (d, _, e, p) = goes-some h (omega arith) in
-            let (t₁, tab₁, on) = left t tab d p in
-            some-last (readDeclared peek-in skip-in) s (Enlists t T c most T₁ r₁) from (r₁ .next) k 0 f g d e (omega arith) l
-            (on [] (suc f, _, more-none (readDeclared peek-in skip-in) s f (r₁ .next) k g (omega arith) l) T₁ r₁ (enlists-nil t₁ T₁ r₁ tab₁ b))
-      ]
+  integers-last l b t tab = list-last (readDeclared peek-in skip-in) s from (r₁ .next) k (Entered T s c most T₁ r₁) (Enlists t T c most T₁ r₁) h g l
+      (λ d p q. let (t₁, tab₁, on) = left t tab d p in on [] (1, _, q 0) T₁ r₁ (enlists-nil t₁ T₁ r₁ tab₁ b))
 
   pub integers-more : k ≤ length s → (T₂ : List ℕ) (r₂ : Listed) → Integers T₁ s k (r₁ .cells) (r₁ .rank) T₂ r₂ → Integers T s from c most T₂ r₂
-  integers-more l T₂ r₂ w t tab f m =
-      let within : r₁ .next ≤ length s = elim (decLt (length s) (r₁ .next)) [ yes x ↦ absurd (omega (arith, g .lost x)) | no x ↦ omega arith ] in
-      let (d, i, e, p) = goes-some h within in
+  integers-more l T₂ r₂ w t tab =
+      let within = read-there (readDeclared peek-in skip-in) s from (r₁ .next) k (Entered T s c most T₁ r₁) Any h g l in
+      let (d, _, e, p) = goes-some h within in
       let (t₁, tab₁, on) = left t tab d p in
-      let far = pass-onward s (bytes ",") (r₁ .next) k g (omega arith) within l in
-      let near = h .from i in
-      record {
-        lands = λ _. fuelled (λ f. length s - from < f → Lands (Enlists t T c most T₂ r₂) s (readSome f (readDeclared peek-in skip-in) (drop from s)) (r₂ .next)) (λ f b.
-            some-more (readDeclared peek-in skip-in) s (Enlists t T c most T₂ r₂) from (r₁ .next) k (r₂ .next) f g d e within l
-            (Enlists t₁ T₁ (r₁ .cells) (r₁ .rank) T₂ r₂) (w t₁ tab₁ f (omega arith) .lands l) (λ ds u q y. on ds (suc f, u, q) T₂ r₂ y)) _ f m m;
-        from = λ _. omega (arith, far, near, w t₁ tab₁ (suc (length s - k)) (omega arith) .from l);
-        lost = λ x. absurd (omega arith);
-      }
+      list-more (readDeclared peek-in skip-in) s from (r₁ .next) k (λ x. d ≡ x) (Enlists t T c most T₂ r₂) (goes-same h within d e) g l (Enlists t₁ T₁ (r₁ .cells) (r₁ .rank) T₂ r₂) (r₂ .next) (w t₁ tab₁)
+      (λ a i ds u q y. subst (λ (x : Declared). Enlists t T c most T₂ r₂ (x ∷ ds)) i (on ds (suc (q .0), u, q .1) T₂ r₂ y))
 
 -- ---- one part after the other
 

@@ -2,13 +2,14 @@
 use mathlib.Core.Path.{_≡_, refl, sym, _∙_, ap, subst}
 use mathlib.Core.Bool.{Bool, true, false}
 use mathlib.Core.List.{List, [], _∷_}
-use Prim.Native.Nat.{ℕ, suc, _≤_, _<_, max}
+use Prim.Native.Nat.{ℕ, zero, suc, _+_, _-_, _≤_, _<_, max}
+use native.Mathlib.Decide.{decLt}
 use native.Mathlib.Omega.{arith}
 use lib.ListN.{length, drop}
 use Rattle.syntax.specs.Bytes.{bytes, choose, same}
 use Rattle.syntax.specs.Reader.{Parsed, broken, done, Reader, next, text, readMore, peek-in, skip-in}
 use Rattle.lexer.specs.Places.{Lands, Goes, Any, passes}
-use Rattle.lexer.proofs.PlaceLaws.{pass-there, pass-not, lands-next, lands-end}
+use Rattle.lexer.proofs.PlaceLaws.{pass-there, pass-not, pass-onward, lands-next, lands-end, goes-some}
 use Rattle.lexer.proofs.Said.{sign-text}
 use Rattle.headings.specs.Lists.{readSome, order}
 
@@ -44,6 +45,43 @@ module _ {A : Type 0} (r : Reader (List ℕ) A) (s : List ℕ) where
           go : (x : Parsed (List ℕ) (List A)) → readMore peek-in skip-in (suc f) r (drop m s) ≡ x → Lands R s x n → Lands Q s (readSome (suc f) r (drop at s)) n
           go broken e w = by broken e n w
           go (done xs u) e w = by (done xs u) e n (w .0, w .1, q xs u e (w .2))
+
+-- ---- a list by its first part and the rest
+
+pub fuelled : (P : ℕ → Type 0) → ((f : ℕ) → P (suc f)) → (n f : ℕ) → n < f → P f
+fuelled P p n zero b = absurd (omega arith)
+fuelled P p n (suc f) b = p f
+
+module _ {A : Type 0} (r : Reader (List ℕ) A) (s : List ℕ) (from m k : ℕ) (P : A → Type 0) (Q : List A → Type 0) (h : Goes P s from r m) (g : Goes Any s m (passes (bytes ",")) k) where
+  -- no comma after it
+  pub list-last : length s < k → ((a : A) → P a → ((f : ℕ) → readMore peek-in skip-in (suc f) r (drop m s) ≡ done [] (drop m s)) → Q (a ∷ [])) → (f : ℕ) → length s - from < f → Goes Q s from (readSome f r) m
+  list-last l q f b = record {
+    lands = λ i. fuelled (λ f. Lands Q s (readSome f r (drop from s)) m) (λ f. go f i) _ f b;
+    from = h .from;
+    lost = h .lost;
+  }
+    where
+      go : (f : ℕ) → from ≤ length s → Lands Q s (readSome (suc f) r (drop from s)) m
+      go f i = elim (decLt (length s) m) [
+        | yes x ↦ some-broken r s Q from m k 0 f g P (h .lands i) x
+        | no x ↦ let (a, _, e, p) = goes-some h (omega arith) in some-last r s Q from m k 0 f g a e (omega arith) l (q a p (λ f. more-none r s f m k g (omega arith) l))
+      ]
+
+  pub read-there : k ≤ length s → m ≤ length s
+  read-there l = elim (decLt (length s) m) [ yes x ↦ absurd (omega (arith, g .lost x)) | no x ↦ omega arith ]
+
+  -- a comma, and the rest
+  pub list-more : k ≤ length s → (R : List A → Type 0) (n : ℕ) → ((f : ℕ) → length s - k < f → Goes R s k (readSome f r) n) → ((a : A) → P a → (xs : List A) (u : List ℕ) → (f : ℕ) × (readMore peek-in skip-in (suc f) r (drop m s) ≡ done xs u) → R xs → Q (a ∷ xs)) → (f : ℕ) → length s - from < f → Goes Q s from (readSome f r) n
+  list-more l R n w q f b =
+      let within = read-there l in
+      let (a, i, e, p) = goes-some h within in
+      let far = pass-onward s (bytes ",") m k g (omega arith) within l in
+      let near = h .from i in
+      record {
+        lands = λ _. fuelled (λ f. length s - from < f → Lands Q s (readSome f r (drop from s)) n) (λ f c. some-more r s Q from m k n f g a e within l R (w f (omega arith) .lands l) (λ xs u x. q a p xs u (f, x))) _ f b b;
+        from = λ _. omega (arith, far, near, w (suc (length s - k)) (omega arith) .from l);
+        lost = λ x. absurd (omega arith);
+      }
 
 -- ---- ranks
 

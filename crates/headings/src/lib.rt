@@ -4,21 +4,32 @@
 ghost use mathlib.Core.Path.{_≡_};
 ghost use mathlib.Core.List.{List, [], _∷_, _++_, map};
 ghost use mathlib.Core.Bool.{Bool, true, not, _&&_};
+ghost use lib.Dec.{leb};
 ghost use Prim.Native.Nat.{ℕ, _≤_, _<_, _+_, _-_, _*_, max, min};
 ghost use lib.ListN.{length, drop, replicate};
 ghost use lib.Seq.{sets};
 ghost use lib.IntN.{ℤ};
 ghost use Rattle.syntax.specs.Bytes.{any, same};
 ghost use Rattle.syntax.specs.Known.{Entry, declaredName};
-ghost use Rattle.syntax.specs.Reader.{Parsed, peek-in, skip-in, readMore, readDeclared, readItem};
-ghost use Rattle.lexer.specs.Places.{Lands, Goes};
+ghost use mathlib.Core.Option.{Option};
+ghost use Rattle.int32.specs.Integers.{value};
+ghost use Rattle.syntax.specs.Grammar.{item};
+ghost use Rattle.syntax.specs.Meaning.{led};
+ghost use Rattle.syntax.specs.Known.{copiesOf};
+ghost use Rattle.syntax.specs.Reader.{readSigned, Parsed, peek-in, skip-in, readMore, readDeclared, readItem};
+ghost use Rattle.lexer.specs.Places.{Lands, Goes, leadOf};
 ghost use Rattle.names.specs.Table.{Tabled, variableOf};
 ghost use Rattle.headings.specs.Lists.{order, Keeps};
+ghost use Rattle.headings.specs.Data.{Itemized, Placed, Put, readCounted, Items};
 ghost use Rattle.headings.specs.Integer.{Declares, Later, Repeated, Enters, fits, Entered, Integers};
+use int32::negate;
+use int32::of_word;
 use lexer::Number;
+use lexer::Sign;
 use lexer::Word;
 use lexer::digits;
 use lexer::equal;
+use lexer::lead;
 use lexer::name;
 use lexer::pass;
 use names::Named;
@@ -193,4 +204,159 @@ pub fn integers(s: &[u8], at: usize, table: &mut [u32; 613], cells: u32, rank: u
         return d;
     }
     integers(s, comma, table, d.cells, d.rank)
+}
+
+// ---- 2. data
+
+// An item: how many copies, and the sign and size of the value; both numbers up to 2^31.
+pub struct Datum {
+    pub next: usize,
+    pub copies: u32,
+    pub sign: u32,
+    pub size: u32,
+}
+
+// A literal with an optional sign, as an item of so many copies.
+fn copied(s: &[u8], at: usize, copies: u32) -> Datum
+    requires { ⌜ length (now s) ≤ 2048 ⌝ }
+    ensures { λ r. ⌜ ((o : Option (List ℕ)) → copies ≡ min (copiesOf o) 2147483648 → Goes (Itemized r) (now (s .entry)) at (readSigned peek-in skip-in (item o)) (r .next)) ⌝ }
+{
+    let l = lead(s, at);
+    let d = digits(s, l.next);
+    Datum {
+        next: d.next,
+        copies,
+        sign: l.sign,
+        size: d.number,
+    }
+}
+
+fn item_at(s: &[u8], at: usize) -> Datum
+    requires { ⌜ length (now s) ≤ 2048 ⌝ }
+    ensures { λ r. ⌜ Goes (Itemized r) (now (s .entry)) at (readItem peek-in skip-in) (r .next) ⌝ }
+{
+    let r = digits(s, at);
+    let star = pass(s, r.next, b"*");
+    if star <= s.len() {
+        return copied(s, star, r.number);
+    }
+    copied(s, at, 1)
+}
+
+// The value of an item; one over the limit stands for none.
+fn item_value(sign: u32, size: u32) -> i32
+    ensures { λ r. ⌜ r ≡ led (leadOf sign) (value size) ⌝ }
+{
+    let n = of_word(size);
+    if sign < 2 { n } else { negate(n) }
+}
+
+// So many copies of a value, from a place on.
+fn fill(cells: &mut [i32], from: usize, copies: usize, x: i32)
+    requires { ⌜ from + copies ≤ length (now cells) ⌝ }
+    ensures { λ _. ⌜ now (cells .exit) ≡ sets (now (cells .entry)) from (replicate copies x) ⌝ }
+{
+    let end = from + copies;
+    let mut i = from;
+    while i < end {
+        cells[i] = x;
+        i += 1;
+    }
+}
+
+// So many copies of a value after the values so far of a name with its first cell and its size: how many values there are then, and one more than
+// the size where they are too many.
+fn place(cells: &mut [i32], first: u32, size: u32, values: u32, copies: u32, x: i32) -> u32
+    requires { ⌜ (first + size ≤ length (now cells)) × (first + size ≤ 4096) ⌝ }
+    ensures { λ r. ⌜ Placed (now (cells .entry)) first size values copies x (now (cells .exit)) r ⌝ }
+{
+    if size < values {
+        return values;
+    }
+    if size - values < copies {
+        return size + 1;
+    }
+    fill(cells, (first + values) as usize, copies as usize, x);
+    values + copies
+}
+
+// Both numbers of an item are within the limit of literals.
+fn limited(copies: u32, size: u32) -> bool
+    ensures { λ r. ⌜ r ≡ leb copies 2147483647 && leb size 2147483647 ⌝ }
+{
+    if 2147483647 < copies {
+        return false;
+    }
+    size <= 2147483647
+}
+
+// What items come to.
+pub struct Filled {
+    pub next: usize,
+    pub values: u32,
+    pub rank: u32,
+}
+
+// One item. A repeat of 0 is a broken form.
+fn put_item(
+    s: &[u8],
+    at: usize,
+    cells: &mut [i32],
+    first: u32,
+    size: u32,
+    values: u32,
+    rank: u32,
+) -> Filled
+    requires { ⌜ (length (now s) ≤ 2048) × (first + size ≤ length (now cells)) × (first + size ≤ 4096) × (values ≤ size + 1) ⌝ }
+    ensures { λ r. ⌜ Goes (Put (now (cells .entry)) first size values rank (now (cells .exit)) r) (now (s .entry)) at readCounted (r .next) ⌝ }
+    ensures { λ r. ⌜ (length (now (cells .exit)) ≡ length (now (cells .entry))) × (r .values ≤ size + 1) ⌝ }
+{
+    let d = item_at(s, at);
+    let next = d.next;
+    if s.len() < next {
+        return Filled { next, values, rank };
+    }
+    if d.copies == 0 {
+        return Filled {
+            next: s.len() + 1,
+            values,
+            rank,
+        };
+    }
+    let worst = ranked(rank, true, limited(d.copies, d.size));
+    let more = place(
+        cells,
+        first,
+        size,
+        values,
+        d.copies,
+        item_value(d.sign, d.size),
+    );
+    Filled {
+        next,
+        values: more,
+        rank: worst,
+    }
+}
+
+// Items.
+pub fn items(
+    s: &[u8],
+    at: usize,
+    cells: &mut [i32],
+    first: u32,
+    size: u32,
+    values: u32,
+    rank: u32,
+) -> Filled
+    requires { ⌜ (length (now s) ≤ 2048) × (first + size ≤ length (now cells)) × (first + size ≤ 4096) × (values ≤ size + 1) ⌝ }
+    ensures { λ r. ⌜ Items (now (cells .entry)) (now (s .entry)) at first size values rank (now (cells .exit)) r ⌝ }
+    ensures { λ r. ⌜ (length (now (cells .exit)) ≡ length (now (cells .entry))) × (r .values ≤ size + 1) ⌝ }
+{
+    let d = put_item(s, at, cells, first, size, values, rank);
+    let comma = pass(s, d.next, b",");
+    if s.len() < comma {
+        return d;
+    }
+    items(s, comma, cells, first, size, d.values, d.rank)
 }

@@ -70,6 +70,10 @@ goes-some {A} {P} {s} {at} {R} {m} h b = elim (decLt (length s) at) [
     go l broken e w = absurd (omega (arith, w))
     go l (done a u) e w = (a, l, e ∙ ap (done a) (w .0), w .2)
 
+-- it is what is read
+pub goes-same : {A : Type 0} {P : A → Type 0} {s : List ℕ} {at : ℕ} {R : Reader (List ℕ) A} {m : ℕ} → Goes P s at R m → m ≤ length s → (a : A) → R (drop at s) ≡ done a (drop m s) → Goes (λ x. a ≡ x) s at R m
+goes-same {A} {P} {s} {at} {R} {m} h b a e = record { lands = λ _. subst (λ (p : Parsed (List ℕ) A). Lands (λ x. a ≡ x) s p m) (sym e) (refl, b, refl); from = h .from; lost = h .lost }
+
 -- a sign and a word, by their bytes
 pub expects-passes : (t : String) → signed (bytes t) ≡ true → (u : List ℕ) → expects peek-in skip-in t u ≡ passes (bytes t) u
 expects-passes t h u = ap (λ (b : Bool). cond b (done tt (skip-in u)) broken) (sign-text (bytes t) h u)

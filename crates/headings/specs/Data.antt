@@ -1,0 +1,60 @@
+-- Document 01, The loop text, 2: what the functions on data items yield.
+use mathlib.Core.Path.{_≡_}
+use mathlib.Core.Bool.{true, false, cond, _&&_}
+use mathlib.Core.List.{List, [], _∷_}
+use Prim.Native.Nat.{ℕ, suc, _+_, _-_, _≤_, _<_, max, min}
+use lib.Dec.{ltb}
+use lib.ListN.{length, replicate}
+use lib.IntN.{ℤ}
+use lib.Seq.{sets}
+use Rattle.int32.specs.Integers.{value}
+use Rattle.syntax.specs.Bytes.{all}
+use Rattle.syntax.specs.Grammar.{number, Lead, Item, item}
+use Rattle.syntax.specs.Known.{copies, values, total}
+use Rattle.syntax.specs.Conditions.{concat, inItem, small}
+use Rattle.syntax.specs.Meaning.{led}
+use Rattle.syntax.specs.Reader.{Parsed, broken, done, Reader, next, readItem, peek-in, skip-in}
+use Rattle.lexer.specs.Places.{Goes, leadOf}
+use Rattle.headings.specs.Lists.{readSome, order}
+use Rattle.headings.specs.declared.Datum.{Datum}
+use Rattle.headings.specs.declared.Filled.{Filled}
+
+abbrev pub itemLead : Item → Lead
+itemLead (item o l d) = l
+
+abbrev pub itemDigits : Item → List ℕ
+itemDigits (item o l d) = d
+
+-- the code found this item
+pub record Itemized (r : Datum) (i : Item) : Type 0 where
+  pub copies : r .copies ≡ min (copies i) 2147483648
+  pub lead : leadOf (r .sign) ≡ itemLead i
+  pub size : r .size ≡ min (number (itemDigits i)) 2147483648
+
+-- "a data repeat of 0 is 2": such an item is broken
+abbrev pub counted : Item → Reader (List ℕ) Item
+counted i u = cond (ltb 0 (copies i)) (done i u) broken
+
+abbrev pub readCounted : Reader (List ℕ) Item
+readCounted u = next (readItem peek-in skip-in u) counted
+
+-- so many copies of x after v values of a name with its first cell and its size
+pub record Placed (C : List ℤ) (first size v n : ℕ) (x : ℤ) (C′ : List ℤ) (r : ℕ) : Type 0 where
+  pub many : v ≤ suc size → r ≡ min (v + n) (suc size)
+  pub cells : v + n ≤ size → C′ ≡ sets C (first + v) (replicate n x)
+  pub long : length C′ ≡ length C
+
+-- an item after v values
+pub record Put (C : List ℤ) (first size v most : ℕ) (C′ : List ℤ) (r : Filled) (i : Item) : Type 0 where
+  pub rank : r .rank ≡ max most (order true (all small (inItem i)))
+  pub many : r .values ≡ min (v + copies i) (suc size)
+  pub cells : all small (inItem i) ≡ true → v + copies i ≤ size → C′ ≡ sets C (first + v) (values (i ∷ []))
+
+-- items after v values
+pub record Puts (C : List ℤ) (first size v most : ℕ) (C′ : List ℤ) (r : Filled) (is : List Item) : Type 0 where
+  pub rank : r .rank ≡ max most (order true (all small (concat inItem is)))
+  pub many : r .values ≡ min (v + total copies is) (suc size)
+  pub cells : all small (concat inItem is) ≡ true → v + total copies is ≤ size → C′ ≡ sets C (first + v) (values is)
+
+abbrev pub Items : List ℤ → List ℕ → ℕ → ℕ → ℕ → ℕ → ℕ → List ℤ → Filled → Type 0
+Items C s at first size v most C′ r = (f : ℕ) → length s - at < f → Goes (Puts C first size v most C′ r) s at (readSome f readCounted) (r .next)
