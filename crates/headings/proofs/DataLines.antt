@@ -1,12 +1,12 @@
 -- Data items.
 use mathlib.Core.Path.{_≡_, refl, sym, _∙_, ap, subst}
-use mathlib.Core.Bool.{Bool, true, false, cond, _&&_, and-true}
-use mathlib.Core.List.{List, [], _∷_, _++_, append-nil}
+use mathlib.Core.Bool.{Bool, true, false, cond, not, _&&_, and-true}
+use mathlib.Core.List.{List, [], _∷_, _++_, append-nil, map}
 use mathlib.Core.Option.{Option, none, some}
 use Prim.Native.Nat.{ℕ, zero, suc, _+_, _-_, _≤_, _<_, _^_, min, max}
-use native.Mathlib.Decide.{decLt}
+use native.Mathlib.Decide.{decLt, ℕ-discrete}
 use native.Mathlib.Omega.{arith}
-use borrow.Author.Tests.{lt-ltb, le-ltb, le-leb, leb-true}
+use borrow.Author.Tests.{lt-ltb, le-ltb, le-leb, leb-true, eq-eqb, eqb-true}
 use mir.Syntax.{w32}
 use mir.Val.{SFits}
 use lib.Dec.{eqb, leb, ltb}
@@ -15,24 +15,28 @@ use lib.IntN.{ℤ, pos, negℤ, natAbs}
 use lib.Seq.{sets}
 use Rattle.syntax.specs.Bytes.{bytes, choose, same, all}
 use Rattle.syntax.specs.Grammar.{number, Lead, bare, plus, minus, Item, item}
-use Rattle.syntax.specs.Known.{copiesOf, copies, signed, values, total}
+use Rattle.syntax.specs.Known.{Entry, known, find, give-to, copiesOf, copies, signed, values, total}
 use Rattle.syntax.proofs.Spelling.{both-true}
 use Rattle.syntax.proofs.TestLaws.{all-append}
-use Rattle.syntax.specs.Conditions.{concat, inItem, small}
-use Rattle.syntax.specs.Reader.{Parsed, broken, done, Reader, next, kind, text, sees, expects, isDigits, readLead, readDigits, readSigned, readItem, peek-in, skip-in}
+use Rattle.syntax.specs.Conditions.{concat, inItem, isGiven, small}
+use Rattle.syntax.specs.Reader.{Parsed, broken, done, Reader, next, kind, text, sees, expects, isDigits, readLead, readDigits, readSigned, readName, readItem, peek-in, skip-in}
 use Rattle.int32.specs.Integers.{value, wrap, negation}
 use Rattle.int32.proofs.Laws.{value-cases, value-fits, wrap-id, negation-fits}
 use Rattle.syntax.proofs.LoopValues.{signed-size, small-fits}
 use Rattle.syntax.specs.Meaning.{led}
-use Rattle.lexer.specs.Places.{Lands, Goes, Any, passes, leadOf}
-use Rattle.lexer.proofs.PlaceLaws.{goes-next, goes-end, goes-some, lands-next, lands-yield, pass-there, pass-not, expects-passes}
+use Rattle.lexer.specs.Places.{Lands, Goes, Any, passes, Spells, leadOf}
+use Rattle.lexer.specs.declared.Word.{Word}
+use Rattle.names.specs.declared.Named.{Named}
+use Rattle.names.specs.Table.{wordAt, variableOf, Tabled, Knows, Stands, Gave}
+use Rattle.names.proofs.Rows.{name-length}
+use Rattle.lexer.proofs.PlaceLaws.{goes-next, goes-end, goes-some, lands-next, lands-yield, pass-there, pass-not, pass-onward, expects-passes, lands-expect}
 use Rattle.lexer.proofs.Said.{sign-text}
 use Rattle.headings.specs.declared.Datum.{Datum}
 use Rattle.lexer.proofs.Laws.{sets-snoc}
 use Rattle.headings.proofs.IntegerLines.{same-truth}
-use Rattle.headings.specs.Data.{Itemized, counted, readCounted, Placed, Put, Puts, Items}
+use Rattle.headings.specs.Data.{Itemized, counted, readCounted, Placed, Put, Puts, Items, Given, readData, may-give, Gives}
 use Rattle.headings.specs.declared.Filled.{Filled}
-use Rattle.headings.specs.Lists.{readSome, order}
+use Rattle.headings.specs.Lists.{readSome, order, Keeps}
 use Rattle.headings.proofs.Lists.{list-last, list-more}
 
 -- ---- one item
@@ -233,3 +237,101 @@ module _ (C : List ℤ) (s : List ℕ) (from first size v most : ℕ) (C₁ : Li
 
   pub items-more : k ≤ length s → (C₂ : List ℤ) (r₂ : Filled) → Items C₁ s k first size (r₁ .values) (r₁ .rank) C₂ r₂ → Items C s from first size v most C₂ r₂
   items-more l C₂ r₂ w f m = list-more readCounted s from (r₁ .next) k (Put C first size v most C₁ r₁) (Puts C first size v most C₂ r₂) h g l (Puts C₁ first size (r₁ .values) (r₁ .rank) C₂ r₂) (r₂ .next) w (λ i p is u e q. puts-more C first size v most C₁ r₁ i p low C₂ r₂ is q) f m
+
+-- ---- a whole line
+
+pub passed-from : (s : List ℕ) (m k : ℕ) (w : List ℕ) → Goes Any s m (passes w) k → k ≤ length s → m ≤ length s
+passed-from s m k w g l = elim (decLt (length s) m) [ yes x ↦ absurd (omega (arith, g .lost x)) | no x ↦ omega arith ]
+
+module _ (s : List ℕ) (from : ℕ) (w : Word) (h : Goes (Spells s w) s from (readName peek-in skip-in) (w .next)) (o : ℕ) (g : Goes Any s (w .next) (passes (bytes "/")) o) (Q : List ℕ × List Item → Type 0) where
+  -- what comes after the name, after the first stroke, and after the items
+  abbrev rest₂ : List ℕ → List Item → Reader (List ℕ) (List ℕ × List Item)
+  rest₂ x is u = next (expects peek-in skip-in "/" u) (λ _. done (x, is))
+
+  abbrev rest₁ : ℕ → List ℕ → Reader (List ℕ) (List ℕ × List Item)
+  rest₁ f x u = next (readSome f readCounted u) (rest₂ x)
+
+  abbrev rest₀ : ℕ → List ℕ → Reader (List ℕ) (List ℕ × List Item)
+  rest₀ f x u = next (expects peek-in skip-in "/" u) (λ _. rest₁ f x)
+
+  stroke : w .next ≤ length s → Lands Any s (expects peek-in skip-in "/" (drop (w .next) s)) o
+  stroke l = subst (λ (p : Parsed (List ℕ) (Unit {0})). Lands Any s p o) (sym (expects-passes "/" refl (drop (w .next) s))) (g .lands l)
+
+  pub data-broken : length s < o → (f : ℕ) → Goes Q s from (readData f) o
+  data-broken b f = goes-next (Spells s w) Q s (rest₀ f) (w .next) o h
+      (λ x p l. lands-next Any Q s (λ _. rest₁ f x) o o (expects peek-in skip-in "/" (drop (w .next) s)) (stroke l) (λ a q i. absurd (omega arith)) (λ _. goes-end g b))
+      (g .from)
+      (g .lost)
+
+  module _ (P : List Item → Type 0) (b : o ≤ length s) (m : ℕ) (it : (f : ℕ) → length s - o < f → Goes P s o (readSome f readCounted) m) (n : ℕ) (c : Goes Any s m (passes (bytes "/")) n) (q : (x : List ℕ) (is : List Item) → Spells s w x → P is → Q (x, is)) where
+    pub data-read : (f : ℕ) → length s - from < f → Goes Q s from (readData f) n
+    data-read f k =
+        let inside = passed-from s (w .next) o (bytes "/") g b in
+        let (_, i, _, _) = goes-some h inside in
+        let far = pass-onward s (bytes "/") (w .next) o g (omega arith) inside b in
+        let items = it f (omega (arith, far, h .from i)) in
+        goes-next (Spells s w) Q s (rest₀ f) (w .next) n h
+        (λ x p l. lands-next Any Q s (λ _. rest₁ f x) o n (expects peek-in skip-in "/" (drop (w .next) s)) (stroke l)
+        (λ a y j. lands-next P Q s (rest₂ x) m n (readSome f readCounted (drop o s)) (items .lands j)
+        (λ is r u. lands-expect Q s "/" refl m n c u (x, is) (q x is p r))
+        (c .lost))
+        (λ y. absurd (omega arith)))
+        (λ l. elim (decLt (length s) m) [
+          | yes y ↦ omega (arith, c .lost y)
+          | no y ↦ omega (arith, far, items .from b, c .from (omega arith))
+        ])
+        (λ y. absurd (omega (arith, g .lost y)))
+
+-- what the line comes to
+module _ (t : List Entry) (T : List ℕ) (C : List ℤ) (T′ : List ℕ) (C′ : List ℤ) (tab : Tabled T t) (x : List ℕ) (n : Named) (kn : Knows t x n) (st : n .known ≡ true → Stands T t x n) (r : Filled) (is : List Item) (p : Puts C (n .first) (n .size) 0 0 C′ r is) (rank : ℕ) (g : Given T n (r .values) (r .rank) T′ rank) (next : ℕ) where
+  count : eqb (r .values) (n .size) ≡ eqb (total copies is) (find x t .size)
+  count = ap (λ (k : ℕ). eqb (r .values) k) (kn .size) ∙ same-truth _ _
+      (λ h. eq-eqb (total copies is) (find x t .size) (omega (arith, eqb-true (r .values) (find x t .size) h, p .many, kn .size)))
+      (λ h. eq-eqb (r .values) (find x t .size) (omega (arith, eqb-true (total copies is) (find x t .size) h, p .many, kn .size)))
+
+  due-is : n .known && (not (n .given) && eqb (r .values) (n .size)) ≡ may-give t x is
+  due-is = λ i. kn .known i && (not (kn .given i) && count i)
+
+  rank-is : rank ≡ order (may-give t x is) (all small (concat inItem is))
+  rank-is = g .rank ∙ (λ i. max (p .rank i) (order (due-is i) true)) ∙ both (all small (concat inItem is)) (may-give t x is)
+    where
+      both : (a b : Bool) → max (max 0 (order true a)) (order b true) ≡ order b a
+      both true true = omega arith
+      both false true = omega arith
+      both true false = omega arith
+      both false false = omega arith
+
+  good : rank ≡ 0 → (may-give t x is ≡ true) × (all small (concat inItem is) ≡ true)
+  good z = go (may-give t x is) (all small (concat inItem is)) (sym rank-is ∙ z)
+    where
+      go : (a b : Bool) → order a b ≡ 0 → (a ≡ true) × (b ≡ true)
+      go true true e = (refl, refl)
+      go true false e = absurd (omega (arith, e))
+      go false b e = absurd (omega (arith, e))
+
+  gives : Gives t T C T′ C′ (record { next = next; rank = rank }) x is
+  gives = record {
+    rank = rank-is;
+    table = λ z.
+        let k = st (kn .known ∙ both-true (known x t) _ (good z .0) .0) in
+        subst (λ (y : List ℕ). Tabled T′ (map (give-to y (values is)) t)) (k .name) (g .gave z .table t (values is) tab (k .within));
+    unclaimed = λ z. g .gave z .unclaimed (tab .long) (length t);
+    cells = λ z.
+        let e = eqb-true (total copies is) (find x t .size) (both-true (not (isGiven (find x t .given))) _ (both-true (known x t) _ (good z .0) .1) .1) in
+        p .cells (good z .1) (omega (arith, e, kn .size)) ∙ ap (λ (k : ℕ). sets C k (values is)) (omega (arith, kn .first));
+  }
+
+pub gives-for : (t : List Entry) (T : List ℕ) (C : List ℤ) (T′ : List ℕ) (C′ : List ℤ) → Tabled T t → (x y : List ℕ) → x ≡ y → (n : Named) → Knows t y n → (n .known ≡ true → Stands T t y n) → (r : Filled) (is : List Item) → Puts C (n .first) (n .size) 0 0 C′ r is → (rank : ℕ) → Given T n (r .values) (r .rank) T′ rank → (next : ℕ) → Gives t T C T′ C′ (record { next = next; rank = rank }) x is
+gives-for t T C T′ C′ tab x y e n kn st r is p rank g next = subst (λ (z : List ℕ). Gives t T C T′ C′ (record { next = next; rank = rank }) z is) (sym e) (gives t T C T′ C′ tab y n kn st r is p rank g next)
+
+-- rank 0: the name is known
+pub due-known : (k g : Bool) (d : Bool) (most : ℕ) {r : ℕ} → k && g ≡ d → r ≡ max most (order d true) → r ≡ 0 → k ≡ true
+due-known true g d most e h z = refl
+due-known false g d most {r} e h z = let q : r ≡ max most 2 = h ∙ ap (λ (b : Bool). max most (order b true)) (sym e) in absurd (omega (arith, q, z))
+
+-- and the table keeps the variable
+pub given-keeps : (T : List ℕ) (n : Named) (v most : ℕ) (T′ : List ℕ) (r : ℕ) → Given T n v most T′ r → Keeps T T′
+given-keeps T n v most T′ r g h = elim (ℕ-discrete r 0) [
+  | yes e ↦ let q = g .gave e .variable h in (omega (arith, name-length T′ 16, name-length T 16, ap length q), q)
+  | no z ↦ subst (λ (X : List ℕ). (wordAt X 16 32 ≤ 32) × (variableOf X ≡ variableOf T)) (sym (g .left z)) (h, refl)
+]

@@ -1,23 +1,26 @@
 -- Document 01, The loop text, 2: what the functions on data items yield.
 use mathlib.Core.Path.{_≡_}
-use mathlib.Core.Bool.{true, false, cond, _&&_}
-use mathlib.Core.List.{List, [], _∷_}
+use mathlib.Core.Bool.{Bool, true, cond, not, _&&_}
+use mathlib.Core.List.{List, [], _∷_, map}
 use Prim.Native.Nat.{ℕ, suc, _+_, _-_, _≤_, _<_, max, min}
-use lib.Dec.{ltb}
+use lib.Dec.{ltb, eqb}
 use lib.ListN.{length, replicate}
 use lib.IntN.{ℤ}
 use lib.Seq.{sets}
 use Rattle.int32.specs.Integers.{value}
 use Rattle.syntax.specs.Bytes.{all}
 use Rattle.syntax.specs.Grammar.{number, Lead, Item, item}
-use Rattle.syntax.specs.Known.{copies, values, total}
-use Rattle.syntax.specs.Conditions.{concat, inItem, small}
+use Rattle.syntax.specs.Known.{Entry, known, find, give-to, copies, values, total}
+use Rattle.syntax.specs.Conditions.{concat, inItem, isGiven, small}
 use Rattle.syntax.specs.Meaning.{led}
-use Rattle.syntax.specs.Reader.{Parsed, broken, done, Reader, next, readItem, peek-in, skip-in}
+use Rattle.syntax.specs.Reader.{Parsed, broken, done, Reader, _>>=_, _>>_, yield, next, expects, readName, readItem, peek-in, skip-in}
 use Rattle.lexer.specs.Places.{Goes, leadOf}
 use Rattle.headings.specs.Lists.{readSome, order}
 use Rattle.headings.specs.declared.Datum.{Datum}
 use Rattle.headings.specs.declared.Filled.{Filled}
+use Rattle.headings.specs.declared.Headed.{Headed}
+use Rattle.names.specs.declared.Named.{Named}
+use Rattle.names.specs.Table.{Tabled, Unclaimed, Gave}
 
 abbrev pub itemLead : Item → Lead
 itemLead (item o l d) = l
@@ -58,3 +61,31 @@ pub record Puts (C : List ℤ) (first size v most : ℕ) (C′ : List ℤ) (r : 
 
 abbrev pub Items : List ℤ → List ℕ → ℕ → ℕ → ℕ → ℕ → ℕ → List ℤ → Filled → Type 0
 Items C s at first size v most C′ r = (f : ℕ) → length s - at < f → Goes (Puts C first size v most C′ r) s at (readSome f readCounted) (r .next)
+
+-- data is given where the rank is 0
+pub record Given (T : List ℕ) (n : Named) (v most : ℕ) (T′ : List ℕ) (r : ℕ) : Type 0 where
+  pub rank : r ≡ max most (order (n .known && (not (n .given) && eqb v (n .size))) true)
+  pub gave : r ≡ 0 → Gave T (n .index) T′
+  pub left : (r ≡ 0 → ⊥) → T′ ≡ T
+
+-- what stands after `data`: the name and the items
+abbrev pub readData : ℕ → Reader (List ℕ) (List ℕ × List Item)
+readData f = do
+  x ← readName peek-in skip-in
+  expects peek-in skip-in "/"
+  is ← readSome f readCounted
+  expects peek-in skip-in "/"
+  yield (x, is)
+
+-- not "name unknown, ... given data twice, ... data of the wrong count"
+abbrev pub may-give : List Entry → List ℕ → List Item → Bool
+may-give t x is = known x t && (not (isGiven (find x t .given)) && eqb (total copies is) (find x t .size))
+
+pub record Gives (t : List Entry) (T : List ℕ) (C : List ℤ) (T′ : List ℕ) (C′ : List ℤ) (r : Headed) (x : List ℕ) (is : List Item) : Type 0 where
+  pub rank : r .rank ≡ order (may-give t x is) (all small (concat inItem is))
+  pub table : r .rank ≡ 0 → Tabled T′ (map (give-to x (values is)) t)
+  pub unclaimed : r .rank ≡ 0 → Unclaimed T (length t) → Unclaimed T′ (length t)
+  pub cells : r .rank ≡ 0 → C′ ≡ sets C (find x t .first) (values is)
+
+abbrev pub Data : List ℕ → List ℤ → List ℕ → ℕ → List ℕ → List ℤ → Headed → Type 0
+Data T C s at T′ C′ r = (t : List Entry) → Tabled T t → (f : ℕ) → length s - at < f → Goes (λ (x, is). Gives t T C T′ C′ r x is) s at (readData f) (r .next)

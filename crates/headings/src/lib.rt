@@ -4,7 +4,7 @@
 ghost use mathlib.Core.Path.{_≡_};
 ghost use mathlib.Core.List.{List, [], _∷_, _++_, map};
 ghost use mathlib.Core.Bool.{Bool, true, not, _&&_};
-ghost use lib.Dec.{leb};
+ghost use lib.Dec.{leb, eqb};
 ghost use Prim.Native.Nat.{ℕ, _≤_, _<_, _+_, _-_, _*_, max, min};
 ghost use lib.ListN.{length, drop, replicate};
 ghost use lib.Seq.{sets};
@@ -19,8 +19,8 @@ ghost use Rattle.syntax.specs.Known.{copiesOf};
 ghost use Rattle.syntax.specs.Reader.{readSigned, Parsed, peek-in, skip-in, readMore, readDeclared, readItem};
 ghost use Rattle.lexer.specs.Places.{Lands, Goes, leadOf};
 ghost use Rattle.names.specs.Table.{Tabled, variableOf};
-ghost use Rattle.headings.specs.Lists.{order, Keeps};
-ghost use Rattle.headings.specs.Data.{Itemized, Placed, Put, readCounted, Items};
+ghost use Rattle.headings.specs.Lists.{order, Keeps, Standing};
+ghost use Rattle.headings.specs.Data.{Itemized, Placed, Put, readCounted, Items, Given, Data};
 ghost use Rattle.headings.specs.Integer.{Declares, Later, Repeated, Enters, fits, Entered, Integers};
 use int32::negate;
 use int32::of_word;
@@ -36,6 +36,7 @@ use names::Named;
 use names::add;
 use names::count;
 use names::find;
+use names::give;
 
 // ---- ranks
 
@@ -359,4 +360,60 @@ pub fn items(
         return d;
     }
     items(s, comma, cells, first, size, d.values, d.rank)
+}
+
+// What a line comes to.
+pub struct Headed {
+    pub next: usize,
+    pub rank: u32,
+}
+
+// Whether a name may be given so many values: it is declared, was given none, and has as many cells.
+fn due(n: Named, values: u32) -> bool
+    ensures { λ r. ⌜ r ≡ n .known && (not (n .given) && eqb values (n .size)) ⌝ }
+{
+    if !n.known {
+        return false;
+    }
+    if n.given {
+        return false;
+    }
+    values == n.size
+}
+
+// Data in order is given to its name: the rank with that of the name.
+fn give_data(table: &mut [u32; 613], n: Named, values: u32, rank: u32) -> u32
+    requires { ⌜ (n .known ≡ true → n .index < 16) ⌝ }
+    ensures { λ r. ⌜ Given (now (table .entry)) n values rank (now (table .exit)) r ⌝ }
+{
+    let index = n.index;
+    let worst = ranked(rank, due(n, values), true);
+    if worst != 0 {
+        return worst;
+    }
+    give(table, index);
+    0
+}
+
+// A data line, after its first word.
+pub fn data(s: &[u8], at: usize, table: &mut [u32; 613], cells: &mut [i32]) -> Headed
+    requires { ⌜ (length (now s) ≤ 2048) × (4096 ≤ length (now cells)) × Standing (now table) ⌝ }
+    ensures { λ r. ⌜ Data (now (table .entry)) (now (cells .entry)) (now (s .entry)) at (now (table .exit)) (now (cells .exit)) r ⌝ }
+    ensures { λ r. ⌜ Keeps (now (table .entry)) (now (table .exit)) × (length (now (cells .exit)) ≡ length (now (cells .entry))) ⌝ }
+{
+    let x = name(s, at);
+    let a = x.start;
+    let e = x.next;
+    let open = pass(s, e, b"/");
+    if s.len() < open {
+        return Headed {
+            next: open,
+            rank: 0,
+        };
+    }
+    let n = find(table, &s[a..e]);
+    let d = items(s, open, cells, n.first, n.size, 0, 0);
+    let next = pass(s, d.next, b"/");
+    let rank = give_data(table, n, d.values, d.rank);
+    Headed { next, rank }
 }

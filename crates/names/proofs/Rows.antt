@@ -14,9 +14,10 @@ use Rattle.rules.specs.Loop.{Class, shared}
 use Rattle.rules.specs.Cells.{listed}
 use Rattle.rules.proofs.CellsLaws.{listed-length, listed-same}
 use Rattle.syntax.specs.Bytes.{same}
-use Rattle.syntax.specs.Known.{Entry, named, known, nowhere, give-to}
+use Rattle.syntax.specs.Known.{Entry, named, known, find, nowhere, give-to}
 use Rattle.syntax.specs.Conditions.{isGiven}
-use Rattle.syntax.proofs.TestLaws.{neither-holds, same-refl, same-comm-false}
+use Rattle.syntax.proofs.Table.{find-each}
+use Rattle.syntax.proofs.TestLaws.{Each, neither-holds, same-refl, same-comm-false}
 use Rattle.names.specs.Table.{wordAt, nameAt, classOf, Row, Tabled, Put, declared, Added, Gave, class-to, Classed}
 use Rattle.names.proofs.Laws.{set-elsewhere}
 
@@ -343,3 +344,12 @@ full T w first size sub h = record {
   table = λ t d f u b. absurd (omega (arith, d .count));
   unclaimed = λ t d f v. absurd (omega (arith, d .count));
 }
+
+-- ---- where the cells of a name lie
+
+each-entry : (P : Entry → Type 0) (t : List Entry) → ((i : ℕ) → i < length t → P (getD t i nowhere)) → Each P t
+each-entry P [] h = tt
+each-entry P (e ∷ t) h = (h 0 (omega arith), each-entry P t (λ i l. h (suc i) (omega arith)))
+
+pub find-bounded : (T w : List ℕ) (t : List Entry) → Tabled T t → find w t .first + find w t .size ≤ 4096
+find-bounded T w t d = find-each (λ e. e .first + e .size ≤ 4096) w t (omega arith) (each-entry (λ e. e .first + e .size ≤ 4096) t (d .bounded))
