@@ -1,0 +1,522 @@
+-- The readers of expressions call each other. The measure is three for each byte that is left, and a little more for those that call another at the
+-- same place. Each answer hands what is known to one law of `Sums` or `Factors`.
+use Prim.Native.Nat.{ℕ, suc, _+_, _-_, _*_, _<_}
+use mathlib.Core.Path.{refl, sym, _∙_}
+use native.Mathlib.Numerals.{add-one}
+use native.Mathlib.Omega.{arith}
+use lib.ListN.{length}
+use borrow.Author.Needs.{needs}
+use Rattle.expressions.proofs.Spans.{within-done, within-from, within-sealed, within-inside, ready-room, ready-next, ready-later}
+use Rattle.expressions.proofs.Shapes.{some-sign, begins-kind, begins-digits}
+use Rattle.expressions.proofs.Sums.{goes-on, goes-not, lead-long, lead-within, sign-within, expression-answers, term-answers, terms-none, terms-some, factors-none, factors-some}
+use Rattle.expressions.proofs.Factors.{passed, factor-literal, factor-name, factor-bracket, factor-rdiv, factor-element, factor-none, ends-on, ends-not, quotient-answers}
+use borrow.Fn.Kinds.{In}
+use borrow.Fn.PlainCycle.{Measures, is, falls, and}
+use Rattle.expressions.proofs.expression.Reads as expression
+use Rattle.expressions.proofs.expression.Kinds as expression-kinds
+use Rattle.expressions.proofs.+expression+factor+more_factors+more_terms+quotient+term.Lts-expression as expression-lts
+use Rattle.expressions.proofs.factor.Reads as factor
+use Rattle.expressions.proofs.factor.Kinds as factor-kinds
+use Rattle.expressions.proofs.+expression+factor+more_factors+more_terms+quotient+term.Lts-factor as factor-lts
+use Rattle.expressions.proofs.more_factors.Reads as more-factors
+use Rattle.expressions.proofs.more_factors.Kinds as more-factors-kinds
+use Rattle.expressions.proofs.+expression+factor+more_factors+more_terms+quotient+term.Lts-more_factors as more-factors-lts
+use Rattle.expressions.proofs.more_terms.Reads as more-terms
+use Rattle.expressions.proofs.more_terms.Kinds as more-terms-kinds
+use Rattle.expressions.proofs.+expression+factor+more_factors+more_terms+quotient+term.Lts-more_terms as more-terms-lts
+use Rattle.expressions.proofs.quotient.Reads as quotient
+use Rattle.expressions.proofs.quotient.Kinds as quotient-kinds
+use Rattle.expressions.proofs.+expression+factor+more_factors+more_terms+quotient+term.Lts-quotient as quotient-lts
+use Rattle.expressions.proofs.term.Reads as term
+use Rattle.expressions.proofs.term.Kinds as term-kinds
+use Rattle.expressions.proofs.+expression+factor+more_factors+more_terms+quotient+term.Lts-term as term-lts
+use Rattle.expressions.proofs.begin.Reads as begin-reads
+use Rattle.expressions.proofs.constant.Reads as constant-reads
+use Rattle.expressions.proofs.expect.Reads as expect-reads
+use Rattle.expressions.proofs.factor_operation.Reads as factor-operation-reads
+use Rattle.expressions.proofs.join.Reads as join-reads
+use Rattle.expressions.proofs.named.Reads as named-reads
+use Rattle.expressions.proofs.opened.Reads as opened-reads
+use Rattle.expressions.proofs.term_operation.Reads as term-operation-reads
+use Rattle.expressions.proofs.then_emit.Reads as then-emit-reads
+use Rattle.expressions.proofs.then_negate.Reads as then-negate-reads
+use Rattle.expressions.proofs.then_read.Reads as then-read-reads
+use Rattle.expressions.proofs.variable.Reads as variable-reads
+use Rattle.expressions.proofs.+expression+factor+more_factors+more_terms+quotient+term.{
+  statement,
+}
+use Rattle.expressions.proofs.+expression+factor+more_factors+more_terms+quotient+term.Tie.{
+  close,
+}
+
+abbrev μ-expression : Measures 3 expression-kinds.ps ℕ
+μ-expression κs a = 3 * (length (a .0 .now) - a .1 .0) + 2
+
+abbrev μ-factor : Measures 3 factor-kinds.ps ℕ
+μ-factor κs a = 3 * (length (a .0 .now) - a .1 .0)
+
+abbrev μ-more-factors : Measures 3 more-factors-kinds.ps ℕ
+μ-more-factors κs a = 3 * (length (a .0 .now) - a .1 .0)
+
+abbrev μ-more-terms : Measures 3 more-terms-kinds.ps ℕ
+μ-more-terms κs a = 3 * (length (a .0 .now) - a .1 .0)
+
+abbrev μ-quotient : Measures 3 quotient-kinds.ps ℕ
+μ-quotient κs a = 3 * (length (a .0 .now) - a .1 .0) + 3
+
+abbrev μ-term : Measures 3 term-kinds.ps ℕ
+μ-term κs a = 3 * (length (a .0 .now) - a .1 .0) + 1
+
+abbrev expression-at : ℕ → In 3 expression-kinds.ps
+expression-at t =
+    and 3 expression-kinds.ps (is 3 expression-kinds.ps μ-expression t) expression.Pre
+
+abbrev expression-below : ℕ → In 3 expression-kinds.ps
+expression-below t =
+    and 3 expression-kinds.ps (falls 3 expression-kinds.ps _<_ μ-expression t) expression.Pre
+
+abbrev factor-at : ℕ → In 3 factor-kinds.ps
+factor-at t = and 3 factor-kinds.ps (is 3 factor-kinds.ps μ-factor t) factor.Pre
+
+abbrev factor-below : ℕ → In 3 factor-kinds.ps
+factor-below t = and 3 factor-kinds.ps (falls 3 factor-kinds.ps _<_ μ-factor t) factor.Pre
+
+abbrev more-factors-at : ℕ → In 3 more-factors-kinds.ps
+more-factors-at t =
+    and 3 more-factors-kinds.ps (is 3 more-factors-kinds.ps μ-more-factors t) more-factors.Pre
+
+abbrev more-factors-below : ℕ → In 3 more-factors-kinds.ps
+more-factors-below t =
+    and
+    3
+    more-factors-kinds.ps
+    (falls 3 more-factors-kinds.ps _<_ μ-more-factors t)
+    more-factors.Pre
+
+abbrev more-terms-at : ℕ → In 3 more-terms-kinds.ps
+more-terms-at t =
+    and 3 more-terms-kinds.ps (is 3 more-terms-kinds.ps μ-more-terms t) more-terms.Pre
+
+abbrev more-terms-below : ℕ → In 3 more-terms-kinds.ps
+more-terms-below t =
+    and 3 more-terms-kinds.ps (falls 3 more-terms-kinds.ps _<_ μ-more-terms t) more-terms.Pre
+
+abbrev quotient-at : ℕ → In 3 quotient-kinds.ps
+quotient-at t = and 3 quotient-kinds.ps (is 3 quotient-kinds.ps μ-quotient t) quotient.Pre
+
+abbrev quotient-below : ℕ → In 3 quotient-kinds.ps
+quotient-below t =
+    and 3 quotient-kinds.ps (falls 3 quotient-kinds.ps _<_ μ-quotient t) quotient.Pre
+
+abbrev term-at : ℕ → In 3 term-kinds.ps
+term-at t = and 3 term-kinds.ps (is 3 term-kinds.ps μ-term t) term.Pre
+
+abbrev term-below : ℕ → In 3 term-kinds.ps
+term-below t = and 3 term-kinds.ps (falls 3 term-kinds.ps _<_ μ-term t) term.Pre
+
+abbrev expression-claims : ℕ → expression-lts.Claims
+expression-claims t = (join-reads.Asked, join-reads.Learnt, term-below t, term.Post, then-negate-reads.Asked, then-negate-reads.Learnt, more-terms-below t, more-terms.Post)
+
+abbrev factor-claims : ℕ → factor-lts.Claims
+factor-claims t = (begin-reads.Asked, begin-reads.Learnt, constant-reads.Asked, constant-reads.Learnt, quotient-below t, quotient.Post, variable-reads.Asked, variable-reads.Learnt, opened-reads.Asked, opened-reads.Learnt, expression-below t, expression.Post, expect-reads.Asked, expect-reads.Learnt, named-reads.Asked, named-reads.Learnt, then-read-reads.Asked, then-read-reads.Learnt)
+
+abbrev more-factors-claims : ℕ → more-factors-lts.Claims
+more-factors-claims t = (join-reads.Asked, join-reads.Learnt, factor-below t, factor.Post, factor-operation-reads.Asked, factor-operation-reads.Learnt, then-emit-reads.Asked, then-emit-reads.Learnt, more-factors-below t, more-factors.Post)
+
+abbrev more-terms-claims : ℕ → more-terms-lts.Claims
+more-terms-claims t = (join-reads.Asked, join-reads.Learnt, term-below t, term.Post, term-operation-reads.Asked, term-operation-reads.Learnt, then-emit-reads.Asked, then-emit-reads.Learnt, more-terms-below t, more-terms.Post)
+
+abbrev quotient-claims : ℕ → quotient-lts.Claims
+quotient-claims t = (opened-reads.Asked, opened-reads.Learnt, expression-below t, expression.Post, expect-reads.Asked, expect-reads.Learnt, then-emit-reads.Asked, then-emit-reads.Learnt)
+
+abbrev term-claims : ℕ → term-lts.Claims
+term-claims t = (factor-below t, factor.Post, more-factors-below t, more-factors.Post)
+
+expression-join-requires : (t : ℕ) → expression-lts.Need-join-requires (expression-claims t) (expression-at t) expression.Post
+expression-join-requires t c κs = (c .before .before .pre .1 .0 .inside, refl, refl)
+
+expression-term-requires : (t : ℕ) → expression-lts.Need-term-requires (expression-claims t) (expression-at t) expression.Post
+expression-term-requires t c κs =
+    let j = c .before .join .ensures .next in
+    (omega (arith, c .before .before .before .before .pre .0, j .from, j .within), (ready-later _ _ _ _ _ (c .before .before .before .before .pre .1 .0) 0 _ _ _ (omega (arith, j .from)) (j .within) (omega arith) refl, c .before .before .before .before .pre .1 .1))
+
+expression-then-negate-requires : (t : ℕ) → expression-lts.Need-then-negate-requires (expression-claims t) (expression-at t) expression.Post
+expression-then-negate-requires t c κs = ready-room _ _ _ _ _ (c .before .before .before .before .before .before .before .before .pre .1 .0) _ _ _ _ _ (omega (arith, c .before .before .before .before .before .join .ensures .next .from, lead-long (c .before .before .before .before .before .join .result .what))) (c .before .before .before .term .ensures .within) (c .before .before .before .term .kept .1 .1 .1 .1 .1 .1 .0)
+
+expression-enum-known-n : (t : ℕ) → expression-lts.Need-enum-known-n (expression-claims t) (expression-at t) expression.Post
+expression-enum-known-n t c = search needs
+
+expression-more-terms-requires : (t : ℕ) → expression-lts.Need-more-terms-requires (expression-claims t) (expression-at t) expression.Post
+expression-more-terms-requires t c κs =
+    let w = lead-within _ _ _ _ _ _ _ _ (c .before .before .before .before .before .before .before .before .before .before .before .before .join .ensures) (c .before .before .before .before .before .before .then-negate .ensures) (c .before .before .before .before .before .before .before .before .before .before .term .ensures .within) in
+    let d = within-done _ _ _ _ _ _ _ _ w (c .before .before .n .given .1) in
+    (omega (arith, c .before .before .before .before .before .before .before .before .before .before .before .before .before .before .before .pre .0, d .0, d .1), (ready-next _ _ _ _ _ (c .before .before .before .before .before .before .before .before .before .before .before .before .before .before .before .pre .1 .0) _ _ _ _ _ _ (omega arith) w (c .before .before .n .given .1) (c .before .before .before .before .before .before .then-negate .kept .1 .0 ∙ c .before .before .before .before .before .before .before .before .before .before .term .kept .1 .1 .1 .1 .1 .1 .0), c .before .before .before .before .before .before .before .before .before .before .before .before .before .before .before .pre .1 .1))
+
+expression-enum-told : (t : ℕ) → expression-lts.Need-enum-told (expression-claims t) (expression-at t) expression.Post
+expression-enum-told t c = search needs
+
+expression-same-length : (t : ℕ) → expression-lts.Need-same-length (expression-claims t) (expression-at t) expression.Post
+expression-same-length t c = c .before .before .more-terms .kept .1 .1 .1 .1 .1 .1 .0 ∙ c .before .before .before .before .before .before .before .before .before .then-negate .kept .1 .0 ∙ c .before .before .before .before .before .before .before .before .before .before .before .before .before .term .kept .1 .1 .1 .1 .1 .1 .0
+
+expression-returns : (t : ℕ) → expression-lts.Need-returns (expression-claims t) (expression-at t) expression.Post
+expression-returns t c = expression-answers _ _ _ _ _ _ _ _ _ _ _ _ _ _ _ (c .before .before .before .before .before .before .before .before .before .before .before .before .before .before .before .join .ensures) (c .before .before .before .before .before .before .before .before .before .then-negate .ensures) (c .before .before .before .before .before .before .before .before .before .before .before .before .before .term .ensures) (goes-on _ _ _ _ _ _ _ _ _ _ _ _ (c .before .before .before .before .before .n .given .1) (c .before .before .more-terms .ensures))
+
+expression-same-length-2 : (t : ℕ) → expression-lts.Need-same-length-2 (expression-claims t) (expression-at t) expression.Post
+expression-same-length-2 t c = c .before .before .before .before .then-negate .kept .1 .0 ∙ c .before .before .before .before .before .before .before .before .term .kept .1 .1 .1 .1 .1 .1 .0
+
+expression-returns-2 : (t : ℕ) → expression-lts.Need-returns-2 (expression-claims t) (expression-at t) expression.Post
+expression-returns-2 t c = expression-answers _ _ _ _ _ _ _ _ _ _ _ _ _ _ _ (c .before .before .before .before .before .before .before .before .before .before .join .ensures) (c .before .before .before .before .then-negate .ensures) (c .before .before .before .before .before .before .before .before .term .ensures) (goes-not _ _ _ _ _ _ _ _ (c .enum-told .given .1))
+
+factor-begin-requires : (t : ℕ) → factor-lts.Need-begin-requires (factor-claims t) (factor-at t) factor.Post
+factor-begin-requires t c κs = c .before .before .pre .1 .0 .inside
+
+factor-constant-requires : (t : ℕ) → factor-lts.Need-constant-requires (factor-claims t) (factor-at t) factor.Post
+factor-constant-requires t c κs =
+    let p = passed _ _ _ (c .before .before .begin .ensures) 1 (c .before .if1 .taken) in
+    (c .before .before .before .before .before .pre .1 .0 .inside, begins-digits _ (sym (c .before .before .begin .ensures .what) ∙ c .before .if1 .taken), omega (arith, c .before .before .before .before .before .pre .1 .0 .room, p .from, p .within))
+
+factor-same-length : (t : ℕ) → factor-lts.Need-same-length (factor-claims t) (factor-at t) factor.Post
+factor-same-length t c = c .before .before .constant .kept .1 .1 .1 .0
+
+factor-returns : (t : ℕ) → factor-lts.Need-returns (factor-claims t) (factor-at t) factor.Post
+factor-returns t c = factor-literal _ _ _ _ _ _ _ _ _ _ _ (c .before .before .before .before .before .begin .ensures) (c .before .before .before .before .if1 .taken) (c .before .before .constant .ensures)
+
+factor-quotient-requires : (t : ℕ) → factor-lts.Need-quotient-requires (factor-claims t) (factor-at t) factor.Post
+factor-quotient-requires t c κs =
+    let p = passed _ _ _ (c .before .before .before .begin .ensures) 3 (c .before .if2 .taken) in
+    (omega (arith, c .before .before .before .before .before .before .pre .0, p .from, p .within), (ready-later _ _ _ _ _ (c .before .before .before .before .before .before .pre .1 .0) 2 _ _ _ (p .from) (p .within) (omega arith) refl, c .before .before .before .before .before .before .pre .1 .1))
+
+factor-same-length-2 : (t : ℕ) → factor-lts.Need-same-length-2 (factor-claims t) (factor-at t) factor.Post
+factor-same-length-2 t c = c .before .before .quotient .kept .1 .1 .1 .1 .1 .1 .0
+
+factor-returns-2 : (t : ℕ) → factor-lts.Need-returns-2 (factor-claims t) (factor-at t) factor.Post
+factor-returns-2 t c = factor-rdiv _ _ _ _ _ _ _ _ _ _ _ (c .before .before .before .before .before .before .begin .ensures) (c .before .before .before .before .if2 .taken) (c .before .before .quotient .ensures)
+
+factor-variable-requires : (t : ℕ) → factor-lts.Need-variable-requires (factor-claims t) (factor-at t) factor.Post
+factor-variable-requires t c κs =
+    let p = passed _ _ _ (c .before .before .before .before .begin .ensures) 4 (c .before .if3 .taken) in
+    (c .before .before .before .before .before .before .before .pre .1 .0 .inside, begins-kind _ (omega (arith, c .before .before .before .before .begin .ensures .what, c .before .if3 .taken)), c .before .before .before .before .before .before .before .pre .1 .1, omega (arith, c .before .before .before .before .before .before .before .pre .1 .0 .room, p .from, p .within))
+
+factor-same-length-3 : (t : ℕ) → factor-lts.Need-same-length-3 (factor-claims t) (factor-at t) factor.Post
+factor-same-length-3 t c = c .before .before .variable .kept .1 .1 .1 .1 .1 .0
+
+factor-returns-3 : (t : ℕ) → factor-lts.Need-returns-3 (factor-claims t) (factor-at t) factor.Post
+factor-returns-3 t c = factor-name _ _ _ _ _ _ _ _ _ _ _ (c .before .before .before .before .before .before .before .begin .ensures) (c .before .before .before .before .if3 .taken) (c .before .before .variable .ensures)
+
+factor-add-inner : (t : ℕ) → factor-lts.Need-add-inner (factor-claims t) (factor-at t) factor.Post
+factor-add-inner t c = omega (arith, c .before .before .before .before .before .before .pre .1 .0 .shallow, c .before .before .before .before .before .before .pre .1 .0 .inside, c .before .before .before .before .before .before .pre .1 .0 .short)
+
+factor-opened-requires : (t : ℕ) → factor-lts.Need-opened-requires (factor-claims t) (factor-at t) factor.Post
+factor-opened-requires t c κs = tt
+
+factor-expression-requires : (t : ℕ) → factor-lts.Need-expression-requires (factor-claims t) (factor-at t) factor.Post
+factor-expression-requires t c κs =
+    let p = passed _ _ _ (c .before .before .before .before .before .before .begin .ensures) 2 (c .before .before .if4 .taken) in
+    (omega (arith, c .before .before .before .before .before .before .before .before .before .pre .0, p .from, p .within), (ready-later _ _ _ _ _ (c .before .before .before .before .before .before .before .before .before .pre .1 .0) 1 _ _ _ (p .from) (p .within) (omega arith) refl, c .before .before .before .before .before .before .before .before .before .pre .1 .1))
+
+factor-expect-requires : (t : ℕ) → factor-lts.Need-expect-requires (factor-claims t) (factor-at t) factor.Post
+factor-expect-requires t c κs = (within-inside _ _ _ _ _ (c .before .before .expression .ensures .within), refl)
+
+factor-same-length-4 : (t : ℕ) → factor-lts.Need-same-length-4 (factor-claims t) (factor-at t) factor.Post
+factor-same-length-4 t c = c .before .before .before .expression .kept .1 .1 .1 .1 .1 .1 .0
+
+factor-returns-4 : (t : ℕ) → factor-lts.Need-returns-4 (factor-claims t) (factor-at t) factor.Post
+factor-returns-4 t c = factor-bracket _ _ _ _ _ _ _ _ _ _ _ (c .before .before .before .before .before .before .before .before .before .before .begin .ensures) _ _ _ (c .before .before .before .before .before .before .if4 .taken) (add-one _) (c .before .before .before .before .before .opened .ensures) (c .before .before .before .expression .ensures) (c .expect .ensures)
+
+factor-named-requires : (t : ℕ) → factor-lts.Need-named-requires (factor-claims t) (factor-at t) factor.Post
+factor-named-requires t c κs = (c .before .before .before .before .before .before .before .before .pre .1 .0 .inside, begins-kind _ (omega (arith, c .before .before .before .before .before .begin .ensures .what, c .if5 .taken)))
+
+factor-opened-requires-2 : (t : ℕ) → factor-lts.Need-opened-requires-2 (factor-claims t) (factor-at t) factor.Post
+factor-opened-requires-2 t c κs = tt
+
+factor-expression-requires-2 : (t : ℕ) → factor-lts.Need-expression-requires-2 (factor-claims t) (factor-at t) factor.Post
+factor-expression-requires-2 t c κs =
+    let p = passed _ _ _ (c .before .before .before .before .before .before .before .before .begin .ensures) 5 (c .before .before .before .if5 .taken) in
+    (omega (arith, c .before .before .before .before .before .before .before .before .before .before .before .pre .0, p .from, p .within), (ready-later _ _ _ _ _ (c .before .before .before .before .before .before .before .before .before .before .before .pre .1 .0) 1 _ _ _ (omega (arith, p .from)) (p .within) (omega arith) refl, c .before .before .before .before .before .before .before .before .before .before .before .pre .1 .1))
+
+factor-expect-requires-2 : (t : ℕ) → factor-lts.Need-expect-requires-2 (factor-claims t) (factor-at t) factor.Post
+factor-expect-requires-2 t c κs = (within-inside _ _ _ _ _ (c .before .before .before .expression2 .ensures .within), refl)
+
+factor-then-read-requires : (t : ℕ) → factor-lts.Need-then-read-requires (factor-claims t) (factor-at t) factor.Post
+factor-then-read-requires t c κs =
+    let p = passed _ _ _ (c .before .before .before .before .before .before .before .before .before .before .before .before .before .begin .ensures) 5 (c .before .before .before .before .before .before .before .before .if5 .taken) in
+    let w = within-sealed _ _ _ (c .expect2 .ensures) (c .before .before .before .before .expression2 .ensures .within) in
+    (c .before .before .before .before .before .before .before .before .before .before .before .before .before .before .before .before .pre .1 .0 .inside, begins-kind _ (omega (arith, c .before .before .before .before .before .before .before .before .before .before .before .before .before .begin .ensures .what, c .before .before .before .before .before .before .before .before .if5 .taken)), c .before .before .before .before .before .before .before .before .before .before .before .before .before .before .before .before .pre .1 .1, ready-room _ _ _ _ _ (c .before .before .before .before .before .before .before .before .before .before .before .before .before .before .before .before .pre .1 .0) 1 _ _ _ _ (omega (arith, p .from)) w (c .before .before .before .before .expression2 .kept .1 .1 .1 .1 .1 .1 .0))
+
+factor-same-length-5 : (t : ℕ) → factor-lts.Need-same-length-5 (factor-claims t) (factor-at t) factor.Post
+factor-same-length-5 t c = c .before .before .then-read .kept .1 .1 .1 .1 .0 ∙ c .before .before .before .before .before .before .before .expression2 .kept .1 .1 .1 .1 .1 .1 .0
+
+factor-returns-5 : (t : ℕ) → factor-lts.Need-returns-5 (factor-claims t) (factor-at t) factor.Post
+factor-returns-5 t c = factor-element _ _ _ _ _ _ _ _ _ _ _ (c .before .before .before .before .before .before .before .before .before .before .before .before .before .before .before .before .begin .ensures) _ _ _ _ _ (c .before .before .before .before .before .before .before .before .before .before .before .if5 .taken) (add-one _) (λ t d. omega (arith, c .before .before .before .before .before .before .before .before .before .opened2 .ensures, c .before .before .before .before .before .before .before .before .before .before .named .ensures t d)) (c .before .before .before .before .before .before .before .expression2 .ensures) (c .before .before .before .expect2 .ensures) (c .before .before .then-read .ensures)
+
+factor-returns-6 : (t : ℕ) → factor-lts.Need-returns-6 (factor-claims t) (factor-at t) factor.Post
+factor-returns-6 t c = factor-none _ _ _ _ _ _ _ _ _ _ _ (c .before .before .before .before .before .begin .ensures) refl (c .before .before .before .before .if1 .left) (c .before .if4 .left) (c .before .before .before .if2 .left) (c .before .before .if3 .left) (c .if5 .left)
+
+more-factors-join-requires : (t : ℕ) → more-factors-lts.Need-join-requires (more-factors-claims t) (more-factors-at t) more-factors.Post
+more-factors-join-requires t c κs = (c .before .before .pre .1 .0 .inside, refl, refl)
+
+more-factors-returns : (t : ℕ) → more-factors-lts.Need-returns (more-factors-claims t) (more-factors-at t) more-factors.Post
+more-factors-returns t c = factors-none _ _ _ _ _ _ _ _ _ (c .before .join .ensures) (c .if1 .taken) (c .before .before .before .before .pre .1 .0 .inside)
+
+more-factors-factor-requires : (t : ℕ) → more-factors-lts.Need-factor-requires (more-factors-claims t) (more-factors-at t) more-factors.Post
+more-factors-factor-requires t c κs =
+    let p = some-sign 42 47 _ _ _ (c .before .before .join .ensures) refl (c .before .if1 .left) .2 in
+    (omega (arith, c .before .before .before .before .before .pre .0, p .from, p .within), (ready-later _ _ _ _ _ (c .before .before .before .before .before .pre .1 .0) 1 _ _ _ (p .from) (p .within) (omega arith) refl, c .before .before .before .before .before .pre .1 .1))
+
+more-factors-factor-operation-requires : (t : ℕ) → more-factors-lts.Need-factor-operation-requires (more-factors-claims t) (more-factors-at t) more-factors.Post
+more-factors-factor-operation-requires t c κs = c .before .before .before .before .before .before .before .before .before .pre .1 .1
+
+more-factors-then-emit-requires : (t : ℕ) → more-factors-lts.Need-then-emit-requires (more-factors-claims t) (more-factors-at t) more-factors.Post
+more-factors-then-emit-requires t c κs = ready-room _ _ _ _ _ (c .before .before .before .before .before .before .before .before .before .before .pre .1 .0) 1 _ _ _ _ (some-sign 42 47 _ _ _ (c .before .before .before .before .before .before .before .join .ensures) refl (c .before .before .before .before .before .before .if1 .left) .2 .from) (c .before .before .before .before .factor .ensures .within) (c .before .before .before .before .factor .kept .1 .1 .1 .1 .1 .1 .0)
+
+more-factors-enum-known-n : (t : ℕ) → more-factors-lts.Need-enum-known-n (more-factors-claims t) (more-factors-at t) more-factors.Post
+more-factors-enum-known-n t c = search needs
+
+more-factors-more-factors-requires : (t : ℕ) → more-factors-lts.Need-more-factors-requires (more-factors-claims t) (more-factors-at t) more-factors.Post
+more-factors-more-factors-requires t c κs =
+    let w = sign-within _ _ _ _ _ _ _ _ _ (some-sign 42 47 _ _ _ (c .before .before .before .before .before .before .before .before .before .before .before .before .before .before .join .ensures) refl (c .before .before .before .before .before .before .before .before .before .before .before .before .before .if1 .left) .2) (c .before .before .before .before .before .before .then-emit .ensures) (c .before .before .before .before .before .before .before .before .before .before .before .factor .ensures .within) in
+    let d = within-done _ _ _ _ _ _ _ _ w (c .before .before .n .given .1) in
+    (omega (arith, c .before .before .before .before .before .before .before .before .before .before .before .before .before .before .before .before .before .pre .0, d .0, d .1), (ready-next _ _ _ _ _ (c .before .before .before .before .before .before .before .before .before .before .before .before .before .before .before .before .before .pre .1 .0) _ _ _ _ _ _ (omega arith) w (c .before .before .n .given .1) (c .before .before .before .before .before .before .then-emit .kept .1 .0 ∙ c .before .before .before .before .before .before .before .before .before .before .before .factor .kept .1 .1 .1 .1 .1 .1 .0), c .before .before .before .before .before .before .before .before .before .before .before .before .before .before .before .before .before .pre .1 .1))
+
+more-factors-enum-told : (t : ℕ) → more-factors-lts.Need-enum-told (more-factors-claims t) (more-factors-at t) more-factors.Post
+more-factors-enum-told t c = search needs
+
+more-factors-same-length : (t : ℕ) → more-factors-lts.Need-same-length (more-factors-claims t) (more-factors-at t) more-factors.Post
+more-factors-same-length t c = c .before .before .more-factors .kept .1 .1 .1 .1 .1 .1 .0 ∙ c .before .before .before .before .before .before .before .before .before .then-emit .kept .1 .0 ∙ c .before .before .before .before .before .before .before .before .before .before .before .before .before .before .factor .kept .1 .1 .1 .1 .1 .1 .0
+
+more-factors-returns-2 : (t : ℕ) → more-factors-lts.Need-returns-2 (more-factors-claims t) (more-factors-at t) more-factors.Post
+more-factors-returns-2 t c = factors-some _ _ _ _ _ _ _ _ _ (c .before .before .before .before .before .before .before .before .before .before .before .before .before .before .before .before .before .join .ensures) (c .before .before .before .before .before .before .before .before .before .before .before .before .before .before .before .before .if1 .left) _ _ _ _ _ _ _ (c .before .before .before .before .before .before .before .before .before .before .factor-operation .ensures) (c .before .before .before .before .before .before .before .before .before .then-emit .ensures) (c .before .before .before .before .before .before .before .before .before .before .before .before .before .before .factor .ensures) (goes-on _ _ _ _ _ _ _ _ _ _ _ _ (c .before .before .before .before .before .n .given .1) (c .before .before .more-factors .ensures))
+
+more-factors-same-length-2 : (t : ℕ) → more-factors-lts.Need-same-length-2 (more-factors-claims t) (more-factors-at t) more-factors.Post
+more-factors-same-length-2 t c = c .before .before .before .before .then-emit .kept .1 .0 ∙ c .before .before .before .before .before .before .before .before .before .factor .kept .1 .1 .1 .1 .1 .1 .0
+
+more-factors-returns-3 : (t : ℕ) → more-factors-lts.Need-returns-3 (more-factors-claims t) (more-factors-at t) more-factors.Post
+more-factors-returns-3 t c = factors-some _ _ _ _ _ _ _ _ _ (c .before .before .before .before .before .before .before .before .before .before .before .before .join .ensures) (c .before .before .before .before .before .before .before .before .before .before .before .if1 .left) _ _ _ _ _ _ _ (c .before .before .before .before .before .factor-operation .ensures) (c .before .before .before .before .then-emit .ensures) (c .before .before .before .before .before .before .before .before .before .factor .ensures) (goes-not _ _ _ _ _ _ _ _ (c .enum-told .given .1))
+
+more-terms-join-requires : (t : ℕ) → more-terms-lts.Need-join-requires (more-terms-claims t) (more-terms-at t) more-terms.Post
+more-terms-join-requires t c κs = (c .before .before .pre .1 .0 .inside, refl, refl)
+
+more-terms-returns : (t : ℕ) → more-terms-lts.Need-returns (more-terms-claims t) (more-terms-at t) more-terms.Post
+more-terms-returns t c = terms-none _ _ _ _ _ _ _ _ _ (c .before .join .ensures) (c .if1 .taken) (c .before .before .before .before .pre .1 .0 .inside)
+
+more-terms-term-requires : (t : ℕ) → more-terms-lts.Need-term-requires (more-terms-claims t) (more-terms-at t) more-terms.Post
+more-terms-term-requires t c κs =
+    let p = some-sign 43 45 _ _ _ (c .before .before .join .ensures) refl (c .before .if1 .left) .2 in
+    (omega (arith, c .before .before .before .before .before .pre .0, p .from, p .within), (ready-later _ _ _ _ _ (c .before .before .before .before .before .pre .1 .0) 1 _ _ _ (p .from) (p .within) (omega arith) refl, c .before .before .before .before .before .pre .1 .1))
+
+more-terms-term-operation-requires : (t : ℕ) → more-terms-lts.Need-term-operation-requires (more-terms-claims t) (more-terms-at t) more-terms.Post
+more-terms-term-operation-requires t c κs = tt
+
+more-terms-then-emit-requires : (t : ℕ) → more-terms-lts.Need-then-emit-requires (more-terms-claims t) (more-terms-at t) more-terms.Post
+more-terms-then-emit-requires t c κs = ready-room _ _ _ _ _ (c .before .before .before .before .before .before .before .before .before .before .pre .1 .0) 1 _ _ _ _ (some-sign 43 45 _ _ _ (c .before .before .before .before .before .before .before .join .ensures) refl (c .before .before .before .before .before .before .if1 .left) .2 .from) (c .before .before .before .before .term .ensures .within) (c .before .before .before .before .term .kept .1 .1 .1 .1 .1 .1 .0)
+
+more-terms-enum-known-n : (t : ℕ) → more-terms-lts.Need-enum-known-n (more-terms-claims t) (more-terms-at t) more-terms.Post
+more-terms-enum-known-n t c = search needs
+
+more-terms-more-terms-requires : (t : ℕ) → more-terms-lts.Need-more-terms-requires (more-terms-claims t) (more-terms-at t) more-terms.Post
+more-terms-more-terms-requires t c κs =
+    let w = sign-within _ _ _ _ _ _ _ _ _ (some-sign 43 45 _ _ _ (c .before .before .before .before .before .before .before .before .before .before .before .before .before .before .join .ensures) refl (c .before .before .before .before .before .before .before .before .before .before .before .before .before .if1 .left) .2) (c .before .before .before .before .before .before .then-emit .ensures) (c .before .before .before .before .before .before .before .before .before .before .before .term .ensures .within) in
+    let d = within-done _ _ _ _ _ _ _ _ w (c .before .before .n .given .1) in
+    (omega (arith, c .before .before .before .before .before .before .before .before .before .before .before .before .before .before .before .before .before .pre .0, d .0, d .1), (ready-next _ _ _ _ _ (c .before .before .before .before .before .before .before .before .before .before .before .before .before .before .before .before .before .pre .1 .0) _ _ _ _ _ _ (omega arith) w (c .before .before .n .given .1) (c .before .before .before .before .before .before .then-emit .kept .1 .0 ∙ c .before .before .before .before .before .before .before .before .before .before .before .term .kept .1 .1 .1 .1 .1 .1 .0), c .before .before .before .before .before .before .before .before .before .before .before .before .before .before .before .before .before .pre .1 .1))
+
+more-terms-enum-told : (t : ℕ) → more-terms-lts.Need-enum-told (more-terms-claims t) (more-terms-at t) more-terms.Post
+more-terms-enum-told t c = search needs
+
+more-terms-same-length : (t : ℕ) → more-terms-lts.Need-same-length (more-terms-claims t) (more-terms-at t) more-terms.Post
+more-terms-same-length t c = c .before .before .more-terms .kept .1 .1 .1 .1 .1 .1 .0 ∙ c .before .before .before .before .before .before .before .before .before .then-emit .kept .1 .0 ∙ c .before .before .before .before .before .before .before .before .before .before .before .before .before .before .term .kept .1 .1 .1 .1 .1 .1 .0
+
+more-terms-returns-2 : (t : ℕ) → more-terms-lts.Need-returns-2 (more-terms-claims t) (more-terms-at t) more-terms.Post
+more-terms-returns-2 t c = terms-some _ _ _ _ _ _ _ _ _ (c .before .before .before .before .before .before .before .before .before .before .before .before .before .before .before .before .before .join .ensures) (c .before .before .before .before .before .before .before .before .before .before .before .before .before .before .before .before .if1 .left) _ _ _ _ _ _ _ (c .before .before .before .before .before .before .before .before .before .before .term-operation .ensures) (c .before .before .before .before .before .before .before .before .before .then-emit .ensures) (c .before .before .before .before .before .before .before .before .before .before .before .before .before .before .term .ensures) (goes-on _ _ _ _ _ _ _ _ _ _ _ _ (c .before .before .before .before .before .n .given .1) (c .before .before .more-terms .ensures))
+
+more-terms-same-length-2 : (t : ℕ) → more-terms-lts.Need-same-length-2 (more-terms-claims t) (more-terms-at t) more-terms.Post
+more-terms-same-length-2 t c = c .before .before .before .before .then-emit .kept .1 .0 ∙ c .before .before .before .before .before .before .before .before .before .term .kept .1 .1 .1 .1 .1 .1 .0
+
+more-terms-returns-3 : (t : ℕ) → more-terms-lts.Need-returns-3 (more-terms-claims t) (more-terms-at t) more-terms.Post
+more-terms-returns-3 t c = terms-some _ _ _ _ _ _ _ _ _ (c .before .before .before .before .before .before .before .before .before .before .before .before .join .ensures) (c .before .before .before .before .before .before .before .before .before .before .before .if1 .left) _ _ _ _ _ _ _ (c .before .before .before .before .before .term-operation .ensures) (c .before .before .before .before .then-emit .ensures) (c .before .before .before .before .before .before .before .before .before .term .ensures) (goes-not _ _ _ _ _ _ _ _ (c .enum-told .given .1))
+
+quotient-add-inner : (t : ℕ) → quotient-lts.Need-add-inner (quotient-claims t) (quotient-at t) quotient.Post
+quotient-add-inner t c = omega (arith, c .before .before .pre .1 .0 .shallow, c .before .before .pre .1 .0 .inside, c .before .before .pre .1 .0 .short)
+
+quotient-opened-requires : (t : ℕ) → quotient-lts.Need-opened-requires (quotient-claims t) (quotient-at t) quotient.Post
+quotient-opened-requires t c κs = tt
+
+quotient-expression-requires : (t : ℕ) → quotient-lts.Need-expression-requires (quotient-claims t) (quotient-at t) quotient.Post
+quotient-expression-requires t c κs = (omega (arith, c .before .before .before .before .pre .0), c .before .before .before .before .pre .1)
+
+quotient-expect-requires : (t : ℕ) → quotient-lts.Need-expect-requires (quotient-claims t) (quotient-at t) quotient.Post
+quotient-expect-requires t c κs = (within-inside _ _ _ _ _ (c .before .before .expression .ensures .within), refl)
+
+quotient-enum-known-n : (t : ℕ) → quotient-lts.Need-enum-known-n (quotient-claims t) (quotient-at t) quotient.Post
+quotient-enum-known-n t c = search needs
+
+quotient-expression-requires-2 : (t : ℕ) → quotient-lts.Need-expression-requires-2 (quotient-claims t) (quotient-at t) quotient.Post
+quotient-expression-requires-2 t c κs =
+    let w = within-from _ _ _ _ (c .before .before .before .before .before .before .before .before .before .before .before .before .args .at) (c .before .before .before .before .before .before .before .before .before .before .before .before .args .place) (suc (c .before .before .before .before .before .before .before .before .before .before .before .before .args .at)) _ (omega arith) (omega arith) (within-sealed _ _ _ (c .before .before .before .before .expect .ensures) (c .before .before .before .before .before .before .before .expression .ensures .within)) in
+    let d = within-done _ _ _ _ _ _ _ _ w (c .before .before .n .given .1) in
+    (omega (arith, c .before .before .before .before .before .before .before .before .before .before .before .before .pre .0, d .0, d .1), (ready-next _ _ _ _ _ (c .before .before .before .before .before .before .before .before .before .before .before .before .pre .1 .0) _ _ _ _ _ _ (omega arith) w (c .before .before .n .given .1) (c .before .before .before .before .before .before .before .expression .kept .1 .1 .1 .1 .1 .1 .0), c .before .before .before .before .before .before .before .before .before .before .before .before .pre .1 .1))
+
+quotient-expect-requires-2 : (t : ℕ) → quotient-lts.Need-expect-requires-2 (quotient-claims t) (quotient-at t) quotient.Post
+quotient-expect-requires-2 t c κs = (within-inside _ _ _ _ _ (c .before .before .expression2 .ensures .within), refl)
+
+quotient-mul-then-emit : (t : ℕ) → quotient-lts.Need-mul-then-emit (quotient-claims t) (quotient-at t) quotient.Post
+quotient-mul-then-emit t c = omega (arith, c .before .before .before .before .before .before .before .before .before .before .before .before .before .before .before .before .before .pre .1 .1)
+
+quotient-add-then-emit : (t : ℕ) → quotient-lts.Need-add-then-emit (quotient-claims t) (quotient-at t) quotient.Post
+quotient-add-then-emit t c = omega (arith, c .before .before .before .before .before .before .before .before .before .before .before .before .before .before .before .before .before .pre .1 .1)
+
+quotient-then-emit-requires : (t : ℕ) → quotient-lts.Need-then-emit-requires (quotient-claims t) (quotient-at t) quotient.Post
+quotient-then-emit-requires t c κs =
+    let d = within-done _ _ _ _ _ _ _ _ (within-sealed _ _ _ (c .before .before .before .before .before .before .before .before .before .expect .ensures) (c .before .before .before .before .before .before .before .before .before .before .before .before .expression .ensures .within)) (c .before .before .before .before .before .before .before .n .given .1) in
+    let w = within-from _ _ _ _ (c .before .before .before .before .before .before .before .before .before .before .before .before .before .before .before .before .before .args .at + 1) (c .before .before .before .before .before .before .before .before .before .before .before .before .before .before .before .before .before .args .place) 0 _ (omega arith) (omega (arith, d .2)) (within-sealed _ _ _ (c .before .expect2 .ensures) (c .before .before .before .before .expression2 .ensures .within)) in
+    ready-room _ _ _ _ _ (c .before .before .before .before .before .before .before .before .before .before .before .before .before .before .before .before .before .pre .1 .0) 1 _ _ _ _ (omega arith) w (c .before .before .before .before .expression2 .kept .1 .1 .1 .1 .1 .1 .0 ∙ c .before .before .before .before .before .before .before .before .before .before .before .before .expression .kept .1 .1 .1 .1 .1 .1 .0)
+
+quotient-enum-told : (t : ℕ) → quotient-lts.Need-enum-told (quotient-claims t) (quotient-at t) quotient.Post
+quotient-enum-told t c = search needs
+
+quotient-same-length : (t : ℕ) → quotient-lts.Need-same-length (quotient-claims t) (quotient-at t) quotient.Post
+quotient-same-length t c = c .before .before .then-emit .kept .1 .0 ∙ c .before .before .before .before .before .before .before .expression2 .kept .1 .1 .1 .1 .1 .1 .0 ∙ c .before .before .before .before .before .before .before .before .before .before .before .before .before .before .before .expression .kept .1 .1 .1 .1 .1 .1 .0
+
+quotient-returns : (t : ℕ) → quotient-lts.Need-returns (quotient-claims t) (quotient-at t) quotient.Post
+quotient-returns t c = quotient-answers _ _ _ _ _ _ _ _ _ _ _ _ _ _ _ (add-one _) (c .before .before .before .before .before .before .before .before .before .before .before .before .before .before .before .before .before .opened .ensures) (c .before .before .before .before .before .before .before .before .before .before .before .before .before .before .before .expression .ensures) (c .before .before .before .before .before .before .before .before .before .before .before .before .expect .ensures) (ends-on _ _ _ _ _ _ _ _ _ _ _ _ _ _ (c .before .before .before .before .before .before .before .before .before .before .n .given .1) (c .before .before .before .before .before .before .before .expression2 .ensures) (c .before .before .before .before .expect2 .ensures) (c .before .before .then-emit .ensures))
+
+quotient-same-length-2 : (t : ℕ) → quotient-lts.Need-same-length-2 (quotient-claims t) (quotient-at t) quotient.Post
+quotient-same-length-2 t c = c .before .before .before .before .before .expression .kept .1 .1 .1 .1 .1 .1 .0
+
+quotient-returns-2 : (t : ℕ) → quotient-lts.Need-returns-2 (quotient-claims t) (quotient-at t) quotient.Post
+quotient-returns-2 t c = quotient-answers _ _ _ _ _ _ _ _ _ _ _ _ _ _ _ (add-one _) (c .before .before .before .before .before .before .before .opened .ensures) (c .before .before .before .before .before .expression .ensures) (c .before .before .expect .ensures) (ends-not _ _ _ _ _ _ _ (c .enum-told .given .1))
+
+term-factor-requires : (t : ℕ) → term-lts.Need-factor-requires (term-claims t) (term-at t) term.Post
+term-factor-requires t c κs = (omega (arith, c .before .before .before .pre .0), c .before .before .before .pre .1)
+
+term-enum-known-n : (t : ℕ) → term-lts.Need-enum-known-n (term-claims t) (term-at t) term.Post
+term-enum-known-n t c = search needs
+
+term-more-factors-requires : (t : ℕ) → term-lts.Need-more-factors-requires (term-claims t) (term-at t) term.Post
+term-more-factors-requires t c κs =
+    let w = c .before .before .before .before .before .before .factor .ensures .within in
+    let d = within-done _ _ _ _ _ _ _ _ w (c .before .before .n .given .1) in
+    (omega (arith, c .before .before .before .before .before .before .before .before .before .before .pre .0, d .0, d .1), (ready-next _ _ _ _ _ (c .before .before .before .before .before .before .before .before .before .before .pre .1 .0) _ _ _ _ _ _ (omega arith) w (c .before .before .n .given .1) (c .before .before .before .before .before .before .factor .kept .1 .1 .1 .1 .1 .1 .0), c .before .before .before .before .before .before .before .before .before .before .pre .1 .1))
+
+term-enum-told : (t : ℕ) → term-lts.Need-enum-told (term-claims t) (term-at t) term.Post
+term-enum-told t c = search needs
+
+term-same-length : (t : ℕ) → term-lts.Need-same-length (term-claims t) (term-at t) term.Post
+term-same-length t c = c .before .before .more-factors .kept .1 .1 .1 .1 .1 .1 .0 ∙ c .before .before .before .before .before .before .before .before .before .factor .kept .1 .1 .1 .1 .1 .1 .0
+
+term-returns : (t : ℕ) → term-lts.Need-returns (term-claims t) (term-at t) term.Post
+term-returns t c = term-answers _ _ _ _ _ _ _ _ _ _ _ _ (c .before .before .before .before .before .before .before .before .before .factor .ensures) (goes-on _ _ _ _ _ _ _ _ _ _ _ _ (c .before .before .before .before .before .n .given .1) (c .before .before .more-factors .ensures))
+
+term-same-length-2 : (t : ℕ) → term-lts.Need-same-length-2 (term-claims t) (term-at t) term.Post
+term-same-length-2 t c = c .before .before .before .before .factor .kept .1 .1 .1 .1 .1 .1 .0
+
+term-returns-2 : (t : ℕ) → term-lts.Need-returns-2 (term-claims t) (term-at t) term.Post
+term-returns-2 t c = term-answers _ _ _ _ _ _ _ _ _ _ _ _ (c .before .before .before .before .factor .ensures) (goes-not _ _ _ _ _ _ _ _ (c .enum-told .given .1))
+
+pub +expression+factor+more-factors+more-terms+quotient+term-spec : {M : Type 1} → statement M
++expression+factor+more-factors+more-terms+quotient+term-spec =
+    close
+    μ-expression
+    μ-factor
+    μ-more-factors
+    μ-more-terms
+    μ-quotient
+    μ-term
+    (λ t. expression-lts.spec (expression-claims t)
+    (expression-at t)
+    expression.Post
+    (expression-join-requires t)
+    (expression-term-requires t)
+    (expression-then-negate-requires t)
+    (expression-enum-known-n t)
+    (expression-more-terms-requires t)
+    (expression-enum-told t)
+    (expression-same-length t)
+    (expression-returns t)
+    (expression-same-length-2 t)
+    (expression-returns-2 t))
+    (λ t. factor-lts.spec (factor-claims t)
+    (factor-at t)
+    factor.Post
+    (factor-begin-requires t)
+    (factor-constant-requires t)
+    (factor-same-length t)
+    (factor-returns t)
+    (factor-quotient-requires t)
+    (factor-same-length-2 t)
+    (factor-returns-2 t)
+    (factor-variable-requires t)
+    (factor-same-length-3 t)
+    (factor-returns-3 t)
+    (factor-add-inner t)
+    (factor-opened-requires t)
+    (factor-expression-requires t)
+    (factor-expect-requires t)
+    (factor-same-length-4 t)
+    (factor-returns-4 t)
+    (factor-named-requires t)
+    (factor-opened-requires-2 t)
+    (factor-expression-requires-2 t)
+    (factor-expect-requires-2 t)
+    (factor-then-read-requires t)
+    (factor-same-length-5 t)
+    (factor-returns-5 t)
+    (factor-returns-6 t))
+    (λ t. more-factors-lts.spec (more-factors-claims t)
+    (more-factors-at t)
+    more-factors.Post
+    (more-factors-join-requires t)
+    (more-factors-returns t)
+    (more-factors-factor-requires t)
+    (more-factors-factor-operation-requires t)
+    (more-factors-then-emit-requires t)
+    (more-factors-enum-known-n t)
+    (more-factors-more-factors-requires t)
+    (more-factors-enum-told t)
+    (more-factors-same-length t)
+    (more-factors-returns-2 t)
+    (more-factors-same-length-2 t)
+    (more-factors-returns-3 t))
+    (λ t. more-terms-lts.spec (more-terms-claims t)
+    (more-terms-at t)
+    more-terms.Post
+    (more-terms-join-requires t)
+    (more-terms-returns t)
+    (more-terms-term-requires t)
+    (more-terms-term-operation-requires t)
+    (more-terms-then-emit-requires t)
+    (more-terms-enum-known-n t)
+    (more-terms-more-terms-requires t)
+    (more-terms-enum-told t)
+    (more-terms-same-length t)
+    (more-terms-returns-2 t)
+    (more-terms-same-length-2 t)
+    (more-terms-returns-3 t))
+    (λ t. quotient-lts.spec (quotient-claims t)
+    (quotient-at t)
+    quotient.Post
+    (quotient-add-inner t)
+    (quotient-opened-requires t)
+    (quotient-expression-requires t)
+    (quotient-expect-requires t)
+    (quotient-enum-known-n t)
+    (quotient-expression-requires-2 t)
+    (quotient-expect-requires-2 t)
+    (quotient-mul-then-emit t)
+    (quotient-add-then-emit t)
+    (quotient-then-emit-requires t)
+    (quotient-enum-told t)
+    (quotient-same-length t)
+    (quotient-returns t)
+    (quotient-same-length-2 t)
+    (quotient-returns-2 t))
+    λ t. term-lts.spec (term-claims t)
+    (term-at t)
+    term.Post
+    (term-factor-requires t)
+    (term-enum-known-n t)
+    (term-more-factors-requires t)
+    (term-enum-told t)
+    (term-same-length t)
+    (term-returns t)
+    (term-same-length-2 t)
+    (term-returns-2 t)

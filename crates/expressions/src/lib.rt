@@ -1,0 +1,659 @@
+// The readers of expressions (document 01, The loop text): form, names and limits are checked, and postfix code is emitted, in one pass over what is
+// left of a line. "An expression holds terms, a term holds factors, a factor may hold an expression": the readers call each other.
+ghost use mathlib.Core.Path.{_≡_};
+ghost use mathlib.Core.List.{[], _∷_};
+ghost use mathlib.Core.Bool.{cond};
+ghost use Prim.Native.Nat.{suc, _≤_, _+_, _*_, max};
+ghost use lib.Dec.{eqb, leb};
+ghost use lib.ListN.{length, set};
+ghost use Rattle.syntax.specs.Bytes.{same};
+ghost use Rattle.syntax.specs.Reader.{peek-in, skip-in, readExpr, readTerms, readTerm, readFactors, readFactor, readRef};
+ghost use Rattle.syntax.specs.Conditions.{mentions, inTerms, inTerm, inFactors, inFactor, inRef};
+ghost use Rattle.code.specs.Instr.{add, subtract, multiply, divide, operation as operationOf, words};
+ghost use Rattle.code.specs.Compile.{codeLead, code as codeExpr, codeTerms, codeTerm, codeFactors, codeFactor, codeRef};
+ghost use Rattle.lexer.specs.Lex.{part};
+ghost use Rattle.expressions.specs.Answer.{Answers, Ready};
+ghost use Rattle.expressions.specs.Readers.{readRemainder, readQuotient};
+ghost use Rattle.expressions.specs.Parts.{kindAt, textAt, Sign, Joins, Begins, leadOf, Inside, Sealed, Ranks, Ranked, Worded, spanOf, Room, Emits, Fetches, Pushes, Loads};
+use lexer::Tok;
+use lexer::literal;
+use lexer::reads;
+use lexer::token;
+use names::find;
+use names::is_named;
+
+// The numbers of the operations (`operation` of Rattle.code.specs.Instr).
+const PUSH: u32 = 0;
+
+const PUSH_V: u32 = 1;
+
+const LOAD: u32 = 2;
+
+const LOAD_AT: u32 = 3;
+
+const ADD: u32 = 4;
+
+const SUBTRACT: u32 = 5;
+
+const MULTIPLY: u32 = 6;
+
+const NEGATE: u32 = 7;
+
+const DIVIDE: u32 = 8;
+
+const ROUND: u32 = 9;
+
+// What a reader answers: the next place of the line and of the code, and the highest rank so far (0 in order, 1 over a limit, 2 a wrong name).
+pub enum Got {
+    Broken,
+    Done { at: usize, place: usize, rank: u32 },
+}
+
+// What stands at a place, by a number, and the place after it.
+struct Seen {
+    what: u32,
+    next: usize,
+}
+
+// The two words of an instruction.
+struct Words {
+    operation: u32,
+    argument: u32,
+}
+
+// ---- ranks
+
+fn larger(a: u32, b: u32) -> u32
+    ensures { λ r. ⌜ r ≡ max a b ⌝ }
+{
+    if a < b { b } else { a }
+}
+
+// The highest rank, once as many brackets are open together.
+fn opened(rank: u32, depth: usize) -> u32
+    ensures { λ r. ⌜ r ≡ max rank (cond (leb depth 8) 0 1) ⌝ }
+{
+    if depth <= 8 { rank } else { larger(rank, 1) }
+}
+
+// The rank of a literal.
+fn literal_rank(n: u32) -> u32
+    ensures { λ r. ⌜ r ≡ cond (leb n 2147483647) 0 1 ⌝ }
+{
+    if n <= 2147483647 { 0 } else { 1 }
+}
+
+// The rank of a name, with a subscript or without.
+fn name_rank(table: &[u32; 613], w: &[u8], subscript: bool) -> u32
+    requires { ⌜ length (now w) ≤ 32 ⌝ }
+    ensures { λ r. ⌜ Ranks (now (table .entry)) (now (w .entry)) subscript r ⌝ }
+{
+    if is_named(table, 16, w) {
+        return if subscript { 2 } else { 0 };
+    }
+    let n = find(table, w);
+    if !n.known {
+        return 2;
+    }
+    if n.subscripted {
+        if subscript { 0 } else { 2 }
+    } else {
+        if subscript { 2 } else { 0 }
+    }
+}
+
+// The highest rank, with that of the name at a place.
+fn named(s: &[u8], at: usize, rank: u32, table: &[u32; 613], subscript: bool) -> u32
+    requires { ⌜ (at ≤ length (now s)) × (kindAt (now s) at ≡ 1) ⌝ }
+    ensures { λ r. ⌜ Ranked (now (table .entry)) (textAt (now (s .entry)) at) subscript rank r ⌝ }
+{
+    let t = token(s, at);
+    let a = t.start;
+    let e = t.stop;
+    larger(rank, name_rank(table, &s[a..e], subscript))
+}
+
+// ---- signs
+
+// Whether a token is this sign, of one byte.
+fn is_sign(s: &[u8], t: Tok, c: u8) -> bool
+    requires { ⌜ (t .start ≤ t .stop) × (t .stop ≤ length (now s)) ⌝ }
+    ensures { λ r. ⌜ r ≡ same (c ∷ []) (part (now (s .entry)) (t .start) (t .stop)) ⌝ }
+{
+    let a = t.start;
+    let e = t.stop;
+    if e - a != 1 {
+        return false;
+    }
+    c == s[a]
+}
+
+// Which of two signs stands at a place: 1 the first, 2 the second, 0 neither.
+fn join(s: &[u8], at: usize, a: u8, b: u8) -> Seen
+    requires { ⌜ (at ≤ length (now s)) × Sign a × Sign b ⌝ }
+    ensures { λ r. ⌜ Joins a b (now (s .entry)) at r ⌝ }
+{
+    let t = token(s, at);
+    let stop = t.stop;
+    if is_sign(s, t, a) {
+        return Seen {
+            what: 1,
+            next: stop,
+        };
+    }
+    if is_sign(s, t, b) {
+        return Seen {
+            what: 2,
+            next: stop,
+        };
+    }
+    Seen { what: 0, next: at }
+}
+
+// How a factor begins: 1 a literal, 2 a bracket, 3 rdiv and a bracket, 4 a name, 5 a name and a bracket, 0 none of these.
+fn begin(s: &[u8], at: usize) -> Seen
+    requires { ⌜ at ≤ length (now s) ⌝ }
+    ensures { λ r. ⌜ Begins (now (s .entry)) at r ⌝ }
+{
+    let t = token(s, at);
+    let k = t.kind;
+    let stop = t.stop;
+    if k == 3 {
+        return Seen {
+            what: 1,
+            next: stop,
+        };
+    }
+    if is_sign(s, t, b'(') {
+        return Seen {
+            what: 2,
+            next: stop,
+        };
+    }
+    let u = token(s, stop);
+    let past = u.stop;
+    let open = is_sign(s, u, b'(');
+    if reads(s, t, b"rdiv") {
+        if open {
+            return Seen {
+                what: 3,
+                next: past,
+            };
+        }
+        return Seen { what: 0, next: at };
+    }
+    if k == 1 {
+        if open {
+            return Seen {
+                what: 5,
+                next: past,
+            };
+        }
+        return Seen {
+            what: 4,
+            next: stop,
+        };
+    }
+    Seen { what: 0, next: at }
+}
+
+// Reads a sign after what was read.
+fn expect(s: &[u8], g: Got, c: u8) -> Got
+    requires { ⌜ Inside (now s) g × Sign c ⌝ }
+    ensures { λ r. ⌜ Sealed c (now (s .entry)) g r ⌝ }
+{
+    match g {
+        Got::Done { at, place, rank } => {
+            let t = token(s, at);
+            let stop = t.stop;
+            if is_sign(s, t, c) {
+                Got::Done {
+                    at: stop,
+                    place,
+                    rank,
+                }
+            } else {
+                Got::Broken
+            }
+        }
+        Got::Broken => Got::Broken,
+    }
+}
+
+// ---- instructions
+
+// Writes an instruction's two words.
+fn emit(code: &mut [u32], place: usize, operation: u32, argument: u32)
+    requires { ⌜ 2 * (place + 1) ≤ length (now code) ⌝ }
+    ensures { λ _. ⌜ now (code .exit) ≡ set (set (now (code .entry)) (2 * place) operation) (suc (2 * place)) argument ⌝ }
+{
+    let i = 2 * place;
+    code[i] = operation;
+    code[i + 1] = argument;
+}
+
+// Writes an instruction after what was read.
+fn then_emit(g: Got, code: &mut [u32], operation: u32, argument: u32) -> Got
+    requires { ⌜ Room 1 g (now code) ⌝ }
+    ensures { λ r. ⌜ Emits 1 (operation ∷ argument ∷ []) g (now (code .entry)) (now (code .exit)) r ⌝ }
+{
+    match g {
+        Got::Done { at, place, rank } => {
+            emit(code, place, operation, argument);
+            Got::Done {
+                at,
+                place: place + 1,
+                rank,
+            }
+        }
+        Got::Broken => Got::Broken,
+    }
+}
+
+// Writes the instruction of a leading minus (2) after what was read.
+fn then_negate(g: Got, code: &mut [u32], sign: u32) -> Got
+    requires { ⌜ Room (length (codeLead (leadOf sign))) g (now code) ⌝ }
+    ensures { λ r. ⌜ Emits (length (codeLead (leadOf sign))) (words (codeLead (leadOf sign))) g (now (code .entry)) (now (code .exit)) r ⌝ }
+{
+    if sign < 2 {
+        return g;
+    }
+    then_emit(g, code, NEGATE, 0)
+}
+
+// The operation of a further term, after + (1) or - (2).
+fn term_operation(sign: u32) -> u32
+    ensures { λ r. ⌜ r ≡ cond (eqb sign 1) (operationOf add) (operationOf subtract) ⌝ }
+{
+    if sign == 1 { ADD } else { SUBTRACT }
+}
+
+// The operation of a further factor, after * (1) or / (2).
+fn factor_operation(sign: u32, line: u32) -> u32
+    requires { ⌜ line ≤ 2049 ⌝ }
+    ensures { λ r. ⌜ r ≡ cond (eqb sign 1) (operationOf multiply) (operationOf (divide line)) ⌝ }
+{
+    let over = DIVIDE + 32 * line;
+    if sign == 1 { MULTIPLY } else { over }
+}
+
+// A first cell and a length in one argument. A table of names within the limits has no others.
+fn span(first: u32, size: u32) -> u32
+    ensures { λ r. ⌜ r ≡ spanOf first size ⌝ }
+{
+    if 4096 < first {
+        return 0;
+    }
+    if 4096 < size {
+        return 0;
+    }
+    first + 4096 * size
+}
+
+// The instruction that reads the cell of a name, with a subscript or without.
+fn read_of(table: &[u32; 613], w: &[u8], line: u32, subscript: bool) -> Words
+    requires { ⌜ (length (now w) ≤ 32) × (line ≤ 2049) ⌝ }
+    ensures { λ r. ⌜ Worded (now (table .entry)) line (now (w .entry)) subscript r ⌝ }
+{
+    let n = find(table, w);
+    let first = n.first;
+    let size = n.size;
+    if subscript {
+        return Words {
+            operation: LOAD_AT + 32 * line,
+            argument: span(first, size),
+        };
+    }
+    if is_named(table, 16, w) {
+        return Words {
+            operation: PUSH_V,
+            argument: 0,
+        };
+    }
+    Words {
+        operation: LOAD,
+        argument: first,
+    }
+}
+
+// Writes the read of the name at a place after what was read.
+fn then_read(
+    s: &[u8],
+    at: usize,
+    line: u32,
+    table: &[u32; 613],
+    code: &mut [u32],
+    g: Got,
+    subscript: bool,
+) -> Got
+    requires { ⌜ (at ≤ length (now s)) × (kindAt (now s) at ≡ 1) × (line ≤ 2049) × Room 1 g (now code) ⌝ }
+    ensures { λ r. ⌜ Fetches (now (table .entry)) (now (s .entry)) at line subscript g (now (code .entry)) (now (code .exit)) r ⌝ }
+{
+    let t = token(s, at);
+    let a = t.start;
+    let e = t.stop;
+    let i = read_of(table, &s[a..e], line, subscript);
+    let operation = i.operation;
+    let argument = i.argument;
+    then_emit(g, code, operation, argument)
+}
+
+// ---- factors of one token
+
+// A literal.
+fn constant(s: &[u8], at: usize, rank: u32, code: &mut [u32], place: usize) -> Got
+    requires { ⌜ (at ≤ length (now s)) × (kindAt (now s) at ≡ 3) × (2 * (place + 1) ≤ length (now code)) ⌝ }
+    ensures { λ r. ⌜ Pushes (now (s .entry)) at place rank (now (code .entry)) (now (code .exit)) r ⌝ }
+{
+    let t = token(s, at);
+    let stop = t.stop;
+    let n = literal(s, t);
+    let worse = larger(rank, literal_rank(n));
+    then_emit(
+        Got::Done {
+            at: stop,
+            place,
+            rank: worse,
+        },
+        code,
+        PUSH,
+        n,
+    )
+}
+
+// A name without a subscript.
+fn variable(
+    s: &[u8],
+    at: usize,
+    rank: u32,
+    line: u32,
+    table: &[u32; 613],
+    code: &mut [u32],
+    place: usize,
+) -> Got
+    requires { ⌜ (at ≤ length (now s)) × (kindAt (now s) at ≡ 1) × (line ≤ 2049) × (2 * (place + 1) ≤ length (now code)) ⌝ }
+    ensures { λ r. ⌜ Loads (now (table .entry)) (now (s .entry)) at line place rank (now (code .entry)) (now (code .exit)) r ⌝ }
+{
+    let t = token(s, at);
+    let stop = t.stop;
+    let worse = named(s, at, rank, table, false);
+    then_read(
+        s,
+        at,
+        line,
+        table,
+        code,
+        Got::Done {
+            at: stop,
+            place,
+            rank: worse,
+        },
+        false,
+    )
+}
+
+// ---- the readers
+
+// An expression: a sign or none, a term, and further terms.
+pub fn expression(
+    s: &[u8],
+    at: usize,
+    depth: usize,
+    rank: u32,
+    line: u32,
+    table: &[u32; 613],
+    code: &mut [u32],
+    place: usize,
+) -> Got
+    requires { ⌜ Ready (now s) at depth place (now code) ⌝ }
+    requires { ⌜ line ≤ 2049 ⌝ }
+    ensures { λ r. ⌜ Answers (readExpr peek-in skip-in) (λ t v. codeExpr t v line) (mentions depth) 2 (suc at) (now (table .entry)) (now (s .entry)) at place rank (now (code .entry)) (now (code .exit)) r ⌝ }
+{
+    let l = join(s, at, b'+', b'-');
+    let sign = l.what;
+    let from = l.next;
+    match then_negate(
+        term(s, from, depth, rank, line, table, code, place),
+        code,
+        sign,
+    ) {
+        Got::Done {
+            at: n,
+            place: p,
+            rank: d,
+        } => more_terms(s, n, depth, d, line, table, code, p),
+        Got::Broken => Got::Broken,
+    }
+}
+
+// Further terms, each after + or -.
+fn more_terms(
+    s: &[u8],
+    at: usize,
+    depth: usize,
+    rank: u32,
+    line: u32,
+    table: &[u32; 613],
+    code: &mut [u32],
+    place: usize,
+) -> Got
+    requires { ⌜ Ready (now s) at depth place (now code) ⌝ }
+    requires { ⌜ line ≤ 2049 ⌝ }
+    ensures { λ r. ⌜ Answers (readTerms peek-in skip-in) (λ t v. codeTerms t v line) (inTerms depth) 0 at (now (table .entry)) (now (s .entry)) at place rank (now (code .entry)) (now (code .exit)) r ⌝ }
+{
+    let j = join(s, at, b'+', b'-');
+    let sign = j.what;
+    let from = j.next;
+    if sign == 0 {
+        return Got::Done { at, place, rank };
+    }
+    match then_emit(
+        term(s, from, depth, rank, line, table, code, place),
+        code,
+        term_operation(sign),
+        0,
+    ) {
+        Got::Done {
+            at: n,
+            place: p,
+            rank: d,
+        } => more_terms(s, n, depth, d, line, table, code, p),
+        Got::Broken => Got::Broken,
+    }
+}
+
+// A term: a factor, and further factors.
+fn term(
+    s: &[u8],
+    at: usize,
+    depth: usize,
+    rank: u32,
+    line: u32,
+    table: &[u32; 613],
+    code: &mut [u32],
+    place: usize,
+) -> Got
+    requires { ⌜ Ready (now s) at depth place (now code) ⌝ }
+    requires { ⌜ line ≤ 2049 ⌝ }
+    ensures { λ r. ⌜ Answers (readTerm peek-in skip-in) (λ t v. codeTerm t v line) (inTerm depth) 1 (suc at) (now (table .entry)) (now (s .entry)) at place rank (now (code .entry)) (now (code .exit)) r ⌝ }
+{
+    match factor(s, at, depth, rank, line, table, code, place) {
+        Got::Done {
+            at: n,
+            place: p,
+            rank: d,
+        } => more_factors(s, n, depth, d, line, table, code, p),
+        Got::Broken => Got::Broken,
+    }
+}
+
+// Further factors, each after * or /.
+fn more_factors(
+    s: &[u8],
+    at: usize,
+    depth: usize,
+    rank: u32,
+    line: u32,
+    table: &[u32; 613],
+    code: &mut [u32],
+    place: usize,
+) -> Got
+    requires { ⌜ Ready (now s) at depth place (now code) ⌝ }
+    requires { ⌜ line ≤ 2049 ⌝ }
+    ensures { λ r. ⌜ Answers (readFactors peek-in skip-in) (λ t v. codeFactors t v line) (inFactors depth) 0 at (now (table .entry)) (now (s .entry)) at place rank (now (code .entry)) (now (code .exit)) r ⌝ }
+{
+    let j = join(s, at, b'*', b'/');
+    let sign = j.what;
+    let from = j.next;
+    if sign == 0 {
+        return Got::Done { at, place, rank };
+    }
+    match then_emit(
+        factor(s, from, depth, rank, line, table, code, place),
+        code,
+        factor_operation(sign, line),
+        0,
+    ) {
+        Got::Done {
+            at: n,
+            place: p,
+            rank: d,
+        } => more_factors(s, n, depth, d, line, table, code, p),
+        Got::Broken => Got::Broken,
+    }
+}
+
+// A factor, by how it begins.
+fn factor(
+    s: &[u8],
+    at: usize,
+    depth: usize,
+    rank: u32,
+    line: u32,
+    table: &[u32; 613],
+    code: &mut [u32],
+    place: usize,
+) -> Got
+    requires { ⌜ Ready (now s) at depth place (now code) ⌝ }
+    requires { ⌜ line ≤ 2049 ⌝ }
+    ensures { λ r. ⌜ Answers (readFactor peek-in skip-in) (λ t v. codeFactor t v line) (inFactor depth) 0 (suc at) (now (table .entry)) (now (s .entry)) at place rank (now (code .entry)) (now (code .exit)) r ⌝ }
+{
+    let b = begin(s, at);
+    let what = b.what;
+    let next = b.next;
+    if what == 1 {
+        return constant(s, at, rank, code, place);
+    }
+    if what == 3 {
+        return quotient(s, next, depth, rank, line, table, code, place);
+    }
+    if what == 4 {
+        return variable(s, at, rank, line, table, code, place);
+    }
+    let inner = depth + 1;
+    if what == 2 {
+        let g = expression(
+            s,
+            next,
+            inner,
+            opened(rank, inner),
+            line,
+            table,
+            code,
+            place,
+        );
+        return expect(s, g, b')');
+    }
+    if what == 5 {
+        let worse = opened(named(s, at, rank, table, true), inner);
+        let g = expression(s, next, inner, worse, line, table, code, place);
+        return then_read(s, at, line, table, code, expect(s, g, b')'), true);
+    }
+    Got::Broken
+}
+
+// The two expressions of rdiv, after its bracket.
+fn quotient(
+    s: &[u8],
+    at: usize,
+    depth: usize,
+    rank: u32,
+    line: u32,
+    table: &[u32; 613],
+    code: &mut [u32],
+    place: usize,
+) -> Got
+    requires { ⌜ Ready (now s) at (depth + 1) place (now code) ⌝ }
+    requires { ⌜ line ≤ 2049 ⌝ }
+    ensures { λ r. ⌜ Answers readQuotient (λ t v. codeFactor t v line) (inFactor depth) 2 (suc at) (now (table .entry)) (now (s .entry)) at place rank (now (code .entry)) (now (code .exit)) r ⌝ }
+{
+    let inner = depth + 1;
+    let a = expression(s, at, inner, opened(rank, inner), line, table, code, place);
+    match expect(s, a, b',') {
+        Got::Done {
+            at: n,
+            place: p,
+            rank: d,
+        } => {
+            let b = expression(s, n, inner, d, line, table, code, p);
+            then_emit(expect(s, b, b')'), code, ROUND + 32 * line, 0)
+        }
+        Got::Broken => Got::Broken,
+    }
+}
+
+// A name, and its subscript if it has one: only the subscript's code is emitted.
+pub fn reference(
+    s: &[u8],
+    at: usize,
+    rank: u32,
+    line: u32,
+    table: &[u32; 613],
+    code: &mut [u32],
+    place: usize,
+) -> Got
+    requires { ⌜ Ready (now s) at 0 place (now code) ⌝ }
+    requires { ⌜ line ≤ 2049 ⌝ }
+    ensures { λ r. ⌜ Answers (readRef peek-in skip-in) (λ t v. codeRef t v line) (inRef 0) 0 (suc at) (now (table .entry)) (now (s .entry)) at place rank (now (code .entry)) (now (code .exit)) r ⌝ }
+{
+    let b = begin(s, at);
+    let what = b.what;
+    let next = b.next;
+    if what == 4 {
+        return Got::Done {
+            at: next,
+            place,
+            rank: named(s, at, rank, table, false),
+        };
+    }
+    if what == 5 {
+        let worse = named(s, at, rank, table, true);
+        let g = expression(s, next, 1, worse, line, table, code, place);
+        return expect(s, g, b')');
+    }
+    Got::Broken
+}
+
+// A term and further terms: what an update adds, after its +.
+pub fn remainder(
+    s: &[u8],
+    at: usize,
+    rank: u32,
+    line: u32,
+    table: &[u32; 613],
+    code: &mut [u32],
+    place: usize,
+) -> Got
+    requires { ⌜ Ready (now s) at 0 place (now code) ⌝ }
+    requires { ⌜ line ≤ 2049 ⌝ }
+    ensures { λ r. ⌜ Answers readRemainder (λ t v. codeExpr t v line) (mentions 0) 1 (suc at) (now (table .entry)) (now (s .entry)) at place rank (now (code .entry)) (now (code .exit)) r ⌝ }
+{
+    match term(s, at, 0, rank, line, table, code, place) {
+        Got::Done {
+            at: n,
+            place: p,
+            rank: d,
+        } => more_terms(s, n, 0, d, line, table, code, p),
+        Got::Broken => Got::Broken,
+    }
+}
