@@ -1,3 +1,4 @@
 pub mod Lists
 pub mod IntegerLines
 pub mod DataLines
+pub mod ClauseLines

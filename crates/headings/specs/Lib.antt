@@ -1,3 +1,4 @@
 pub mod Lists
 pub mod Integer
 pub mod Data
+pub mod Directive

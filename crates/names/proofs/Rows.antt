@@ -62,7 +62,7 @@ module _ (T T′ : List ℕ) (i : ℕ) (e : Entry) (o : Row T i e) where
 
 -- ---- the facts of one entry
 
-getD-map : {A B : Type 0} (f : A → B) (l : List A) (i : ℕ) (d : A) (d′ : B) → i < length l → getD (map f l) i d′ ≡ f (getD l i d)
+pub getD-map : {A B : Type 0} (f : A → B) (l : List A) (i : ℕ) (d : A) (d′ : B) → i < length l → getD (map f l) i d′ ≡ f (getD l i d)
 getD-map f [] i d d′ h = absurd (omega arith)
 getD-map f (x ∷ xs) zero d d′ h = refl
 getD-map f (x ∷ xs) (suc i) d d′ h = getD-map f xs i d d′ (omega arith)
@@ -202,7 +202,7 @@ getD-left [] u i h = absurd (omega arith)
 getD-left (x ∷ t) u zero h = refl
 getD-left (x ∷ t) u (suc i) h = getD-left t u i (omega arith)
 
-unknown-at : (w : List ℕ) (t : List Entry) → known w t ≡ false → (i : ℕ) → i < length t → same w (getD t i nowhere .name) ≡ false
+pub unknown-at : (w : List ℕ) (t : List Entry) → known w t ≡ false → (i : ℕ) → i < length t → same w (getD t i nowhere .name) ≡ false
 unknown-at w [] h i l = absurd (omega arith)
 unknown-at w (x ∷ t) h zero l = neither-holds (same w (x .name)) (known w t) h .0
 unknown-at w (x ∷ t) h (suc i) l = unknown-at w t (neither-holds (same w (x .name)) (known w t) h .1) i (omega arith)
