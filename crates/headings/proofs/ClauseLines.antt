@@ -1,32 +1,35 @@
 -- Names in clauses.
 use mathlib.Core.Path.{_≡_, refl, sym, _∙_, ap, subst}
-use mathlib.Core.Bool.{Bool, true, false, cond, not, _&&_, _||_, or-false, or-true, and-true}
+use mathlib.Core.Bool.{Bool, true, false, cond, not, _&&_, _||_, or-false, or-true, and-true, and-assoc}
 use mathlib.Core.List.{List, [], _∷_, _++_, map, append-assoc, append-nil}
-use Prim.Native.Nat.{ℕ, zero, suc, _+_, _-_, _*_, _/_, _≤_, _<_, min, max}
-use Prim.Native.String.{String}
+use Prim.Native.Nat.{ℕ, zero, suc, _+_, _-_, _/_, _≤_, _<_, min, max}
 use native.Mathlib.Decide.{decLt, ℕ-discrete}
 use native.Mathlib.Omega.{arith}
-use borrow.Author.Tests.{lt-ltb, le-ltb}
-use lib.Dec.{ltb, eqb}
+use borrow.Author.Tests.{lt-ltb, le-ltb, le-leb, leb-true}
+use lib.Dec.{ltb, leb, eqb}
 use lib.ListN.{length, getD, drop, length-map}
 use Rattle.rules.specs.Loop.{Class, shared, lastprivate, reduction}
 use Rattle.syntax.specs.Bytes.{bytes, choose, any, same}
+use Rattle.syntax.specs.Grammar.{number, Clause, clause}
 use Rattle.syntax.specs.Known.{Entry, known, nowhere}
-use Rattle.syntax.specs.Reader.{Parsed, broken, done, Reader, next, text, expects, wants, readName, peek-in, skip-in}
-use Rattle.lexer.proofs.Said.{signed, word-text}
+use Rattle.syntax.specs.Conditions.{clauseNames, within}
+use Rattle.syntax.specs.Reader.{Parsed, broken, done, Reader, next, text, expects, wants, says, readName, readDigits, readMore, readNames, readClause, readClauses, kind, peek-in, skip-in}
+use Rattle.lexer.specs.declared.Tok.{Tok}
+use Rattle.lexer.specs.Lex.{part, Lexed}
+use Rattle.lexer.proofs.Said.{word-text, says-said}
 use Rattle.lexer.specs.Places.{Lands, Goes, Any, passes}
-use Rattle.lexer.proofs.PlaceLaws.{lands-next, lands-expect, goes-some, goes-same, pass-there, pass-not, pass-onward, expects-passes, wants-passes}
-use Rattle.syntax.proofs.Spelling.{same-true}
-use Rattle.syntax.proofs.TestLaws.{any-append, same-refl, same-comm-false}
+use Rattle.lexer.proofs.PlaceLaws.{lands-next, lands-yield, lands-expect, goes-end, goes-some, goes-same, pass-there, pass-not, pass-onward, lands-past, lands-past-word}
+use Rattle.syntax.proofs.Spelling.{same-true, both-true}
+use Rattle.syntax.proofs.TestLaws.{both-hold, any-append, same-refl, same-comm-false}
 use Rattle.names.specs.declared.Named.{Named}
 use Rattle.names.specs.Table.{wordAt, classOf, class-to, Tabled, Knows, Stands, Classed}
 use Rattle.names.proofs.Rows.{name-length, getD-map, unknown-at}
-use Rattle.headings.specs.Lists.{order, Keeps, Standing}
-use Rattle.headings.specs.Directive.{free, frees, claim-to, claims-to, Claimed, Marked, Claim, Claiming, ClaimAt, Claims, readClass}
+use Rattle.headings.specs.Lists.{readSome, order, Keeps, Standing}
+use Rattle.headings.specs.Directive.{free, frees, claim-to, claims-to, Claimed, Marked, Claim, Claiming, ClaimAt, Claims, readClass, clauses-to, Clausal, ClauseAt, Clauses, Directing, Directive}
 use Rattle.headings.specs.declared.Headed.{Headed}
-use Rattle.headings.proofs.IntegerLines.{onward}
+use Rattle.headings.proofs.IntegerLines.{onward, same-truth}
 use Rattle.headings.proofs.DataLines.{passed-from}
-use Rattle.headings.proofs.Lists.{list-last, list-more, read-there}
+use Rattle.headings.proofs.Lists.{fuelled, list-last, list-more, read-there}
 
 -- ---- one name
 
@@ -89,8 +92,8 @@ module _ (T : List ℕ) (t : List Entry) (xs : List (List ℕ)) (m : Marked T t 
             mark : (i : ℕ) → i < length t → ltb 0 (wordAt T′ i 35 / 4) ≡ any (same (getD t i nowhere .name)) (xs ++ (w ∷ []))
             mark i l = elim (ℕ-discrete i (n .index)) [
               | yes q ↦
-                ap (λ (j : ℕ). ltb 0 (wordAt T′ j 35 / 4)) q ∙ ap (ltb 0) (k .here (m .table .long)) ∙ lt-ltb 0 c (omega arith)
-                ∙ sym (any-more (getD t i nowhere .name) w xs ∙ ap (λ (b : Bool). any (same (getD t i nowhere .name)) xs || b) (ap (λ (x : List ℕ). same x w) (ap (λ (j : ℕ). getD t j nowhere .name) q ∙ st .name) ∙ same-refl w) ∙ or-true (any (same (getD t i nowhere .name)) xs))
+                  ap (λ (j : ℕ). ltb 0 (wordAt T′ j 35 / 4)) q ∙ ap (ltb 0) (k .here (m .table .long)) ∙ lt-ltb 0 c (omega arith)
+                  ∙ sym (any-more (getD t i nowhere .name) w xs ∙ ap (λ (b : Bool). any (same (getD t i nowhere .name)) xs || b) (ap (λ (x : List ℕ). same x w) (ap (λ (j : ℕ). getD t j nowhere .name) q ∙ st .name) ∙ same-refl w) ∙ or-true (any (same (getD t i nowhere .name)) xs))
               | no q ↦ ap (λ (x : ℕ). ltb 0 (x / 4)) (k .others i q) ∙ more-other i l (ap (same (getD t i nowhere .name)) (sym (st .name)) ∙ apart i l q)
             ]
               where
@@ -167,6 +170,40 @@ module _ (T w : List ℕ) (c most : ℕ) (n : Named) (look : (t : List Entry) �
 pub classed-keeps : (T : List ℕ) (i c : ℕ) (T′ : List ℕ) → Classed T i c T′ → Keeps T T′
 classed-keeps T i c T′ k h = let q = k .variable h in (omega (arith, name-length T′ 16, name-length T 16, ap length q), q)
 
+-- the names stay the same
+claim-names : (t : List Entry) (xs : List (List ℕ)) (c : Class) (y x : List ℕ) → known x (claim-to xs c y t) ≡ known x t
+claim-names t xs c y x = go (free t xs y)
+  where
+    kept : (e : Entry) → same x (class-to y c e .name) ≡ same x (e .name)
+    kept e = at (same y (e .name))
+      where
+        at : (b : Bool) → same x (cond b (record { name = e .name; first = e .first; subscripted = e .subscripted; size = e .size; class = c; given = e .given }) e .name) ≡ same x (e .name)
+        at true = refl
+        at false = refl
+
+    mapped : (u : List Entry) → known x (map (class-to y c) u) ≡ known x u
+    mapped [] = refl
+    mapped (e ∷ u) = λ i. kept e i || mapped u i
+
+    go : (b : Bool) → known x (cond b (map (class-to y c) t) t) ≡ known x t
+    go true = mapped t
+    go false = refl
+
+claims-names : (t : List Entry) (xs : List (List ℕ)) (c : Class) (ys : List (List ℕ)) (x : List ℕ) → known x (claims-to xs c ys t) ≡ known x t
+claims-names t xs c [] x = refl
+claims-names t xs c (y ∷ ys) x = claims-names (claim-to xs c y t) (xs ++ (y ∷ [])) c ys x ∙ claim-names t xs c y x
+
+frees-known : (t u : List Entry) → ((x : List ℕ) → known x u ≡ known x t) → (zs ys : List (List ℕ)) → frees u zs ys ≡ frees t zs ys
+frees-known t u h zs [] = refl
+frees-known t u h zs (y ∷ ys) = λ i. (h y i && not (any (same y) zs)) && frees-known t u h (zs ++ (y ∷ [])) ys i
+
+-- two ranks, one after the other
+both-ranks : (most : ℕ) (a b : Bool) → max (max most (order a true)) (order b true) ≡ max most (order (a && b) true)
+both-ranks most true true = omega arith
+both-ranks most true false = omega arith
+both-ranks most false true = omega arith
+both-ranks most false false = omega arith
+
 -- ---- names one after the other
 
 module _ (t : List Entry) (xs : List (List ℕ)) (most : ℕ) (c : Class) where
@@ -180,36 +217,9 @@ module _ (t : List Entry) (xs : List (List ℕ)) (most : ℕ) (c : Class) where
   -- one and others
   pub claiming-more : (T₁ T₂ : List ℕ) (r₁ r₂ : ℕ) (y : List ℕ) (ys : List (List ℕ)) → Claiming t xs most c T₁ r₁ (y ∷ []) → Claiming (claim-to xs c y t) (xs ++ (y ∷ [])) r₁ c T₂ r₂ ys → Claiming t xs most c T₂ r₂ (y ∷ ys)
   claiming-more T₁ T₂ r₁ r₂ y ys h k = record {
-    rank-is = k .rank-is ∙ (λ i. max (h .rank-is i) (order (frees-same (xs ++ (y ∷ [])) ys i) true)) ∙ ap (λ (b : Bool). max (max most (order b true)) (order (frees t (xs ++ (y ∷ [])) ys) true)) (and-true (free t xs y)) ∙ both (free t xs y) (frees t (xs ++ (y ∷ [])) ys);
+    rank-is = k .rank-is ∙ (λ i. max (h .rank-is i) (order (frees-known t (claim-to xs c y t) (claim-names t xs c y) (xs ++ (y ∷ [])) ys i) true)) ∙ ap (λ (b : Bool). max (max most (order b true)) (order (frees t (xs ++ (y ∷ [])) ys) true)) (and-true (free t xs y)) ∙ both-ranks most (free t xs y) (frees t (xs ++ (y ∷ [])) ys);
     marked = subst (λ (l : List (List ℕ)). Marked T₂ (claims-to (xs ++ (y ∷ [])) c ys (claim-to xs c y t)) l) (append-assoc xs (y ∷ []) ys) (k .marked);
   }
-    where
-      both : (a b : Bool) → max (max most (order a true)) (order b true) ≡ max most (order (a && b) true)
-      both true true = omega arith
-      both true false = omega arith
-      both false true = omega arith
-      both false false = omega arith
-
-      -- the names are the same
-      known-same : (x : List ℕ) → known x (claim-to xs c y t) ≡ known x t
-      known-same x = go (free t xs y)
-        where
-          kept : (e : Entry) → same x (class-to y c e .name) ≡ same x (e .name)
-          kept e = at (same y (e .name))
-            where
-              at : (b : Bool) → same x (cond b (record { name = e .name; first = e .first; subscripted = e .subscripted; size = e .size; class = c; given = e .given }) e .name) ≡ same x (e .name)
-              at true = refl
-              at false = refl
-          mapped : (u : List Entry) → known x (map (class-to y c) u) ≡ known x u
-          mapped [] = refl
-          mapped (e ∷ u) = λ i. kept e i || mapped u i
-          go : (b : Bool) → known x (cond b (map (class-to y c) t) t) ≡ known x t
-          go true = mapped t
-          go false = refl
-
-      frees-same : (zs ys : List (List ℕ)) → frees (claim-to xs c y t) zs ys ≡ frees t zs ys
-      frees-same zs [] = refl
-      frees-same zs (x ∷ ys) = λ i. (known-same x i && not (any (same x) zs)) && frees-same (zs ++ (x ∷ [])) ys i
 
 pub claiming-at : (t : List Entry) (xs : List (List ℕ)) (most : ℕ) (T : List ℕ) (k : ℕ) (T′ : List ℕ) (r : ℕ) (x w : List ℕ) → x ≡ w → Claim T w k most T′ r → Marked T t xs → Claiming t xs most (classOf k) T′ r (x ∷ [])
 claiming-at t xs most T k T′ r x w e h m = subst (λ (y : List ℕ). Claiming t xs most (classOf k) T′ r (y ∷ [])) (sym e) (claiming-one t xs most (classOf k) T k T′ r w refl h m)
@@ -260,24 +270,343 @@ module _ (s : List ℕ) (from : ℕ) (r : ℕ) (Q : Class → Type 0) where
       }
 
       module _ (nb : length s < b) (c d e : ℕ) (gc : Goes Any s from (passes (bytes "reduction")) c) (gd : Goes Any s c (passes (bytes "(")) d) (ge : Goes Any s d (passes (bytes "+")) e) (gf : Goes Any s e (passes (bytes ":")) r) where
-        by-passes : {B : Type 0} (R : B → Type 0) (t : String) → signed (bytes t) ≡ true → (m k : ℕ) → Goes Any s m (passes (bytes t)) k → (rest : Reader (List ℕ) B) (z : ℕ) → m ≤ length s → (k ≤ length s → Lands R s (rest (drop k s)) z) → (length s < k → z ≡ length s + 1) → Lands R s (next (expects peek-in skip-in t (drop m s)) (λ _. rest)) z
-        by-passes R t h m k g rest z l f o = subst (λ (p : Parsed (List ℕ) (Unit {0})). Lands R s (next p (λ _. rest)) z) (sym (expects-passes t h (drop m s))) (lands-next Any R s (λ _. rest) k z (passes (bytes t) (drop m s)) (g .lands l) (λ _ _ j. f j) o)
-
         over : (m k : ℕ) (w : List ℕ) → Goes Any s m (passes w) k → length s < m → length s < k
         over m k w g l = omega (arith, g .lost l)
 
         pub class-reduction : Q reduction → Goes Q s from readClass r
         class-reduction q = record {
           lands = λ i. to-class false false (pass-not s (bytes "shared") from a ga i na) (pass-not s (bytes "lastprivate") from b gb i nb)
-              (subst (λ (p : Parsed (List ℕ) (Unit {0})). Lands Q s (next p (λ _ v. next (expects peek-in skip-in "(" v) (λ _ w. next (expects peek-in skip-in "+" w) (λ _ x. next (expects peek-in skip-in ":" x) (λ _. done reduction))))) r) (sym (wants-passes "reduction" refl (drop from s)))
-              (lands-next Any Q s (λ _ v. next (expects peek-in skip-in "(" v) (λ _ w. next (expects peek-in skip-in "+" w) (λ _ x. next (expects peek-in skip-in ":" x) (λ _. done reduction)))) c r (passes (bytes "reduction") (drop from s)) (gc .lands i)
-              (λ _ _ j. by-passes Q "(" refl c d gd (λ w. next (expects peek-in skip-in "+" w) (λ _ x. next (expects peek-in skip-in ":" x) (λ _. done reduction))) r j
-                (λ k. by-passes Q "+" refl d e ge (λ x. next (expects peek-in skip-in ":" x) (λ _. done reduction)) r k (λ x. lands-expect Q s ":" refl e r gf x reduction q) (λ x. gf .lost x))
-                (λ k. gf .lost (over d e (bytes "+") ge k)))
-              (λ j. gf .lost (over d e (bytes "+") ge (over c d (bytes "(") gd j)))));
+              (lands-past-word Q s "reduction" from c gc (λ v. next (expects peek-in skip-in "(" v) (λ _ w. next (expects peek-in skip-in "+" w) (λ _ x. next (expects peek-in skip-in ":" x) (λ _. done reduction)))) r i
+              (λ j. lands-past Q s "(" c d gd (λ w. next (expects peek-in skip-in "+" w) (λ _ x. next (expects peek-in skip-in ":" x) (λ _. done reduction))) r j
+              (λ k. lands-past Q s "+" d e ge (λ x. next (expects peek-in skip-in ":" x) (λ _. done reduction)) r k (λ x. lands-expect Q s ":" refl e r gf x reduction q) (λ x. gf .lost x) refl)
+              (λ k. gf .lost (over d e (bytes "+") ge k)) refl)
+              (λ j. gf .lost (over d e (bytes "+") ge (over c d (bytes "(") gd j))) refl);
           from = λ i. elim (decLt (length s) e) [
             | yes x ↦ omega (arith, gf .lost x)
             | no x ↦ omega (arith, gf .from (omega arith), ge .from (passed-from s d e (bytes "+") ge (omega arith)), gd .from (passed-from s c d (bytes "(") gd (passed-from s d e (bytes "+") ge (omega arith))), gc .from i)
           ];
           lost = λ i. gf .lost (over d e (bytes "+") ge (over c d (bytes "(") gd (over from c (bytes "reduction") gc i)));
         }
+
+-- ---- a clause
+
+next-next : {A B C : Type 0} (p : Parsed (List ℕ) A) (k : A → Reader (List ℕ) B) (l : B → Reader (List ℕ) C) → next (next p k) l ≡ next p (λ a u. next (k a u) l)
+next-next broken k l = refl
+next-next (done a u) k l = refl
+
+abbrev clause-of : Class → List (List ℕ) → Clause
+clause-of c [] = clause c [] []
+clause-of c (x ∷ xs) = clause c x xs
+
+abbrev names-then : Class → List (List ℕ) → Reader (List ℕ) Clause
+names-then c l v = next (expects peek-in skip-in ")" v) (λ _. done (clause-of c l))
+
+names-by : (f : ℕ) (c : Class) (u : List ℕ) → readNames peek-in skip-in f c u ≡ next (readSome f (readName peek-in skip-in) u) (names-then c)
+names-by f c u = go (readName peek-in skip-in u)
+  where
+    at : (x : List ℕ) (q : Parsed (List ℕ) (List (List ℕ))) → next q (λ xs v. next (expects peek-in skip-in ")" v) (λ _. done (clause c x xs))) ≡ next (next q (λ xs. done (x ∷ xs))) (names-then c)
+    at x broken = refl
+    at x (done xs v) = refl
+
+    go : (p : Parsed (List ℕ) (List ℕ)) → next p (λ x w. next (readMore peek-in skip-in f (readName peek-in skip-in) w) (λ xs v. next (expects peek-in skip-in ")" v) (λ _. done (clause c x xs)))) ≡ next (next p (λ x w. next (readMore peek-in skip-in f (readName peek-in skip-in) w) (λ xs. done (x ∷ xs)))) (names-then c)
+    go broken = refl
+    go (done x w) = at x (readMore peek-in skip-in f (readName peek-in skip-in) w)
+
+abbrev class-then : ℕ → Class → Reader (List ℕ) Clause
+class-then f c u = next (readSome f (readName peek-in skip-in) u) (names-then c)
+
+clause-by : (f : ℕ) (u : List ℕ) → readClause peek-in skip-in f u ≡ next (readClass u) (class-then f)
+clause-by f u = go (says peek-in skip-in "shared" u) (says peek-in skip-in "lastprivate" u)
+  where
+    each : (c : Class) (p : Parsed (List ℕ) (Unit {0})) → next p (λ _. readNames peek-in skip-in f c) ≡ next (next p (λ _. done c)) (class-then f)
+    each c broken = refl
+    each c (done a v) = names-by f c v
+
+    long : (p : Parsed (List ℕ) (Unit {0})) → next p (λ _ v. next (expects peek-in skip-in "(" v) (λ _ w. next (expects peek-in skip-in "+" w) (λ _ x. next (expects peek-in skip-in ":" x) (λ _. readNames peek-in skip-in f reduction))))
+        ≡ next (next p (λ _ v. next (expects peek-in skip-in "(" v) (λ _ w. next (expects peek-in skip-in "+" w) (λ _ x. next (expects peek-in skip-in ":" x) (λ _. done reduction))))) (class-then f)
+    long broken = refl
+    long (done a v) = two (expects peek-in skip-in "(" v)
+      where
+        one : (p : Parsed (List ℕ) (Unit {0})) → next p (λ _ x. next (expects peek-in skip-in ":" x) (λ _. readNames peek-in skip-in f reduction)) ≡ next (next p (λ _ x. next (expects peek-in skip-in ":" x) (λ _. done reduction))) (class-then f)
+        one broken = refl
+        one (done a x) = each reduction (expects peek-in skip-in ":" x)
+
+        two : (p : Parsed (List ℕ) (Unit {0})) → next p (λ _ w. next (expects peek-in skip-in "+" w) (λ _ x. next (expects peek-in skip-in ":" x) (λ _. readNames peek-in skip-in f reduction))) ≡ next (next p (λ _ w. next (expects peek-in skip-in "+" w) (λ _ x. next (expects peek-in skip-in ":" x) (λ _. done reduction)))) (class-then f)
+        two broken = refl
+        two (done a w) = one (expects peek-in skip-in "+" w)
+
+    go : (a b : Bool) → choose a (λ _. next (expects peek-in skip-in "(" (skip-in u)) (λ _. readNames peek-in skip-in f shared)) (λ _. choose b (λ _. next (expects peek-in skip-in "(" (skip-in u)) (λ _. readNames peek-in skip-in f lastprivate)) (λ _. next (wants peek-in skip-in "reduction" u) (λ _ v. next (expects peek-in skip-in "(" v) (λ _ w. next (expects peek-in skip-in "+" w) (λ _ x. next (expects peek-in skip-in ":" x) (λ _. readNames peek-in skip-in f reduction))))))
+        ≡ next (choose a (λ _. next (expects peek-in skip-in "(" (skip-in u)) (λ _. done shared)) (λ _. choose b (λ _. next (expects peek-in skip-in "(" (skip-in u)) (λ _. done lastprivate)) (λ _. next (wants peek-in skip-in "reduction" u) (λ _ v. next (expects peek-in skip-in "(" v) (λ _ w. next (expects peek-in skip-in "+" w) (λ _ x. next (expects peek-in skip-in ":" x) (λ _. done reduction))))))) (class-then f)
+    go true b = each shared (expects peek-in skip-in "(" (skip-in u))
+    go false true = each lastprivate (expects peek-in skip-in "(" (skip-in u))
+    go false false = long (wants peek-in skip-in "reduction" u)
+
+-- one name at least
+abbrev Nonempty : List (List ℕ) → Type 0
+Nonempty [] = ⊥
+Nonempty (x ∷ xs) = Unit {0}
+
+some-names : (P : List (List ℕ) → Type 0) (s : List ℕ) (f : ℕ) (u : List ℕ) (m : ℕ) → Lands P s (readSome f (readName peek-in skip-in) u) m → Lands (λ ys. Nonempty ys × P ys) s (readSome f (readName peek-in skip-in) u) m
+some-names P s f u m = go (readName peek-in skip-in u)
+  where
+    at : (x : List ℕ) (q : Parsed (List ℕ) (List (List ℕ))) → Lands P s (next q (λ xs. done (x ∷ xs))) m → Lands (λ ys. Nonempty ys × P ys) s (next q (λ xs. done (x ∷ xs))) m
+    at x broken l = l
+    at x (done xs v) l = (l .0, l .1, (tt, l .2))
+
+    go : (p : Parsed (List ℕ) (List ℕ)) → Lands P s (next p (λ x w. next (readMore peek-in skip-in f (readName peek-in skip-in) w) (λ xs. done (x ∷ xs)))) m → Lands (λ ys. Nonempty ys × P ys) s (next p (λ x w. next (readMore peek-in skip-in f (readName peek-in skip-in) w) (λ xs. done (x ∷ xs)))) m
+    go broken l = l
+    go (done x w) l = at x (readMore peek-in skip-in f (readName peek-in skip-in) w) l
+
+-- the class, the names and the bracket
+module _ (T s : List ℕ) (from most k : ℕ) (c : ℕ) (hc : Goes (λ x. classOf c ≡ x) s from readClass k) (far : from ≤ length s → from < k) (T₁ : List ℕ) (r : Headed) (h : Claims T s k c most T₁ r) (n : ℕ) (g : Goes Any s (r .next) (passes (bytes ")")) n) where
+  pub clause-read : ClauseAt T s from most T₁ (record { next = n; rank = r .rank })
+  clause-read t xs m f b = record {
+    lands = λ l. subst (λ (p : Parsed (List ℕ) Clause). Lands Q s p n) (sym (clause-by f (drop from s)))
+        (lands-next (λ x. classOf c ≡ x) Q s (class-then f) k n (readClass (drop from s)) (hc .lands l)
+        (λ x e j. lands-next (λ ys. Nonempty ys × P ys) Q s (names-then x) (r .next) n (readSome f (readName peek-in skip-in) (drop k s)) (some-names P s f (drop k s) (r .next) (here l j .lands j))
+        (λ ys p i. lands-expect Q s ")" refl (r .next) n g i (clause-of x ys) (sealed x e ys p))
+        (g .lost))
+        (λ j. g .lost (omega (arith, after j))));
+    from = λ l. elim (decLt (length s) k) [
+      | yes j ↦ omega (arith, g .lost (omega (arith, after j)))
+      | no j ↦ elim (decLt (length s) (r .next)) [
+        | yes i ↦ omega (arith, g .lost i)
+        | no i ↦ omega (arith, hc .from l, here l (omega arith) .from (omega arith), g .from (omega arith))
+      ]
+    ];
+    lost = λ l. g .lost (omega (arith, after (omega (arith, hc .lost l))));
+  }
+    where
+      P : List (List ℕ) → Type 0
+      P = Claiming t xs most (classOf c) T₁ (r .rank)
+
+      Q : Clause → Type 0
+      Q x = Clausal t xs most T₁ (r .rank) (x ∷ [])
+
+      here : from ≤ length s → k ≤ length s → Goes P s k (readSome f (readName peek-in skip-in)) (r .next)
+      here l j = h t xs m f (omega (arith, far l))
+
+      after : length s < k → r .next ≡ length s + 1
+      after j = h t xs m (suc (length s - k)) (omega arith) .lost j
+
+      sealed : (x : Class) → classOf c ≡ x → (ys : List (List ℕ)) → Nonempty ys × P ys → Q (clause-of x ys)
+      sealed x e [] p = absurd (p .0)
+      sealed x e (y ∷ ys) p = subst (λ (d : Class). Clausal t xs most T₁ (r .rank) (clause d y ys ∷ [])) e (record {
+        rank-is = p .1 .rank-is ∙ ap (λ (l : List (List ℕ)). max most (order (frees t xs (y ∷ l)) true)) (sym (append-nil ys));
+        marked = subst (λ (l : List (List ℕ)). Marked T₁ (claims-to xs (classOf c) (y ∷ ys) t) (xs ++ (y ∷ l))) (sym (append-nil ys)) (p .1 .marked);
+      })
+
+  pub clause-onward : Standing T → from ≤ length s → from < n
+  clause-onward st l =
+      let (t, xs, m) = some-marked T st in
+      elim (decLt (length s) k) [
+        | yes j ↦ omega (arith, g .lost (omega (arith, h t xs m (suc (length s - k)) (omega arith) .lost j)))
+        | no j ↦ elim (decLt (length s) (r .next)) [
+          | yes i ↦ omega (arith, g .lost i)
+          | no i ↦ omega (arith, far l, h t xs m (suc (length s - k)) (omega arith) .from (omega arith), g .from (omega arith))
+        ]
+      ]
+
+module _ {s : List ℕ} {from : ℕ} {t : Tok} (l : Lexed s from t) where
+  pub ends-word : same (bytes "num_threads") (part s (t .start) (t .stop)) ≡ true → true ≡ says peek-in skip-in "num_threads" (drop from s) || eqb (kind (peek-in (drop from s))) 0
+  ends-word e = sym (ap (λ (b : Bool). b || eqb (kind (peek-in (drop from s))) 0) (says-said l (bytes "num_threads") refl ∙ e))
+
+  pub ends-kind : same (bytes "num_threads") (part s (t .start) (t .stop)) ≡ false → eqb (t .kind) 0 ≡ says peek-in skip-in "num_threads" (drop from s) || eqb (kind (peek-in (drop from s))) 0
+  ends-kind e = ap (λ (n : ℕ). eqb n 0) (sym (l .kinds)) ∙ sym (ap (λ (b : Bool). b || eqb (kind (peek-in (drop from s))) 0) (says-said l (bytes "num_threads") refl ∙ e))
+
+pub strictly : (s : List ℕ) (from a : ℕ) (w : List ℕ) → Goes Any s from (passes w) a → 0 < length w → from ≤ length s → from < a
+strictly s from a w g h l = elim (decLt (length s) a) [
+  | yes b ↦ omega arith
+  | no b ↦ pass-onward s w from a g h l (omega arith)
+]
+
+pub strictly-on : (s : List ℕ) (from a r : ℕ) (w : List ℕ) → Goes Any s a (passes w) r → from ≤ length s → from < a → from < r
+strictly-on s from a r w g l b = elim (decLt (length s) a) [
+  | yes x ↦ omega (arith, g .lost x)
+  | no x ↦ omega (arith, g .from (omega arith))
+]
+
+-- ---- clauses one after the other
+
+frees-append : (t : List Entry) (xs ys zs : List (List ℕ)) → frees t xs (ys ++ zs) ≡ frees t xs ys && frees t (xs ++ ys) zs
+frees-append t xs [] zs = ap (λ (l : List (List ℕ)). frees t l zs) (sym (append-nil xs))
+frees-append t xs (y ∷ ys) zs = ap (λ (b : Bool). free t xs y && b) (frees-append t (xs ++ (y ∷ [])) ys zs ∙ ap (λ (l : List (List ℕ)). frees t (xs ++ (y ∷ [])) ys && frees t l zs) (append-assoc xs (y ∷ []) ys)) ∙ sym (and-assoc (free t xs y) (frees t (xs ++ (y ∷ [])) ys) (frees t (xs ++ (y ∷ ys)) zs))
+
+abbrev names-in : Clause → List (List ℕ)
+names-in (clause c x ys) = x ∷ ys
+
+abbrev clause-to : List (List ℕ) → Clause → List Entry → List Entry
+clause-to xs (clause c x ys) t = claims-to xs c (x ∷ ys) t
+
+pub clausal-more : (t : List Entry) (xs : List (List ℕ)) (most : ℕ) (T₁ T₂ : List ℕ) (r₁ r₂ : ℕ) (c : Clause) (cs : List Clause) → Clausal t xs most T₁ r₁ (c ∷ []) → Clausal (clause-to xs c t) (xs ++ names-in c) r₁ T₂ r₂ cs → Clausal t xs most T₂ r₂ (c ∷ cs)
+clausal-more t xs most T₁ T₂ r₁ r₂ (clause k x ys) cs h q =
+    let one : frees t xs (x ∷ (ys ++ [])) ≡ frees t xs (x ∷ ys) = ap (λ (l : List (List ℕ)). frees t xs (x ∷ l)) (append-nil ys) in
+    record {
+      rank-is =
+          q .rank-is
+          ∙ (λ i. max (h .rank-is i) (order (frees-known t (claims-to xs k (x ∷ ys) t) (claims-names t xs k (x ∷ ys)) (xs ++ (x ∷ ys)) (clauseNames cs) i) true))
+          ∙ ap (λ (b : Bool). max (max most (order b true)) (order (frees t (xs ++ (x ∷ ys)) (clauseNames cs)) true)) one
+          ∙ both-ranks most (frees t xs (x ∷ ys)) (frees t (xs ++ (x ∷ ys)) (clauseNames cs))
+          ∙ ap (λ (b : Bool). max most (order b true)) (sym (frees-append t xs (x ∷ ys) (clauseNames cs)));
+      marked = subst (λ (l : List (List ℕ)). Marked T₂ (clauses-to (xs ++ (x ∷ ys)) cs (claims-to xs k (x ∷ ys) t)) l) (append-assoc xs (x ∷ ys) (clauseNames cs)) (q .marked);
+    }
+
+one-marked : (t : List Entry) (xs : List (List ℕ)) (most : ℕ) (T : List ℕ) (r : ℕ) (c : Clause) → Clausal t xs most T r (c ∷ []) → Marked T (clause-to xs c t) (xs ++ names-in c)
+one-marked t xs most T r (clause k x ys) p = subst (λ (l : List (List ℕ)). Marked T (claims-to xs k (x ∷ ys) t) (xs ++ (x ∷ l))) (append-nil ys) (p .marked)
+
+pub clausal-none : (t : List Entry) (xs : List (List ℕ)) (most : ℕ) (T : List ℕ) → Marked T t xs → Clausal t xs most T most []
+clausal-none t xs most T m = record { rank-is = omega arith; marked = subst (Marked T t) (sym (append-nil xs)) m }
+
+-- clauses at a place: none, one that is broken, or one and others
+module _ (s : List ℕ) (from : ℕ) where
+  abbrev ends : Bool
+  ends = says peek-in skip-in "num_threads" (drop from s) || eqb (kind (peek-in (drop from s))) 0
+
+  clauses-by : (f : ℕ) (b : Bool) → ends ≡ b → readClauses peek-in skip-in (suc f) (drop from s) ≡ choose b (λ _. done [] (drop from s)) (λ _. next (readClause peek-in skip-in f (drop from s)) (λ c u. next (readClauses peek-in skip-in f u) (λ cs. done (c ∷ cs))))
+  unfolding readClauses
+  clauses-by f b e = ap (λ (x : Bool). choose x (λ _. done [] (drop from s)) (λ _. next (readClause peek-in skip-in f (drop from s)) (λ c u. next (readClauses peek-in skip-in f u) (λ cs. done (c ∷ cs))))) e
+
+  pub clauses-lost : (T : List ℕ) (most : ℕ) → length s < from → Clauses T s from most T (record { next = length s + 1; rank = most })
+  clauses-lost T most l t xs m f k = record { lands = λ b. absurd (omega arith); from = λ b. absurd (omega arith); lost = λ b. refl }
+
+  pub clauses-done : (T : List ℕ) (most : ℕ) → from ≤ length s → ends ≡ true → Clauses T s from most T (record { next = from; rank = most })
+  clauses-done T most b e t xs m f k = record {
+    lands = λ _. fuelled (λ f. Lands (Clausal t xs most T most) s (readClauses peek-in skip-in f (drop from s)) from) (λ f. subst (λ (p : Parsed (List ℕ) (List Clause)). Lands (Clausal t xs most T most) s p from) (sym (clauses-by f true e)) (refl, b, clausal-none t xs most T m)) _ f k;
+    from = λ _. omega arith;
+    lost = λ l. absurd (omega arith);
+  }
+
+  module _ (T : List ℕ) (most : ℕ) (T₁ : List ℕ) (r₁ : Headed) (b : from ≤ length s) (e : ends ≡ false) (h : ClauseAt T s from most T₁ r₁) where
+    pub clauses-broken : length s < r₁ .next → Clauses T s from most T₁ r₁
+    clauses-broken l t xs m f k = record {
+      lands = λ i. fuelled (λ f. length s - from < f → Lands (Clausal t xs most T₁ (r₁ .rank)) s (readClauses peek-in skip-in f (drop from s)) (r₁ .next)) (λ f j.
+          subst (λ (p : Parsed (List ℕ) (List Clause)). Lands (Clausal t xs most T₁ (r₁ .rank)) s p (r₁ .next)) (sym (clauses-by f false e))
+          (lands-next _ (Clausal t xs most T₁ (r₁ .rank)) s (λ c u. next (readClauses peek-in skip-in f u) (λ cs. done (c ∷ cs))) (r₁ .next) (r₁ .next) (readClause peek-in skip-in f (drop from s)) (h t xs m f (omega arith) .lands i) (λ c p x. absurd (omega arith)) (goes-end (h t xs m f (omega arith))))) _ f k k;
+      from = h t xs m f (omega arith) .from;
+      lost = λ i. absurd (omega arith);
+    }
+
+    pub clauses-more : r₁ .next ≤ length s → from < r₁ .next → (T₂ : List ℕ) (r₂ : Headed) → Clauses T₁ s (r₁ .next) (r₁ .rank) T₂ r₂ → Clauses T s from most T₂ r₂
+    clauses-more l far T₂ r₂ w t xs m f k = record {
+      lands = λ i. fuelled (λ f. length s - from < f → Lands Q s (readClauses peek-in skip-in f (drop from s)) (r₂ .next)) (λ f j. one f i j) _ f k k;
+      from = λ i. omega (arith, far, ahead);
+      lost = λ i. absurd (omega arith);
+    }
+      where
+        Q : List Clause → Type 0
+        Q = Clausal t xs most T₂ (r₂ .rank)
+
+        one : (f : ℕ) → from ≤ length s → length s - from < suc f → Lands Q s (readClauses peek-in skip-in (suc f) (drop from s)) (r₂ .next)
+        one f i j =
+            let (c, _, x, p) = goes-some (h t xs m f (omega arith)) l in
+            let on = w (clause-to xs c t) (xs ++ names-in c) (one-marked t xs most T₁ (r₁ .rank) c p) f (omega (arith, far)) in
+            subst (λ (p : Parsed (List ℕ) (List Clause)). Lands Q s p (r₂ .next)) (sym (clauses-by f false e ∙ ap (λ (p : Parsed (List ℕ) Clause). next p (λ c u. next (readClauses peek-in skip-in f u) (λ cs. done (c ∷ cs)))) x))
+            (lands-yield (Clausal (clause-to xs c t) (xs ++ names-in c) (r₁ .rank) T₂ (r₂ .rank)) Q s (λ cs. c ∷ cs) (r₂ .next) (readClauses peek-in skip-in f (drop (r₁ .next) s)) (on .lands l)
+            (λ cs q. clausal-more t xs most T₁ T₂ (r₁ .rank) (r₂ .rank) c cs p q))
+
+        ahead : r₁ .next ≤ r₂ .next
+        ahead = let (c, _, _, p) = goes-some (h t xs m (length s - from) (omega arith)) l in w (clause-to xs c t) (xs ++ names-in c) (one-marked t xs most T₁ (r₁ .rank) c p) (suc (length s - r₁ .next)) (omega arith) .from l
+
+-- ---- the directive
+
+-- clauses in two parts
+clauses-append : (xs : List (List ℕ)) (a b : List Clause) (t : List Entry) → clauses-to xs (a ++ b) t ≡ clauses-to (xs ++ clauseNames a) b (clauses-to xs a t)
+clauses-append xs [] b t = ap (λ (l : List (List ℕ)). clauses-to l b t) (sym (append-nil xs))
+clauses-append xs (clause c x ys ∷ a) b t = clauses-append (xs ++ (x ∷ ys)) a b (claims-to xs c (x ∷ ys) t) ∙ ap (λ (l : List (List ℕ)). clauses-to l b (clauses-to (xs ++ (x ∷ ys)) a (claims-to xs c (x ∷ ys) t))) (append-assoc xs (x ∷ ys) (clauseNames a))
+
+names-append : (a b : List Clause) → clauseNames (a ++ b) ≡ clauseNames a ++ clauseNames b
+names-append [] b = refl
+names-append (clause c x ys ∷ a) b = ap (λ (l : List (List ℕ)). x ∷ l) (ap (λ (l : List (List ℕ)). ys ++ l) (names-append a b) ∙ sym (append-assoc ys (clauseNames a) (clauseNames b)))
+
+clauses-names : (t : List Entry) (xs : List (List ℕ)) (cs : List Clause) (x : List ℕ) → known x (clauses-to xs cs t) ≡ known x t
+clauses-names t xs [] x = refl
+clauses-names t xs (clause c y ys ∷ cs) x = clauses-names (claims-to xs c (y ∷ ys) t) (xs ++ (y ∷ ys)) cs x ∙ claims-names t xs c (y ∷ ys) x
+
+within-least : (n : ℕ) → within 1 8 (min n 2147483648) ≡ within 1 8 n
+within-least n = same-truth _ _
+    (λ h. let (a, b) = both-true (leb 1 (min n 2147483648)) _ h in both-hold (le-leb 1 n (omega (arith, leb-true 1 (min n 2147483648) a))) (le-leb n 8 (omega (arith, leb-true (min n 2147483648) 8 b))))
+    (λ h. let (a, b) = both-true (leb 1 n) _ h in both-hold (le-leb 1 (min n 2147483648) (omega (arith, leb-true 1 n a))) (le-leb (min n 2147483648) 8 (omega (arith, leb-true n 8 b))))
+
+module _ (t : List Entry) (T₁ T₂ : List ℕ) (r₁ r₂ : ℕ) (a b : List Clause) (p : List ℕ) (h : Clausal t [] 0 T₁ r₁ a) (k : Clausal (clauses-to [] a t) (clauseNames a) r₁ T₂ r₂ b) where
+  pub directing : (n m rank next : ℕ) → n ≡ min (number p) 2147483648 → rank ≡ max r₂ (order true (within 1 8 n)) → Directing t T₂ (record { next = next; processors = n; rank = rank }) a p b
+  directing n m rank next en er = record {
+    rank =
+        er ∙ (λ i. max (k .rank-is i) (order true (within 1 8 (en i))))
+        ∙ (λ i. max (max (h .rank-is i) (order (frees-known t (clauses-to [] a t) (clauses-names t [] a) (clauseNames a) (clauseNames b) i) true)) (order true (within-least (number p) i)))
+        ∙ ap (λ (x : ℕ). max x (order true (within 1 8 (number p)))) (both-ranks 0 (frees t [] (clauseNames a)) (frees t (clauseNames a) (clauseNames b)))
+        ∙ either (frees t [] (clauseNames a) && frees t (clauseNames a) (clauseNames b)) (within 1 8 (number p))
+        ∙ ap (λ (x : Bool). order x (within 1 8 (number p))) (sym (ap (frees t []) (names-append a b) ∙ frees-append t [] (clauseNames a) (clauseNames b)));
+    processors = en;
+    table = subst (Tabled T₂) (sym (clauses-append [] a b t)) (k .marked .table);
+  }
+    where
+      either : (x y : Bool) → max (max 0 (order x true)) (order true y) ≡ order x y
+      either true true = omega arith
+      either true false = omega arith
+      either false true = omega arith
+      either false false = omega arith
+
+-- the clauses before `num_threads`, the number, and the clauses after it
+module _ (T s : List ℕ) (from : ℕ) (T₁ : List ℕ) (r₁ : Headed) (h : Clauses T s from 0 T₁ r₁) (n o d c : ℕ) (gn : Goes Any s (r₁ .next) (passes (bytes "num_threads")) n) (go : Goes Any s n (passes (bytes "(")) o) (p : ℕ) (gd : Goes (λ x. p ≡ min (number x) 2147483648) s o (readDigits peek-in skip-in) d) (gc : Goes Any s d (passes (bytes ")")) c)
+    (T₂ : List ℕ) (r₂ : Headed) (k : Clauses T₁ s c (r₁ .rank) T₂ r₂) (rank : ℕ) (er : rank ≡ max (r₂ .rank) (order true (within 1 8 p))) where
+  module _ (st : Standing T₁) where
+    end-c : length s < c → r₂ .next ≡ length s + 1
+    end-c l = let (t, xs, m) = some-marked T₁ st in k t xs m (suc (length s - c)) (omega arith) .lost l
+
+    end-d : length s < d → r₂ .next ≡ length s + 1
+    end-d l = end-c (omega (arith, gc .lost l))
+
+    end-o : length s < o → r₂ .next ≡ length s + 1
+    end-o l = end-d (omega (arith, gd .lost l))
+
+    end-n : length s < n → r₂ .next ≡ length s + 1
+    end-n l = end-o (omega (arith, go .lost l))
+
+    end-r : length s < r₁ .next → r₂ .next ≡ length s + 1
+    end-r l = end-n (omega (arith, gn .lost l))
+
+    pub directed : Directive T s from T₂ (record { next = r₂ .next; processors = p; rank = rank })
+    directed t m f b = record {
+      lands = λ i. lands-next (Clausal t [] 0 T₁ (r₁ .rank)) Q s rest₁ (r₁ .next) (r₂ .next) (readClauses peek-in skip-in f (drop from s)) (h t [] m f b .lands i)
+          (λ a pa j. lands-past-word Q s "num_threads" (r₁ .next) n gn (rest₂ a) (r₂ .next) j
+          (λ x. lands-past Q s "(" n o go (rest₃ a) (r₂ .next) x
+          (λ y. lands-next (λ v. p ≡ min (number v) 2147483648) Q s (rest₄ a) d (r₂ .next) (readDigits peek-in skip-in (drop o s)) (gd .lands y)
+          (λ v e z. lands-past Q s ")" d c gc (rest₅ a v) (r₂ .next) z
+          (λ w. lands-yield (Clausal (clauses-to [] a t) (clauseNames a) (r₁ .rank) T₂ (r₂ .rank)) Q s (λ u. (a, v, u)) (r₂ .next) (readClauses peek-in skip-in f (drop c s))
+          (k (clauses-to [] a t) (clauseNames a) (pa .marked) f (omega (arith, h t [] m f b .from i, strictly s (r₁ .next) n (bytes "num_threads") gn (omega arith) j, go .from x, gd .from y, gc .from z)) .lands w)
+          (λ u q. directing t T₁ T₂ (r₁ .rank) (r₂ .rank) a u v pa q p 0 rank (r₂ .next) e er))
+          end-c refl)
+          end-d)
+          end-o refl)
+          end-n refl)
+          end-r;
+      from = λ i. elim (decLt (length s) c) [
+        | yes l ↦ omega (arith, end-c l)
+        | no l ↦
+            let ds = passed-from s d c (bytes ")") gc (omega arith) in
+            let (_, os, _, _) = goes-some gd ds in
+            let ns = passed-from s n o (bytes "(") go os in
+            let rs = passed-from s (r₁ .next) n (bytes "num_threads") gn ns in
+            let (t₁, xs, m₁) = some-marked T₁ st in
+            omega (arith, h t [] m f b .from i, gn .from rs, go .from ns, gd .from os, gc .from ds, k t₁ xs m₁ (suc (length s - c)) (omega arith) .from (omega arith))
+      ];
+      lost = λ i. end-r (omega (arith, h t [] m f b .lost i));
+    }
+      where
+        Q : List Clause × List ℕ × List Clause → Type 0
+        Q x = Directing t T₂ (record { next = r₂ .next; processors = p; rank = rank }) (x .0) (x .1) (x .2)
+
+        rest₅ : List Clause → List ℕ → Reader (List ℕ) (List Clause × List ℕ × List Clause)
+        rest₅ a v u = next (readClauses peek-in skip-in f u) (λ b. done (a, v, b))
+
+        rest₄ : List Clause → List ℕ → Reader (List ℕ) (List Clause × List ℕ × List Clause)
+        rest₄ a v u = next (expects peek-in skip-in ")" u) (λ _. rest₅ a v)
+
+        rest₃ : List Clause → Reader (List ℕ) (List Clause × List ℕ × List Clause)
+        rest₃ a u = next (readDigits peek-in skip-in u) (rest₄ a)
+
+        rest₂ : List Clause → Reader (List ℕ) (List Clause × List ℕ × List Clause)
+        rest₂ a u = next (expects peek-in skip-in "(" u) (λ _. rest₃ a)
+
+        rest₁ : List Clause → Reader (List ℕ) (List Clause × List ℕ × List Clause)
+        rest₁ a u = next (wants peek-in skip-in "num_threads" u) (λ _. rest₂ a)

@@ -9,17 +9,17 @@ use native.Mathlib.Omega.{arith}
 use borrow.Author.Tests.{lt-ltb, le-ltb, le-leb, leb-true, eq-eqb, eqb-true}
 use mir.Syntax.{w32}
 use mir.Val.{SFits}
-use lib.Dec.{eqb, leb, ltb}
+use lib.Dec.{eqb, leb}
 use lib.ListN.{length, drop, replicate, length-replicate, set}
-use lib.IntN.{ℤ, pos, negℤ, natAbs}
+use lib.IntN.{ℤ, pos, negℤ}
 use lib.Seq.{sets}
-use Rattle.syntax.specs.Bytes.{bytes, choose, same, all}
+use Rattle.syntax.specs.Bytes.{bytes, choose, all}
 use Rattle.syntax.specs.Grammar.{number, Lead, bare, plus, minus, Item, item}
 use Rattle.syntax.specs.Known.{Entry, known, find, give-to, copiesOf, copies, signed, values, total}
 use Rattle.syntax.proofs.Spelling.{both-true}
 use Rattle.syntax.proofs.TestLaws.{all-append}
 use Rattle.syntax.specs.Conditions.{concat, inItem, isGiven, small}
-use Rattle.syntax.specs.Reader.{Parsed, broken, done, Reader, next, kind, text, sees, expects, isDigits, readLead, readDigits, readSigned, readName, readItem, peek-in, skip-in}
+use Rattle.syntax.specs.Reader.{Parsed, broken, done, Reader, next, text, sees, expects, isDigits, readLead, readDigits, readSigned, readName, readItem, peek-in, skip-in}
 use Rattle.int32.specs.Integers.{value, wrap, negation}
 use Rattle.int32.proofs.Laws.{value-cases, value-fits, wrap-id, negation-fits}
 use Rattle.syntax.proofs.LoopValues.{signed-size, small-fits}
@@ -27,7 +27,7 @@ use Rattle.syntax.specs.Meaning.{led}
 use Rattle.lexer.specs.Places.{Lands, Goes, Any, passes, Spells, leadOf}
 use Rattle.lexer.specs.declared.Word.{Word}
 use Rattle.names.specs.declared.Named.{Named}
-use Rattle.names.specs.Table.{wordAt, variableOf, Tabled, Knows, Stands, Gave}
+use Rattle.names.specs.Table.{wordAt, variableOf, Tabled, Knows, Stands}
 use Rattle.names.proofs.Rows.{name-length}
 use Rattle.lexer.proofs.PlaceLaws.{goes-next, goes-end, goes-some, lands-next, lands-yield, pass-there, pass-not, pass-onward, expects-passes, lands-expect}
 use Rattle.lexer.proofs.Said.{sign-text}

@@ -25,7 +25,7 @@ use Rattle.headings.specs.declared.Item.{Item}
 use Rattle.lexer.specs.Lex.{part}
 use Rattle.headings.specs.Integer.{Declares, Follow, namesOf, Later, Repeated, Enters, fits, Entered, apart, fit, Enlists, Integers}
 use Rattle.headings.specs.declared.Listed.{Listed}
-use Rattle.headings.specs.Lists.{readSome, order, Keeps}
+use Rattle.headings.specs.Lists.{order, Keeps}
 use Rattle.headings.proofs.Lists.{more-comma, more-none, list-last, list-more, read-there, order-unnamed, order-most, order-some, order-either}
 
 -- a reading that comes to something

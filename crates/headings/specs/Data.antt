@@ -7,13 +7,11 @@ use lib.Dec.{ltb, eqb}
 use lib.ListN.{length, replicate}
 use lib.IntN.{ℤ}
 use lib.Seq.{sets}
-use Rattle.int32.specs.Integers.{value}
 use Rattle.syntax.specs.Bytes.{all}
 use Rattle.syntax.specs.Grammar.{number, Lead, Item, item}
 use Rattle.syntax.specs.Known.{Entry, known, find, give-to, copies, values, total}
 use Rattle.syntax.specs.Conditions.{concat, inItem, isGiven, small}
-use Rattle.syntax.specs.Meaning.{led}
-use Rattle.syntax.specs.Reader.{Parsed, broken, done, Reader, _>>=_, _>>_, yield, next, expects, readName, readItem, peek-in, skip-in}
+use Rattle.syntax.specs.Reader.{broken, done, Reader, _>>=_, _>>_, yield, next, expects, readName, readItem, peek-in, skip-in}
 use Rattle.lexer.specs.Places.{Goes, leadOf}
 use Rattle.headings.specs.Lists.{readSome, order}
 use Rattle.headings.specs.declared.Datum.{Datum}

@@ -168,3 +168,14 @@ module _ (s : List ℕ) (at : ℕ) (b : at ≤ length s) (P : Lead → Type 0) w
 -- a sign that ends what is read
 pub lands-expect : {B : Type 0} (Q : B → Type 0) (s : List ℕ) (t : String) → signed (bytes t) ≡ true → (m c : ℕ) → Goes Any s m (passes (bytes t)) c → m ≤ length s → (b : B) → Q b → Lands Q s (next (expects peek-in skip-in t (drop m s)) (λ _. done b)) c
 lands-expect Q s t h m c g l b q = lands-yield Any Q s (λ _. b) c (expects peek-in skip-in t (drop m s)) (subst (λ (x : Parsed (List ℕ) (Unit {0})). Lands Any s x c) (sym (expects-passes t h (drop m s))) (g .lands l)) (λ _ _. q)
+
+-- a sign or a word, and what comes after it
+module _ {B : Type 0} (R : B → Type 0) (s : List ℕ) (t : String) (m k : ℕ) (g : Goes Any s m (passes (bytes t)) k) (rest : Reader (List ℕ) B) (z : ℕ) (l : m ≤ length s) (f : k ≤ length s → Lands R s (rest (drop k s)) z) (o : length s < k → z ≡ length s + 1) where
+  past : Lands R s (next (passes (bytes t) (drop m s)) (λ _. rest)) z
+  past = lands-next Any R s (λ _. rest) k z (passes (bytes t) (drop m s)) (g .lands l) (λ _ _ j. f j) o
+
+  pub lands-past : signed (bytes t) ≡ true → Lands R s (next (expects peek-in skip-in t (drop m s)) (λ _. rest)) z
+  lands-past h = subst (λ (p : Parsed (List ℕ) (Unit {0})). Lands R s (next p (λ _. rest)) z) (sym (expects-passes t h (drop m s))) past
+
+  pub lands-past-word : lettered (bytes t) ≡ true → Lands R s (next (wants peek-in skip-in t (drop m s)) (λ _. rest)) z
+  lands-past-word h = subst (λ (p : Parsed (List ℕ) (Unit {0})). Lands R s (next p (λ _. rest)) z) (sym (wants-passes t h (drop m s))) past

@@ -1,3 +1,11 @@
+-- `headings::clauses` meets its contract: none, one that is broken, or one and others.
+use mathlib.Core.Path.{_≡_, refl, sym, _∙_}
+use native.Mathlib.Omega.{arith}
+use Prim.Native.Nat.{_-_}
+use lib.ListN.{length}
+use borrow.Author.Needs.{needs}
+use Rattle.headings.proofs.IntegerLines.{keeps-on}
+use Rattle.headings.proofs.ClauseLines.{clauses-lost, clauses-done, clauses-broken, clauses-more}
 use Prim.Native.Nat.{ℕ, _<_}
 use borrow.Fn.Kinds.{In}
 use borrow.Fn.PlainCycle.{Measures, is, falls, and}
@@ -10,7 +18,7 @@ use Rattle.headings.proofs.+clauses.{statement}
 use Rattle.headings.proofs.+clauses.Tie.{close}
 
 abbrev μ-clauses : Measures 2 clauses-kinds.ps ℕ
-μ-clauses κs a = ?
+μ-clauses κs a = length (a .0 .now) - a .1 .0
 
 abbrev clauses-at : ℕ → In 2 clauses-kinds.ps
 clauses-at t = and 2 clauses-kinds.ps (is 2 clauses-kinds.ps μ-clauses t) clauses.Pre
@@ -18,7 +26,6 @@ clauses-at t = and 2 clauses-kinds.ps (is 2 clauses-kinds.ps μ-clauses t) claus
 abbrev clauses-below : ℕ → In 2 clauses-kinds.ps
 clauses-below t = and 2 clauses-kinds.ps (falls 2 clauses-kinds.ps _<_ μ-clauses t) clauses.Pre
 
--- src/lib.rt:549:19
 clauses-add-t9 : (t : ℕ) → clauses-lts.Need-add-t9 (
   clauses-end-reads.Asked,
   clauses-end-reads.Learnt,
@@ -27,9 +34,8 @@ clauses-add-t9 : (t : ℕ) → clauses-lts.Need-add-t9 (
   clauses-below t,
   clauses.Post,
 ) (clauses-at t) clauses.Post
-clauses-add-t9 t c = ?
+clauses-add-t9 t c = omega arith
 
--- src/lib.rt:548:9
 clauses-returns : (t : ℕ) → clauses-lts.Need-returns (
   clauses-end-reads.Asked,
   clauses-end-reads.Learnt,
@@ -38,9 +44,8 @@ clauses-returns : (t : ℕ) → clauses-lts.Need-returns (
   clauses-below t,
   clauses.Post,
 ) (clauses-at t) clauses.Post
-clauses-returns t c = ?
+clauses-returns t c = (clauses-lost _ _ _ _ (omega arith), (λ h. (h, refl), c .before .before .pre .1 .1))
 
--- src/lib.rt:553:8
 clauses-clauses-end-requires : (t : ℕ) → clauses-lts.Need-clauses-end-requires (
   clauses-end-reads.Asked,
   clauses-end-reads.Learnt,
@@ -49,9 +54,8 @@ clauses-clauses-end-requires : (t : ℕ) → clauses-lts.Need-clauses-end-requir
   clauses-below t,
   clauses.Post,
 ) (clauses-at t) clauses.Post
-clauses-clauses-end-requires t c κs = ?
+clauses-clauses-end-requires t c κs = omega arith
 
--- src/lib.rt:554:9
 clauses-returns-2 : (t : ℕ) → clauses-lts.Need-returns-2 (
   clauses-end-reads.Asked,
   clauses-end-reads.Learnt,
@@ -60,9 +64,8 @@ clauses-returns-2 : (t : ℕ) → clauses-lts.Need-returns-2 (
   clauses-below t,
   clauses.Post,
 ) (clauses-at t) clauses.Post
-clauses-returns-2 t c = ?
+clauses-returns-2 t c = (clauses-done _ _ _ _ (omega arith) (sym (c .before .clauses-end .ensures) ∙ c .if2 .taken), (λ h. (h, refl), c .before .before .before .before .pre .1 .1))
 
--- src/lib.rt:556:9
 clauses-clause-at-requires : (t : ℕ) → clauses-lts.Need-clause-at-requires (
   clauses-end-reads.Asked,
   clauses-end-reads.Learnt,
@@ -71,9 +74,8 @@ clauses-clause-at-requires : (t : ℕ) → clauses-lts.Need-clause-at-requires (
   clauses-below t,
   clauses.Post,
 ) (clauses-at t) clauses.Post
-clauses-clause-at-requires t c κs = ?
+clauses-clause-at-requires t c κs = c .before .before .before .before .before .pre .1
 
--- src/lib.rt:558:9
 clauses-returns-3 : (t : ℕ) → clauses-lts.Need-returns-3 (
   clauses-end-reads.Asked,
   clauses-end-reads.Learnt,
@@ -82,9 +84,8 @@ clauses-returns-3 : (t : ℕ) → clauses-lts.Need-returns-3 (
   clauses-below t,
   clauses.Post,
 ) (clauses-at t) clauses.Post
-clauses-returns-3 t c = ?
+clauses-returns-3 t c = (clauses-broken _ _ _ _ _ (c .before .before .clause-at .result) (omega arith) (sym (c .before .before .before .before .before .clauses-end .ensures) ∙ c .before .before .before .before .if2 .left) (c .before .before .clause-at .ensures .0) (omega arith), c .before .before .clause-at .ensures .1 .0)
 
--- src/lib.rt:560:5
 clauses-clauses-requires : (t : ℕ) → clauses-lts.Need-clauses-requires (
   clauses-end-reads.Asked,
   clauses-end-reads.Learnt,
@@ -93,9 +94,8 @@ clauses-clauses-requires : (t : ℕ) → clauses-lts.Need-clauses-requires (
   clauses-below t,
   clauses.Post,
 ) (clauses-at t) clauses.Post
-clauses-clauses-requires t c κs = ?
+clauses-clauses-requires t c κs = (omega (arith, c .before .before .before .before .before .before .before .before .before .pre .0, c .before .before .before .clause-at .ensures .1 .1 (omega arith)), (c .before .before .before .before .before .before .before .before .before .pre .1 .0, c .before .before .before .clause-at .ensures .1 .0 .1))
 
--- src/lib.rt:542:1
 clauses-returns-4 : (t : ℕ) → clauses-lts.Need-returns-4 (
   clauses-end-reads.Asked,
   clauses-end-reads.Learnt,
@@ -104,7 +104,7 @@ clauses-returns-4 : (t : ℕ) → clauses-lts.Need-returns-4 (
   clauses-below t,
   clauses.Post,
 ) (clauses-at t) clauses.Post
-clauses-returns-4 t c = ?
+clauses-returns-4 t c = (clauses-more _ _ _ _ _ (c .before .before .before .before .clause-at .result) (omega arith) (sym (c .before .before .before .before .before .before .before .clauses-end .ensures) ∙ c .before .before .before .before .before .before .if2 .left) (c .before .before .before .before .clause-at .ensures .0) (omega arith) (c .before .before .before .before .clause-at .ensures .1 .1 (omega arith)) _ _ (c .clauses .ensures .0), (keeps-on _ _ _ (c .before .before .before .before .clause-at .ensures .1 .0 .0) (c .clauses .ensures .1 .0), c .clauses .ensures .1 .1))
 
 pub +clauses-spec : {M : Type 1} → statement M
 +clauses-spec = close μ-clauses λ t. clauses-lts.spec (

@@ -31,7 +31,7 @@ classify-requires : tie.Need-classify-requires
 classify-requires c κs = let (t, tab) = c .before .before .before .before .before .before .before .before .pre .3 in (omega (arith, c .before .before .before .before .before .find .ensures .2 t tab (not-false (c .before .before .before .before .before .find .result .known) (c .before .before .before .if1 .left)) .within, tab .few), c .before .before .before .before .before .before .before .before .pre .2)
 
 returns-3 : tie.Need-returns-3
-returns-3 c = 
+returns-3 c =
     let k = not-false (c .before .before .before .before .before .before .find .result .known) (c .before .before .before .before .if1 .left) in
     let (t, tab) = c .before .before .before .before .before .before .before .before .before .pre .3 in (
       claims-free _ _ _ _ (c .before .before .before .before .before .before .find .result) (c .before .before .before .before .before .before .find .ensures .1) (c .before .before .before .before .before .before .find .ensures .2) k (c .before .before .if2 .left) (c .before .before .before .before .before .before .before .before .before .pre .1) _ (c .classify .ensures),

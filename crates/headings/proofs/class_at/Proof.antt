@@ -1,3 +1,8 @@
+-- `headings::class_at` meets its contract.
+use mathlib.Core.Path.{refl}
+use native.Mathlib.Omega.{arith}
+use Rattle.syntax.specs.Bytes.{bytes}
+use Rattle.headings.proofs.ClauseLines.{class-shared, class-lastprivate, class-reduction, strictly, strictly-on}
 use borrow.Author.Needs.{needs}
 use Rattle.headings.proofs.class_at.Statement.{statement}
 use Rattle.headings.proofs.class_at.Tie as tie
@@ -5,81 +10,62 @@ use Rattle.headings.proofs.class_at.Reads as reads
 use Rattle.headings.proofs.class_at.Lts as lts
 use Rattle.lexer.proofs.pass.Reads as pass-reads
 
--- src/lib.rt:489:25
 slice-aggregate-pass : tie.Need-slice-aggregate-pass
 slice-aggregate-pass c = search needs
 
--- src/lib.rt:489:9
 pass-requires : tie.Need-pass-requires
 pass-requires c κs = search needs
 
--- src/lib.rt:492:30
 slice-aggregate-pass-2 : tie.Need-slice-aggregate-pass-2
 slice-aggregate-pass-2 c = search needs
 
--- src/lib.rt:492:19
 pass-requires-2 : tie.Need-pass-requires-2
 pass-requires-2 c κs = search needs
 
--- src/lib.rt:491:9
 returns : tie.Need-returns
-returns c = ?
+returns c = (class-shared _ _ _ _ _ (c .before .before .before .pass .ensures) (omega arith) (c .pass2 .ensures) refl, omega arith, omega arith, λ l. strictly-on _ _ _ _ (bytes "(") (c .pass2 .ensures) l (strictly _ _ _ (bytes "shared") (c .before .before .before .pass .ensures) (omega arith) l))
 
--- src/lib.rt:496:25
 slice-aggregate-pass-3 : tie.Need-slice-aggregate-pass-3
 slice-aggregate-pass-3 c = search needs
 
--- src/lib.rt:496:9
 pass-requires-3 : tie.Need-pass-requires-3
 pass-requires-3 c κs = search needs
 
--- src/lib.rt:499:30
 slice-aggregate-pass-4 : tie.Need-slice-aggregate-pass-4
 slice-aggregate-pass-4 c = search needs
 
--- src/lib.rt:499:19
 pass-requires-4 : tie.Need-pass-requires-4
 pass-requires-4 c κs = search needs
 
--- src/lib.rt:498:9
 returns-2 : tie.Need-returns-2
-returns-2 c = ?
+returns-2 c = (class-lastprivate _ _ _ _ _ (c .before .before .before .before .before .before .pass .ensures) _ (c .before .before .before .pass3 .ensures) (omega arith) (omega arith) (c .pass4 .ensures) refl, omega arith, omega arith, λ l. strictly-on _ _ _ _ (bytes "(") (c .pass4 .ensures) l (strictly _ _ _ (bytes "lastprivate") (c .before .before .before .pass3 .ensures) (omega arith) l))
 
--- src/lib.rt:503:25
 slice-aggregate-pass-5 : tie.Need-slice-aggregate-pass-5
 slice-aggregate-pass-5 c = search needs
 
--- src/lib.rt:503:9
 pass-requires-5 : tie.Need-pass-requires-5
 pass-requires-5 c κs = search needs
 
--- src/lib.rt:504:24
 slice-aggregate-pass-6 : tie.Need-slice-aggregate-pass-6
 slice-aggregate-pass-6 c = search needs
 
--- src/lib.rt:504:9
 pass-requires-6 : tie.Need-pass-requires-6
 pass-requires-6 c κs = search needs
 
--- src/lib.rt:505:24
 slice-aggregate-pass-7 : tie.Need-slice-aggregate-pass-7
 slice-aggregate-pass-7 c = search needs
 
--- src/lib.rt:505:9
 pass-requires-7 : tie.Need-pass-requires-7
 pass-requires-7 c κs = search needs
 
--- src/lib.rt:507:26
 slice-aggregate-pass-8 : tie.Need-slice-aggregate-pass-8
 slice-aggregate-pass-8 c = search needs
 
--- src/lib.rt:507:15
 pass-requires-8 : tie.Need-pass-requires-8
 pass-requires-8 c κs = search needs
 
--- src/lib.rt:485:1
 returns-3 : tie.Need-returns-3
-returns-3 c = ?
+returns-3 c = (class-reduction _ _ _ _ _ (c .before .before .before .before .before .before .before .before .before .before .before .before .pass .ensures) _ (c .before .before .before .before .before .before .before .before .before .pass3 .ensures) (omega arith) (omega arith) _ _ _ (c .before .before .before .before .before .before .pass5 .ensures) (c .before .before .before .before .pass6 .ensures) (c .before .before .pass7 .ensures) (c .pass8 .ensures) refl, omega arith, omega arith, λ l. strictly-on _ _ _ _ (bytes ":") (c .pass8 .ensures) l (strictly-on _ _ _ _ (bytes "+") (c .before .before .pass7 .ensures) l (strictly-on _ _ _ _ (bytes "(") (c .before .before .before .before .pass6 .ensures) l (strictly _ _ _ (bytes "reduction") (c .before .before .before .before .before .before .pass5 .ensures) (omega arith) l))))
 
 pub class-at-spec : {M : Type 1} → statement M
 class-at-spec =

@@ -1,3 +1,7 @@
+-- `headings::clause_at` meets its contract: the class, the names and the bracket.
+use native.Mathlib.Omega.{arith}
+use Rattle.syntax.specs.Bytes.{bytes}
+use Rattle.headings.proofs.ClauseLines.{clause-read, clause-onward}
 use borrow.Author.Needs.{needs}
 use Rattle.headings.proofs.clause_at.Statement.{statement}
 use Rattle.headings.proofs.clause_at.Tie as tie
@@ -7,25 +11,20 @@ use Rattle.headings.proofs.claims.Reads as claims-reads
 use Rattle.headings.proofs.class_at.Reads as class-at-reads
 use Rattle.lexer.proofs.pass.Reads as pass-reads
 
--- src/lib.rt:519:9
 class-at-requires : tie.Need-class-at-requires
-class-at-requires c κs = search needs
+class-at-requires c κs = c .before .pre .0
 
--- src/lib.rt:520:9
 claims-requires : tie.Need-claims-requires
-claims-requires c κs = search needs
+claims-requires c κs = (c .before .before .before .pre .0, c .before .class-at .ensures .1, c .before .class-at .ensures .2, c .before .before .before .pre .1)
 
--- src/lib.rt:523:31
 slice-aggregate-pass : tie.Need-slice-aggregate-pass
 slice-aggregate-pass c = search needs
 
--- src/lib.rt:523:15
 pass-requires : tie.Need-pass-requires
-pass-requires c κs = search needs
+pass-requires c κs = c .before .before .before .before .before .pre .0
 
--- src/lib.rt:513:1
 returns : tie.Need-returns
-returns c = ?
+returns c = (clause-read _ _ _ _ _ (c .before .before .before .before .class-at .result .clause) (c .before .before .before .before .class-at .ensures .0) (c .before .before .before .before .class-at .ensures .3) _ (c .before .before .claims .result) (c .before .before .claims .ensures .0) _ (c .pass .ensures), (c .before .before .claims .ensures .1, clause-onward _ _ _ _ _ (c .before .before .before .before .class-at .result .clause) (c .before .before .before .before .class-at .ensures .0) (c .before .before .before .before .class-at .ensures .3) _ (c .before .before .claims .result) (c .before .before .claims .ensures .0) _ (c .pass .ensures) (c .before .before .before .before .before .before .pre .1)))
 
 pub clause-at-spec : {M : Type 1} → statement M
 clause-at-spec =

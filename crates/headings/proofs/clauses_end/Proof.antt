@@ -1,3 +1,13 @@
+-- `headings::clauses_end` meets its contract.
+use mathlib.Core.Path.{sym, _∙_, ap}
+use mathlib.Core.Bool.{Bool, _||_}
+use Prim.Native.Nat.{ℕ}
+use lib.Dec.{eqb}
+use lib.ListN.{drop}
+use Rattle.syntax.specs.Bytes.{bytes}
+use Rattle.syntax.specs.Reader.{kind, peek-in}
+use Rattle.lexer.proofs.Said.{says-said}
+use Rattle.headings.proofs.ClauseLines.{ends-word, ends-kind}
 use borrow.Author.Needs.{needs}
 use Rattle.headings.proofs.clauses_end.Statement.{statement}
 use Rattle.headings.proofs.clauses_end.Tie as tie
@@ -6,25 +16,20 @@ use Rattle.headings.proofs.clauses_end.Lts as lts
 use Rattle.lexer.proofs.reads.Reads as reads-reads
 use Rattle.lexer.proofs.token.Reads as token-reads
 
--- src/lib.rt:531:9
 token-requires : tie.Need-token-requires
 token-requires c κs = search needs
 
--- src/lib.rt:533:20
 slice-aggregate-reads : tie.Need-slice-aggregate-reads
 slice-aggregate-reads c = search needs
 
--- src/lib.rt:533:8
 reads-requires : tie.Need-reads-requires
 reads-requires c κs = search needs
 
--- src/lib.rt:534:9
 returns : tie.Need-returns
-returns c = ?
+returns c = ends-word (c .before .before .before .token .ensures) (sym (c .before .reads .ensures) ∙ c .if1 .taken)
 
--- src/lib.rt:527:1
 returns-2 : tie.Need-returns-2
-returns-2 c = ?
+returns-2 c = ends-kind (c .before .before .before .token .ensures) (sym (c .before .reads .ensures) ∙ c .if1 .left)
 
 pub clauses-end-spec : {M : Type 1} → statement M
 clauses-end-spec =

@@ -1,3 +1,10 @@
+-- `headings::directive` meets its contract: clauses, the number of processors, clauses.
+use mathlib.Core.Path.{_∙_, ap}
+use mathlib.Core.Bool.{Bool, true}
+use Prim.Native.Nat.{max}
+use Rattle.headings.specs.Lists.{order}
+use Rattle.headings.proofs.IntegerLines.{keeps-on}
+use Rattle.headings.proofs.ClauseLines.{directed}
 use borrow.Author.Needs.{needs}
 use Rattle.headings.proofs.directive.Statement.{statement}
 use Rattle.headings.proofs.directive.Tie as tie
@@ -9,53 +16,41 @@ use Rattle.headings.proofs.ranked.Reads as ranked-reads
 use Rattle.lexer.proofs.digits.Reads as digits-reads
 use Rattle.lexer.proofs.pass.Reads as pass-reads
 
--- src/lib.rt:584:9
 clauses-requires : tie.Need-clauses-requires
 clauses-requires c κs = search needs
 
--- src/lib.rt:585:29
 slice-aggregate-pass : tie.Need-slice-aggregate-pass
 slice-aggregate-pass c = search needs
 
--- src/lib.rt:585:9
 pass-requires : tie.Need-pass-requires
 pass-requires c κs = search needs
 
--- src/lib.rt:586:24
 slice-aggregate-pass-2 : tie.Need-slice-aggregate-pass-2
 slice-aggregate-pass-2 c = search needs
 
--- src/lib.rt:586:9
 pass-requires-2 : tie.Need-pass-requires-2
 pass-requires-2 c κs = search needs
 
--- src/lib.rt:587:9
 digits-requires : tie.Need-digits-requires
 digits-requires c κs = search needs
 
--- src/lib.rt:588:29
 slice-aggregate-pass-3 : tie.Need-slice-aggregate-pass-3
 slice-aggregate-pass-3 c = search needs
 
--- src/lib.rt:588:9
 pass-requires-3 : tie.Need-pass-requires-3
 pass-requires-3 c κs = search needs
 
--- src/lib.rt:589:9
 clauses-requires-2 : tie.Need-clauses-requires-2
 clauses-requires-2 c κs = search needs
 
--- src/lib.rt:593:36
 few-requires : tie.Need-few-requires
 few-requires c κs = search needs
 
--- src/lib.rt:593:15
 ranked-requires : tie.Need-ranked-requires
 ranked-requires c κs = search needs
 
--- src/lib.rt:579:1
 returns : tie.Need-returns
-returns c = ?
+returns c = (directed _ _ _ _ (c .before .before .before .before .before .before .before .before .before .before .before .clauses .result) (c .before .before .before .before .before .before .before .before .before .before .before .clauses .ensures .0) _ _ _ _ (c .before .before .before .before .before .before .before .before .before .pass .ensures) (c .before .before .before .before .before .before .before .pass2 .ensures) _ (c .before .before .before .before .before .before .digits .ensures) (c .before .before .before .before .pass3 .ensures) _ (c .before .before .clauses2 .result) (c .before .before .clauses2 .ensures .0) _ (c .ranked .ensures ∙ ap (λ (b : Bool). max (c .before .before .clauses2 .result .rank) (order true b)) (c .before .few .ensures)) (c .before .before .before .before .before .before .before .before .before .before .before .clauses .ensures .1 .1), keeps-on _ _ _ (c .before .before .before .before .before .before .before .before .before .before .before .clauses .ensures .1 .0) (c .before .before .clauses2 .ensures .1 .0))
 
 pub directive-spec : {M : Type 1} → statement M
 directive-spec =
