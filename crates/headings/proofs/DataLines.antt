@@ -158,14 +158,14 @@ module _ {s : List ℕ} {from : ℕ} {r : Datum} (h : Goes (Itemized r) s from (
       (goes-end h)
 
 -- the limits of an item by its numbers up to 2^31
-leb-least : (n : ℕ) → leb (min n 2147483648) 2147483647 ≡ leb n 2147483647
+pub leb-least : (n : ℕ) → leb (min n 2147483648) 2147483647 ≡ leb n 2147483647
 leb-least n = same-truth _ _ (λ h. le-leb n 2147483647 (omega (arith, leb-true (min n 2147483648) 2147483647 h))) (λ h. le-leb (min n 2147483648) 2147483647 (omega (arith, leb-true n 2147483647 h)))
 
 small-item : (r : Datum) (i : Item) → Itemized r i → leb (r .copies) 2147483647 && leb (r .size) 2147483647 ≡ all small (inItem i)
 small-item r (item none l d) p = (λ i. leb (p .copies i) 2147483647 && leb (p .size i) 2147483647) ∙ leb-least (number d) ∙ sym (and-true (leb (number d) 2147483647))
 small-item r (item (some c) l d) p = (λ i. leb (p .copies i) 2147483647 && leb (p .size i) 2147483647) ∙ (λ i. leb-least (number c) i && (leb-least (number d) ∙ sym (and-true (leb (number d) 2147483647))) i)
 
-signed-value : (l : Lead) (n : ℕ) → n ≤ 2147483647 → led l (value n) ≡ signed l n
+pub signed-value : (l : Lead) (n : ℕ) → n ≤ 2147483647 → led l (value n) ≡ signed l n
 unfolding negation wrap
 signed-value l n h = go l (value-cases (λ z. z ≡ pos n) n (λ _. refl) (λ b. absurd (omega arith)))
   where

@@ -2,3 +2,4 @@ pub mod Lists
 pub mod IntegerLines
 pub mod DataLines
 pub mod ClauseLines
+pub mod DoLines

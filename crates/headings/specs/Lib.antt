@@ -2,3 +2,4 @@ pub mod Lists
 pub mod Integer
 pub mod Data
 pub mod Directive
+pub mod DoLine

@@ -15,7 +15,7 @@ ghost use mathlib.Core.Option.{Option};
 ghost use Rattle.int32.specs.Integers.{value};
 ghost use Rattle.syntax.specs.Grammar.{item};
 ghost use Rattle.syntax.specs.Meaning.{led};
-ghost use Rattle.syntax.specs.Known.{copiesOf};
+ghost use Rattle.syntax.specs.Known.{copiesOf, signed};
 ghost use Rattle.syntax.specs.Conditions.{within};
 ghost use Rattle.syntax.specs.Reader.{kind, says, readSigned, Parsed, peek-in, skip-in, readMore, readDeclared, readItem};
 ghost use Rattle.lexer.specs.Places.{Lands, Goes, leadOf};
@@ -23,6 +23,7 @@ ghost use Rattle.names.specs.Table.{Tabled, variableOf, classOf};
 ghost use Rattle.headings.specs.Lists.{order, Keeps, Standing};
 ghost use Rattle.headings.specs.Data.{Itemized, Placed, Put, readCounted, Items, Given, Data};
 ghost use Rattle.headings.specs.Directive.{Claim, ClaimAt, Claims, readClass, ClauseAt, Clauses, Directive};
+ghost use Rattle.headings.specs.DoLine.{Found, readBounds, raise, Do};
 ghost use Rattle.headings.specs.Integer.{Declares, Later, Repeated, Enters, fits, Entered, Integers};
 use int32::negate;
 use int32::of_word;
@@ -43,6 +44,7 @@ use names::classify;
 use names::count;
 use names::find;
 use names::give;
+use names::put_name;
 
 // ---- ranks
 
@@ -593,5 +595,101 @@ pub fn directive(s: &[u8], at: usize, table: &mut [u32; 613]) -> Directed
         next: b.next,
         processors: d.number,
         rank: ranked(b.rank, true, few(d.number)),
+    }
+}
+
+// ---- 4. do
+
+// The name and the two bounds of the loop: the sign of the first and its size, the sign of the last and its size; sizes up to 2^31.
+pub struct Bounds {
+    pub next: usize,
+    pub start: usize,
+    pub stop: usize,
+    pub lead: u32,
+    pub first: u32,
+    pub tail: u32,
+    pub last: u32,
+}
+
+fn bounds_at(s: &[u8], at: usize) -> Bounds
+    requires { ⌜ length (now s) ≤ 2048 ⌝ }
+    ensures { λ r. ⌜ Goes (Found (now (s .entry)) r) (now (s .entry)) at readBounds (r .next) ⌝ }
+{
+    let v = name(s, at);
+    let a = pass(s, v.next, b"=");
+    let l = lead(s, a);
+    let m = digits(s, l.next);
+    let b = pass(s, m.next, b",");
+    let k = lead(s, b);
+    let n = digits(s, k.next);
+    Bounds {
+        next: n.next,
+        start: v.start,
+        stop: v.next,
+        lead: l.sign,
+        first: m.number,
+        tail: k.sign,
+        last: n.number,
+    }
+}
+
+// A bound and 2^31.
+fn raised(sign: u32, size: u32) -> u64
+    requires { ⌜ size ≤ 2147483648 ⌝ }
+    ensures { λ r. ⌜ r ≡ raise (signed (leadOf sign) size) ⌝ }
+{
+    if sign < 2 {
+        2147483648 + size as u64
+    } else {
+        2147483648 - size as u64
+    }
+}
+
+// How many iterations there are from one bound, raised, to the other.
+fn count_from(first: u64, last: u64) -> u64
+    requires { ⌜ last ≤ 4294967296 ⌝ }
+    ensures { λ r. ⌜ r ≡ last + 1 - first ⌝ }
+{
+    if last < first {
+        return 0;
+    }
+    last - first + 1
+}
+
+// What the loop's line comes to: m, and how many iterations there are.
+pub struct Looped {
+    pub next: usize,
+    pub rank: u32,
+    pub from: i32,
+    pub count: u64,
+}
+
+// The loop's line, after its first word: its variable is written into the table.
+pub fn do_line(s: &[u8], at: usize, table: &mut [u32; 613]) -> Looped
+    requires { ⌜ length (now s) ≤ 2048 ⌝ }
+    ensures { λ r. ⌜ Do (now (table .entry)) (now (s .entry)) at (now (table .exit)) r ⌝ }
+{
+    let b = bounds_at(s, at);
+    let next = b.next;
+    if s.len() < next {
+        return Looped {
+            next,
+            rank: 0,
+            from: 0,
+            count: 0,
+        };
+    }
+    let a = b.start;
+    let e = b.stop;
+    let count = count_from(raised(b.lead, b.first), raised(b.tail, b.last));
+    let v = find(table, &s[a..e]);
+    let rank = ranked(0, !v.known, limited(b.first, b.last));
+    let from = item_value(b.lead, b.first);
+    put_name(table, 16, &s[a..e]);
+    Looped {
+        next,
+        rank: ranked(rank, true, count <= 65535),
+        from,
+        count,
     }
 }

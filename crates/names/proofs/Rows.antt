@@ -353,3 +353,19 @@ each-entry P (e ∷ t) h = (h 0 (omega arith), each-entry P t (λ i l. h (suc i)
 
 pub find-bounded : (T w : List ℕ) (t : List Entry) → Tabled T t → find w t .first + find w t .size ≤ 4096
 find-bounded T w t d = find-each (λ e. e .first + e .size ≤ 4096) w t (omega arith) (each-entry (λ e. e .first + e .size ≤ 4096) t (d .bounded))
+
+-- ---- the loop's variable
+
+module _ (T w T′ : List ℕ) (p : Put T 16 w T′) where
+  pub named-variable : (t : List Entry) → Tabled T t → Tabled T′ t
+  named-variable t d = record {
+    long = omega (arith, p .long, d .long);
+    count = p .after 612 (omega arith) ∙ d .count;
+    few = d .few;
+    rows = λ i l. row-kept T T′ i (getD t i nowhere) (d .rows i l) (λ k m. p .before (36 * i + k) (omega (arith, d .few)));
+    distinct = d .distinct;
+    bounded = d .bounded;
+  }
+
+  pub variable-short : length w ≤ 32 → 613 ≤ length T → wordAt T′ 16 32 ≤ 32
+  variable-short h l = omega (arith, name-length T′ 16, ap length (p .name l))

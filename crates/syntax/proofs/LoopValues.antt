@@ -28,6 +28,19 @@ natural-below k = sub-cases (λ z. natural z ≡ 0) 1 (suc k) (λ _. refl) (λ _
 natural-sub : (x y : ℕ) → natural (subℕ x y +ℤ pos 1) ≡ suc x - y
 natural-sub x y = sub-cases (λ z. natural (z +ℤ pos 1) ≡ suc x - y) x y (λ h. omega (arith, natural-below (y - suc x))) (λ h. omega arith)
 
+-- by numbers raised so far that none is below 0
+abbrev pub raised : ℕ → ℤ → ℕ
+raised b (pos n) = b + n
+raised b (negsuc n) = b - suc n
+
+pub iterations-raised : (b : ℕ) (m n : ℤ) → natAbs m ≤ b → natAbs n ≤ b → iterations m n ≡ raised b n + 1 - raised b m
+iterations-raised b (pos zero) (pos n) h k = omega arith
+iterations-raised b (pos (suc m)) (pos n) h k = omega (arith, natural-sub n (suc m))
+iterations-raised b (pos zero) (negsuc n) h k = omega (arith, natural-sub 0 (suc n))
+iterations-raised b (pos (suc m)) (negsuc n) h k = omega (arith, natural-below (suc (n + m)))
+iterations-raised b (negsuc m) (pos n) h k = omega arith
+iterations-raised b (negsuc m) (negsuc n) h k = omega (arith, natural-sub (suc m) (suc n))
+
 -- m + index lies between the bounds
 pub iteration-size : (i : ℕ) (m n : ℤ) → i < iterations m n → natAbs (m +ℤ pos i) ≤ max (natAbs m) (natAbs n)
 iteration-size i (pos zero) (pos b) h = omega arith
