@@ -1,0 +1,2 @@
+-- What the machine's functions promise.
+pub mod Machine

@@ -1,0 +1,110 @@
+-- The words stand for the tables of a log: how they get there access by access, and what is then read off them, as document 01 words it. This is what
+-- a trial over these words cites.
+use mathlib.Core.Path.{_≡_, sym, _∙_, ap, subst}
+use mathlib.Core.Logic.{_↔_}
+use mathlib.Core.Bool.{true}
+use mathlib.Core.List.{List, [], _∷_}
+use mathlib.Core.Option.{Option, Option·getD}
+use Prim.Native.Nat.{ℕ, _+_, _≤_, _<_}
+use mir.Syntax.{w32}
+use mir.Val.{SFits}
+use lib.ListN.{getD}
+use lib.IntN.{ℤ, pos}
+use Rattle.int32.specs.Integers.{value, sum}
+use Rattle.rules.specs.Choose.{pick}
+use Rattle.rules.specs.Loop.{Loop, Partition}
+use Rattle.rules.specs.Log.{reads, writes, updates, Access, access, Log, only}
+use Rattle.rules.specs.Marks.{marks}
+use Rattle.rules.specs.Obstacles.{ObstacleAt}
+use Rattle.rules.specs.Steps.{State, latest}
+use Rattle.rules.specs.Merge.{pairs, written-cells}
+use Rattle.rules.specs.Proper.{Proper}
+use Rattle.rules.proofs.TrialRun.{whose}
+use Rattle.shadow.specs.Tables.{tables, note}
+use Rattle.shadow.proofs.Change.{Latest}
+use Rattle.shadow.proofs.Counts.{Inside}
+use Rattle.shadow.proofs.Shows.{worker, table, Ascending, Shows, merged-right}
+use Rattle.shadow.proofs.Bounds.{tables-bounded}
+use Rattle.tables.specs.Layout.{row-at, own-at, Holds}
+use Rattle.tables.specs.Changes.{Ready, read-noted, counted, written, updated, marks-read, blocked}
+use Rattle.tables.proofs.Accesses.{holds-read, holds-write, holds-update}
+use Rattle.tables.proofs.Room.{ready}
+use Rattle.tables.proofs.Start.{Begun, holds-blank}
+use Rattle.tables.proofs.ReadOff.{marks-held, blocked-held, own-value-held, merged-held}
+use Rattle.rules.specs.Merge as merge
+use Rattle.tables.specs.Changes as changes
+
+module _ (l : Loop) (δ : Partition) where
+  abbrev pub Logged : Log → List ℕ → Type 0
+  Logged g W = Holds (l .size) (δ .processors) (l .class) (l .entry) W (table l δ g)
+
+-- cells are 32-bit numbers
+module _ (l : Loop) (δ : Partition) (f : l .plus ≡ sum) (z : l .zero ≡ pos 0) where
+  -- no access yet
+  pub logged-nil : (W : List ℕ) → Begun (l .size) (δ .processors) (l .class) (l .entry) (l .size) W → Logged l δ [] W
+  logged-nil W b =
+      subst (λ (x : ℤ). Holds (l .size) (δ .processors) (l .class) (l .entry) W (tables (δ .group) (whose δ) (l .plus) x [])) (sym z)
+      (subst (λ (p : ℤ → ℤ → ℤ). Holds (l .size) (δ .processors) (l .class) (l .entry) W (tables (δ .group) (whose δ) p (pos 0) [])) (sym f)
+      (holds-blank (l .size) (δ .processors) (l .class) (l .entry) (δ .group) (whose δ) W b))
+
+  -- ---- one access more, by processor p at iteration i
+
+  module _ (g : Log) (W : List ℕ) (h : Logged l δ g W) (p i c : ℕ) (w : worker l δ i ≡ p) (b : c < l .size) (a : worker l δ i < δ .processors) where
+    abbrev row : ℕ
+    row = row-at (δ .processors) c
+
+    -- the words X that go with p's own part
+    more : (e : Access) (X : ℕ → List ℕ) → Holds (l .size) (δ .processors) (l .class) (l .entry) (X (own-at row (worker l δ i))) (note (δ .group) (whose δ) sum (l .zero) e (table l δ g)) → Logged l δ (e ∷ g) (X (own-at row p))
+    unfolding tables
+    more e X x =
+        subst (λ (q : ℕ). Logged l δ (e ∷ g) (X (own-at row q))) w
+        (subst (λ (m : ℤ → ℤ → ℤ). Holds (l .size) (δ .processors) (l .class) (l .entry) (X (own-at row (worker l δ i))) (note (δ .group) (whose δ) m (l .zero) e (table l δ g))) (sym f) x)
+
+    pub logged-read : (v : ℤ) → Logged l δ (access reads i c v ∷ g) (read-noted W row (own-at row p) (δ .group i))
+    logged-read v = more (access reads i c v) (λ own. read-noted W row own (δ .group i)) (holds-read (l .size) (δ .processors) (l .class) (l .entry) W (table l δ g) h (δ .group) (whose δ) (l .zero) i c b a v)
+
+    pub logged-write : (v : ℤ) → SFits w32 v → Logged l δ (access writes i c v ∷ g) (written (counted W row (own-at row p) i) row (own-at row p) (δ .group i) v)
+    logged-write v s = more (access writes i c v) (λ own. written (counted W row own i) row own (δ .group i) v) (holds-write (l .size) (δ .processors) (l .class) (l .entry) W (table l δ g) h (δ .group) (whose δ) (l .zero) i c b a v s)
+
+    pub logged-update : (v : ℤ) → Logged l δ (access updates i c v ∷ g) (updated (counted W row (own-at row p) i) row (own-at row p) v)
+    logged-update v = more (access updates i c v) (λ own. updated (counted W row own i) row own v) (holds-update (l .size) (δ .processors) (l .class) (l .entry) W (table l δ g) h (δ .group) (whose δ) (l .zero) i c b a v)
+
+-- ---- what is read off
+
+module _ (l : Loop) (δ : Partition) (g : Log) (W : List ℕ) (h : Logged l δ g W) where
+  -- there is room for the next access
+  pub logged-ready : Proper l δ → Inside (l .iterations) (l .size) g → Ascending l δ g → l .size ≤ 4096 → l .iterations ≤ 65535 → δ .groups ≤ 65535
+      → (c q : ℕ) → c < l .size → q < δ .processors → Ready W (row-at (δ .processors) c) (own-at (row-at (δ .processors) c) q)
+  logged-ready o x a s i k = ready l δ (δ .processors) (l .class) (l .entry) W (table l δ g) h (tables-bounded l δ o g x a) s i k
+
+  module _ (s : Shows l δ g (table l δ g)) where
+    pub logged-pairs : getD W 0 0 ≡ pairs l g
+    logged-pairs = h .pairs ∙ s .pair-count
+
+    pub logged-cells : getD W 1 0 ≡ written-cells l g
+    logged-cells = h .cells ∙ s .cell-count
+
+    module _ (c : ℕ) (b : c < l .size) where
+      abbrev at : ℕ
+      at = row-at (δ .processors) c
+
+      pub logged-marks : marks-read (getD W (at + 1) 0) (getD W (at + 2) 0) (getD W (at + 3) 0) ≡ marks (δ .group) c g
+      logged-marks = marks-held (δ .processors) (l .class c) (l .entry c) W at (table l δ g .rows c) (h .rows c b) ∙ s .marked c
+
+      pub logged-obstacle : ObstacleAt (l .class c) (λ i. only (δ .group) i g) c ↔ (blocked (getD W (at + 1) 0) (getD W (at + 2) 0) (getD W (at + 3) 0) ≡ true)
+      logged-obstacle =
+          let x = blocked-held (δ .processors) (l .class c) (l .entry c) W at (table l δ g .rows c) (h .rows c b) in
+          let y = s .obstacle (l .class c) c in
+          (λ o. x .0 (y .1 o), λ e. y .0 (x .1 e))
+
+      -- what a group that its processor has not left reads of a cell that is not shared
+      pub logged-own : (k : ℕ) → Latest (δ .group) (whose δ) k g → whose δ k < δ .processors
+          → value (pick (getD W (own-at at (whose δ k) + 1) 0) (k + 1) (getD W (own-at at (whose δ k)) 0) (getD W at 0)) ≡ latest l c (only (δ .group) k g)
+      logged-own k t a =
+          own-value-held (δ .processors) (l .class c) (l .entry c) W at (table l δ g .rows c) (h .rows c b) (whose δ k) k a
+          ∙ ap (λ (o : Option ℤ). Option·getD o (l .entry c)) (s .own c k t)
+
+-- the merge
+pub logged-merged : (l : Loop) (δ : Partition) → l .plus ≡ sum → l .zero ≡ pos 0 → Proper l δ → (s : State) (W : List ℕ) → Logged l δ (s .log) W → Shows l δ (s .log) (table l δ (s .log)) → (c : ℕ) → c < l .size
+    → changes.merged W (row-at (δ .processors) c) (δ .processors) (s .cells c) ≡ merge.merged l δ s c
+logged-merged l δ f z o s W h t c b = merged-held l δ f z (l .class c) c W (row-at (δ .processors) c) (table l δ (s .log) .rows c) (h .rows c b) (s .cells) ∙ merged-right l δ o s (table l δ (s .log)) t c

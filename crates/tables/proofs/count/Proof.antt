@@ -1,0 +1,109 @@
+-- `tables::count` meets its contract.
+use native.Mathlib.Omega.{arith}
+use borrow.Author.Needs.{needs}
+use lib.ListN.{length-set}
+use Rattle.tables.specs.Changes.{counted}
+use Rattle.tables.proofs.count.Statement.{statement}
+use Rattle.tables.proofs.count.Tie as tie
+
+add-i : tie.Need-add-i
+add-i c = search needs
+
+slice-read-pairs : tie.Need-slice-read-pairs
+slice-read-pairs c = search needs
+
+slice-read-cells : tie.Need-slice-read-cells
+slice-read-cells c = search needs
+
+add-touched : tie.Need-add-touched
+add-touched c = search needs
+
+mul-touched : tie.Need-mul-touched
+mul-touched c = search needs
+
+slice-read-touched : tie.Need-slice-read-touched
+slice-read-touched c = search needs
+
+add-writers : tie.Need-add-writers
+add-writers c = search needs
+
+mul-writers : tie.Need-mul-writers
+mul-writers c = search needs
+
+slice-read-writers : tie.Need-slice-read-writers
+slice-read-writers c = search needs
+
+add-is-updated : tie.Need-add-is-updated
+add-is-updated c = search needs
+
+mul-is-updated : tie.Need-mul-is-updated
+mul-is-updated c = search needs
+
+slice-read-is-updated : tie.Need-slice-read-is-updated
+slice-read-is-updated c = search needs
+
+add-more : tie.Need-add-more
+add-more c = search needs
+
+choose-requires : tie.Need-choose-requires
+choose-requires c κs = search needs
+
+slice-write-w : tie.Need-slice-write-w
+slice-write-w c = search needs
+
+add-choose : tie.Need-add-choose
+add-choose c = search needs
+
+choose-requires-2 : tie.Need-choose-requires-2
+choose-requires-2 c κs = search needs
+
+choose-requires-3 : tie.Need-choose-requires-3
+choose-requires-3 c κs = search needs
+
+slice-write-w-2 : tie.Need-slice-write-w-2
+slice-write-w-2 c = simp length-set (omega arith)
+
+add-w : tie.Need-add-w
+add-w c = search needs
+
+mul-w : tie.Need-mul-w
+mul-w c = search needs
+
+slice-write-w-3 : tie.Need-slice-write-w-3
+slice-write-w-3 c = simp length-set (omega arith)
+
+same-length : tie.Need-same-length
+same-length c = search needs
+
+returns : tie.Need-returns
+unfolding counted
+returns c = rw (c .before .before .choose .ensures, c .choose3 .ensures, c .before .choose2 .ensures)
+
+pub count-spec : {M : Type 1} → statement M
+count-spec =
+    tie.close
+    (tie.spec
+    add-i
+    slice-read-pairs
+    slice-read-cells
+    add-touched
+    mul-touched
+    slice-read-touched
+    add-writers
+    mul-writers
+    slice-read-writers
+    add-is-updated
+    mul-is-updated
+    slice-read-is-updated
+    add-more
+    choose-requires
+    slice-write-w
+    add-choose
+    choose-requires-2
+    choose-requires-3
+    slice-write-w-2
+    add-w
+    mul-w
+    slice-write-w-3
+    same-length
+    returns)

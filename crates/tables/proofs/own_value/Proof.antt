@@ -1,0 +1,58 @@
+-- `tables::own_value` meets its contract.
+use mathlib.Core.Path.{_≡_}
+use borrow.Author.Needs.{needs}
+use mir.Syntax.{w32}
+use mir.Val.{toZ, ofZ}
+use Rattle.tables.proofs.own_value.Statement.{statement}
+use Rattle.tables.proofs.own_value.Tie as tie
+
+add-choose : tie.Need-add-choose
+add-choose c = search needs
+
+mul-choose : tie.Need-mul-choose
+mul-choose c = search needs
+
+shared-slice-read-choose : tie.Need-shared-slice-read-choose
+shared-slice-read-choose c = search needs
+
+add-choose-2 : tie.Need-add-choose-2
+add-choose-2 c = search needs
+
+mul-choose-2 : tie.Need-mul-choose-2
+mul-choose-2 c = search needs
+
+shared-slice-read-choose-2 : tie.Need-shared-slice-read-choose-2
+shared-slice-read-choose-2 c = search needs
+
+mul-choose-3 : tie.Need-mul-choose-3
+mul-choose-3 c = search needs
+
+shared-slice-read-choose-3 : tie.Need-shared-slice-read-choose-3
+shared-slice-read-choose-3 c = search needs
+
+choose-requires : tie.Need-choose-requires
+choose-requires c κs = search needs
+
+of-word-requires : tie.Need-of-word-requires
+of-word-requires c κs = search needs
+
+returns : tie.Need-returns
+returns c =
+    let e : toZ w32 (ofZ w32 (c .of-word .result)) ≡ c .of-word .result = search needs in
+    rw (e, c .of-word .ensures, c .before .choose .ensures)
+
+pub own-value-spec : {M : Type 1} → statement M
+own-value-spec =
+    tie.close
+    (tie.spec
+    add-choose
+    mul-choose
+    shared-slice-read-choose
+    add-choose-2
+    mul-choose-2
+    shared-slice-read-choose-2
+    mul-choose-3
+    shared-slice-read-choose-3
+    choose-requires
+    of-word-requires
+    returns)
