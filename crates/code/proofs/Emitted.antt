@@ -13,11 +13,8 @@ use Rattle.syntax.specs.Known.{Entry, Stmts, stop, Open, turned, opened, State,
 use Rattle.syntax.specs.Conditions.{isGiven, follows, else-fits, none-open, stands}
 use Rattle.syntax.proofs.Spelling.{both-true}
 use Rattle.code.specs.Instr.{Instr, jump}
-use Rattle.code.specs.Compile.{codeAssign, codeIf, codeStmts, codeOpens, codeLines, codeOf}
-use Rattle.code.proofs.OpenJumps.{InstrAt, jumpOf, places, innermost, lines-assign, lines-when, lines-otherwise, lines-end-if}
-
-abbrev pub placesOf : State → List ℕ
-placesOf s = places (s .table) (s .variable) (s .opens)
+use Rattle.code.specs.Compile.{codeAssign, codeIf, codeStmts, codeOpens, codeLines, places, codeOf, placesOf}
+use Rattle.code.proofs.OpenJumps.{InstrAt, jumpOf, innermost, lines-assign, lines-when, lines-otherwise, lines-end-if}
 
 pub record Emits (u : State) (c : List Instr) (ps : List ℕ) : Type 0 where
   pub code : codeOf u ≡ c

@@ -12,7 +12,7 @@ use Rattle.syntax.specs.Grammar.{Expr, Ref}
 use Rattle.syntax.specs.Known.{Entry, Stmts, stop, set as assignment, if-then, if-else, then-do, Open, turned, branched, closed, opened}
 use Rattle.code.specs.Instr.{Instr, jump-unless, jump, end, operation, argument, words}
 use Rattle.code.proofs.Words.{words-getD, words-set}
-use Rattle.code.specs.Compile.{code, codeAssign, codeIf, codeStmts, codeOpen, codeOpens, codeLines}
+use Rattle.code.specs.Compile.{code, codeAssign, codeIf, codeStmts, codeOpen, codeOpens, codeLines, places}
 
 -- ---- an instruction at place p of code c, with the code after it
 
@@ -56,11 +56,6 @@ words-fill {c} {d} {p} o f h n =
     ap (set (words c) (2 * p + 1)) e ∙ words-set c p (jumpOf o f n) b (ap operation (instr-there h) ∙ jumpOf-operation o f 0 n)
 
 module _ (t : List Entry) (v : List ℕ) where
-  -- where the jumps of the open ifs stand, the innermost first: each is the last of the code that is emitted for its `if` or its `else`
-  unfoldable pub places : List Open → List ℕ
-  places [] = []
-  places (o ∷ os) = (length (codeOpens t v (o ∷ os)) - 1) ∷ places os
-
   -- the code of an open `if` up to its jump
   abbrev upTo : Open → Option Stmts → List Instr
   upTo o none = codeStmts t v (o .before) ++ (code t v (o .line) (o .left) ++ code t v (o .line) (o .right))

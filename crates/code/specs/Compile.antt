@@ -2,7 +2,7 @@
 use mathlib.Core.Bool.{cond}
 use mathlib.Core.List.{List, [], _∷_, _++_}
 use mathlib.Core.Option.{Option, none, some}
-use Prim.Native.Nat.{ℕ, suc, min}
+use Prim.Native.Nat.{ℕ, suc, _-_, min}
 use lib.ListN.{length}
 use Rattle.int32.specs.declared.Relation.{Relation}
 use Rattle.syntax.specs.Bytes.{same}
@@ -93,6 +93,14 @@ module _ (t : List Entry) (v : List ℕ) where
   unfoldable pub codeLines : List Open → Stmts → List Instr
   codeLines os inner = codeOpens os ++ codeStmts inner
 
+  -- where the jumps of the open ifs stand, the innermost first: each is the last of the code that is emitted for its `if` or its `else`
+  unfoldable pub places : List Open → List ℕ
+  places [] = []
+  places (o ∷ os) = (length (codeOpens (o ∷ os)) - 1) ∷ places os
+
 -- the code of a text
 unfoldable pub codeOf : State → List Instr
 codeOf s = codeLines (s .table) (s .variable) (s .opens) (s .inner)
+
+abbrev pub placesOf : State → List ℕ
+placesOf s = places (s .table) (s .variable) (s .opens)
