@@ -29,7 +29,7 @@ use Rattle.headings.specs.Directive.{free, frees, claim-to, claims-to, C
 use Rattle.headings.specs.declared.Headed.{Headed}
 use Rattle.headings.proofs.IntegerLines.{onward, same-truth}
 use Rattle.headings.proofs.DataLines.{passed-from}
-use Rattle.headings.proofs.Lists.{fuelled, list-last, list-more, read-there}
+use Rattle.headings.proofs.Lists.{Nonempty, some-nonempty, fuelled, list-last, list-more, read-there}
 
 -- ---- one name
 
@@ -341,29 +341,13 @@ clause-by f u = go (says peek-in skip-in "shared" u) (says peek-in skip-in "last
     go false true = each lastprivate (expects peek-in skip-in "(" (skip-in u))
     go false false = long (wants peek-in skip-in "reduction" u)
 
--- one name at least
-abbrev Nonempty : List (List ℕ) → Type 0
-Nonempty [] = ⊥
-Nonempty (x ∷ xs) = Unit {0}
-
-some-names : (P : List (List ℕ) → Type 0) (s : List ℕ) (f : ℕ) (u : List ℕ) (m : ℕ) → Lands P s (readSome f (readName peek-in skip-in) u) m → Lands (λ ys. Nonempty ys × P ys) s (readSome f (readName peek-in skip-in) u) m
-some-names P s f u m = go (readName peek-in skip-in u)
-  where
-    at : (x : List ℕ) (q : Parsed (List ℕ) (List (List ℕ))) → Lands P s (next q (λ xs. done (x ∷ xs))) m → Lands (λ ys. Nonempty ys × P ys) s (next q (λ xs. done (x ∷ xs))) m
-    at x broken l = l
-    at x (done xs v) l = (l .0, l .1, (tt, l .2))
-
-    go : (p : Parsed (List ℕ) (List ℕ)) → Lands P s (next p (λ x w. next (readMore peek-in skip-in f (readName peek-in skip-in) w) (λ xs. done (x ∷ xs)))) m → Lands (λ ys. Nonempty ys × P ys) s (next p (λ x w. next (readMore peek-in skip-in f (readName peek-in skip-in) w) (λ xs. done (x ∷ xs)))) m
-    go broken l = l
-    go (done x w) l = at x (readMore peek-in skip-in f (readName peek-in skip-in) w) l
-
 -- the class, the names and the bracket
 module _ (T s : List ℕ) (from most k : ℕ) (c : ℕ) (hc : Goes (λ x. classOf c ≡ x) s from readClass k) (far : from ≤ length s → from < k) (T₁ : List ℕ) (r : Headed) (h : Claims T s k c most T₁ r) (n : ℕ) (g : Goes Any s (r .next) (passes (bytes ")")) n) where
   pub clause-read : ClauseAt T s from most T₁ (record { next = n; rank = r .rank })
   clause-read t xs m f b = record {
     lands = λ l. subst (λ (p : Parsed (List ℕ) Clause). Lands Q s p n) (sym (clause-by f (drop from s)))
         (lands-next (λ x. classOf c ≡ x) Q s (class-then f) k n (readClass (drop from s)) (hc .lands l)
-        (λ x e j. lands-next (λ ys. Nonempty ys × P ys) Q s (names-then x) (r .next) n (readSome f (readName peek-in skip-in) (drop k s)) (some-names P s f (drop k s) (r .next) (here l j .lands j))
+        (λ x e j. lands-next (λ ys. Nonempty ys × P ys) Q s (names-then x) (r .next) n (readSome f (readName peek-in skip-in) (drop k s)) (some-nonempty (readName peek-in skip-in) s P f (drop k s) (r .next) (here l j .lands j))
         (λ ys p i. lands-expect Q s ")" refl (r .next) n g i (clause-of x ys) (sealed x e ys p))
         (g .lost))
         (λ j. g .lost (omega (arith, after j))));

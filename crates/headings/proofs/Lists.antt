@@ -46,6 +46,22 @@ module _ {A : Type 0} (r : Reader (List ℕ) A) (s : List ℕ) where
           go broken e w = by broken e n w
           go (done xs u) e w = by (done xs u) e n (w .0, w .1, q xs u e (w .2))
 
+-- one part at least
+abbrev pub Nonempty : {A : Type 0} → List A → Type 0
+Nonempty [] = ⊥
+Nonempty (x ∷ xs) = Unit {0}
+
+pub some-nonempty : {A : Type 0} (r : Reader (List ℕ) A) (s : List ℕ) (P : List A → Type 0) (f : ℕ) (u : List ℕ) (m : ℕ) → Lands P s (readSome f r u) m → Lands (λ xs. Nonempty xs × P xs) s (readSome f r u) m
+some-nonempty {A} r s P f u m = go (r u)
+  where
+    at : (x : A) (q : Parsed (List ℕ) (List A)) → Lands P s (next q (λ xs. done (x ∷ xs))) m → Lands (λ ys. Nonempty ys × P ys) s (next q (λ xs. done (x ∷ xs))) m
+    at x broken l = l
+    at x (done xs v) l = (l .0, l .1, (tt, l .2))
+
+    go : (p : Parsed (List ℕ) A) → Lands P s (next p (λ x w. next (readMore peek-in skip-in f r w) (λ xs. done (x ∷ xs)))) m → Lands (λ ys. Nonempty ys × P ys) s (next p (λ x w. next (readMore peek-in skip-in f r w) (λ xs. done (x ∷ xs)))) m
+    go broken l = l
+    go (done x w) l = at x (readMore peek-in skip-in f r w) l
+
 -- ---- a list by its first part and the rest
 
 pub fuelled : (P : ℕ → Type 0) → ((f : ℕ) → P (suc f)) → (n f : ℕ) → n < f → P f
