@@ -404,7 +404,7 @@ fn give_data(table: &mut [u32; 613], n: Named, values: u32, rank: u32) -> u32
 }
 
 // A data line, after its first word.
-pub fn data(s: &[u8], at: usize, table: &mut [u32; 613], cells: &mut [i32]) -> Headed
+pub fn data_values(s: &[u8], at: usize, table: &mut [u32; 613], cells: &mut [i32]) -> Headed
     requires { ⌜ (length (now s) ≤ 2048) × (4096 ≤ length (now cells)) × Standing (now table) ⌝ }
     ensures { λ r. ⌜ Data (now (table .entry)) (now (cells .entry)) (now (s .entry)) at (now (table .exit)) (now (cells .exit)) r ⌝ }
     ensures { λ r. ⌜ Keeps (now (table .entry)) (now (table .exit)) × (length (now (cells .exit)) ≡ length (now (cells .entry))) ⌝ }

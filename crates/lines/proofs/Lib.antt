@@ -1,2 +1,3 @@
 pub mod Verdicts
 pub mod DeclareLine
+pub mod GiveLine

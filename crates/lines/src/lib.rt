@@ -4,10 +4,13 @@ ghost use mathlib.Core.List.{List};
 ghost use Prim.Native.Nat.{ℕ, _≤_, _<_, _+_, _*_};
 ghost use lib.ListN.{length};
 ghost use lib.IntN.{ℤ};
-ghost use Rattle.syntax.specs.Reader.{readDeclare, peek-in, skip-in};
+ghost use Rattle.syntax.specs.Reader.{readDeclare, readGive, peek-in, skip-in};
+ghost use Rattle.headings.specs.Lists.{Standing};
 ghost use Rattle.lines.specs.Lines.{Takes};
 ghost use Rattle.lines.specs.Progress.{Numbers};
+use headings::Headed;
 use headings::Listed;
+use headings::data_values;
 use headings::integers;
 use lexer::Tok;
 use lexer::pass;
@@ -56,6 +59,28 @@ pub fn integer_line(s: &[u8], p: Progress, table: &mut [u32; 613]) -> Progress
         number: number_of(s, r.next, r.rank),
         stage: 1,
         cells: r.cells,
+        processors: 0,
+        from: 0,
+        count: 0,
+        place: 0,
+        depth: 0,
+    }
+}
+
+// ---- 2. data
+
+pub fn data_line(s: &[u8], p: Progress, table: &mut [u32; 613], initial: &mut [i32]) -> Progress
+    requires { ⌜ (length (now s) ≤ 2048) × (length (now initial) ≡ 4096) × Standing (now table) ⌝ }
+    ensures { λ r. ⌜ ((k : ℕ) (C O : List ℕ) → Takes (readGive peek-in skip-in) 2 (now (s .entry)) k p (now (table .entry)) (now (initial .entry)) C O r (now (table .exit)) (now (initial .exit)) C O) ⌝ }
+    ensures { λ r. ⌜ (r .cells ≡ p .cells) × (length (now (initial .exit)) ≡ 4096) ⌝ }
+{
+    let a = pass(s, 0, b"data");
+    let r = data_values(s, a, table, initial);
+    let cells = p.cells;
+    Progress {
+        number: number_of(s, r.next, r.rank),
+        stage: 2,
+        cells,
         processors: 0,
         from: 0,
         count: 0,

@@ -12,7 +12,7 @@ use Rattle.syntax.specs.Text.{initial, loaded}
 use Rattle.syntax.proofs.TestLaws.{Each, each-append, each-replicate}
 use Rattle.syntax.proofs.Table.{Data, SaneEntry, SaneTable}
 
-initial-length : (e : Entry) (g : Option (List ℤ)) → Data (e .size) g → length (initial e g) ≡ e .size
+pub initial-length : (e : Entry) (g : Option (List ℤ)) → Data (e .size) g → length (initial e g) ≡ e .size
 initial-length e none h = length-replicate (e .size) (pos 0)
 initial-length e (some vs) h = h .0
 

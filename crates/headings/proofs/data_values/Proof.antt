@@ -1,4 +1,4 @@
--- `headings::data` meets its contract.
+-- `headings::data_values` meets its contract.
 use mathlib.Core.Path.{refl, sym, _∙_, ap, subst}
 use mathlib.Core.List.{List}
 use Prim.Native.Nat.{ℕ}
@@ -11,10 +11,10 @@ use Rattle.syntax.specs.Bytes.{bytes}
 use Rattle.lexer.specs.Lex.{part}
 use Rattle.headings.specs.Data.{Puts}
 use borrow.Author.Needs.{needs}
-use Rattle.headings.proofs.data.Statement.{statement}
-use Rattle.headings.proofs.data.Tie as tie
-use Rattle.headings.proofs.data.Reads as reads
-use Rattle.headings.proofs.data.Lts as lts
+use Rattle.headings.proofs.data_values.Statement.{statement}
+use Rattle.headings.proofs.data_values.Tie as tie
+use Rattle.headings.proofs.data_values.Reads as reads
+use Rattle.headings.proofs.data_values.Lts as lts
 use Rattle.headings.proofs.give_data.Reads as give-data-reads
 use Rattle.headings.proofs.items.Reads as items-reads
 use Rattle.lexer.proofs.name.Reads as name-reads
@@ -71,8 +71,8 @@ returns-2 c =
       (given-keeps _ n _ _ _ _ (c .give-data .ensures), c .before .before .before .before .before .items .ensures .1 .0),
     )
 
-pub data-spec : {M : Type 1} → statement M
-data-spec =
+pub data-values-spec : {M : Type 1} → statement M
+data-values-spec =
     tie.close
     (tie.spec
     name-requires
