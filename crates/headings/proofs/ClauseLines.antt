@@ -171,7 +171,7 @@ pub classed-keeps : (T : List ℕ) (i c : ℕ) (T′ : List ℕ) → Classed T i
 classed-keeps T i c T′ k h = let q = k .variable h in (omega (arith, name-length T′ 16, name-length T 16, ap length q), q)
 
 -- the names stay the same
-claim-names : (t : List Entry) (xs : List (List ℕ)) (c : Class) (y x : List ℕ) → known x (claim-to xs c y t) ≡ known x t
+pub claim-names : (t : List Entry) (xs : List (List ℕ)) (c : Class) (y x : List ℕ) → known x (claim-to xs c y t) ≡ known x t
 claim-names t xs c y x = go (free t xs y)
   where
     kept : (e : Entry) → same x (class-to y c e .name) ≡ same x (e .name)
@@ -189,11 +189,11 @@ claim-names t xs c y x = go (free t xs y)
     go true = mapped t
     go false = refl
 
-claims-names : (t : List Entry) (xs : List (List ℕ)) (c : Class) (ys : List (List ℕ)) (x : List ℕ) → known x (claims-to xs c ys t) ≡ known x t
+pub claims-names : (t : List Entry) (xs : List (List ℕ)) (c : Class) (ys : List (List ℕ)) (x : List ℕ) → known x (claims-to xs c ys t) ≡ known x t
 claims-names t xs c [] x = refl
 claims-names t xs c (y ∷ ys) x = claims-names (claim-to xs c y t) (xs ++ (y ∷ [])) c ys x ∙ claim-names t xs c y x
 
-frees-known : (t u : List Entry) → ((x : List ℕ) → known x u ≡ known x t) → (zs ys : List (List ℕ)) → frees u zs ys ≡ frees t zs ys
+pub frees-known : (t u : List Entry) → ((x : List ℕ) → known x u ≡ known x t) → (zs ys : List (List ℕ)) → frees u zs ys ≡ frees t zs ys
 frees-known t u h zs [] = refl
 frees-known t u h zs (y ∷ ys) = λ i. (h y i && not (any (same y) zs)) && frees-known t u h (zs ++ (y ∷ [])) ys i
 
@@ -412,7 +412,7 @@ strictly-on s from a r w g l b = elim (decLt (length s) a) [
 
 -- ---- clauses one after the other
 
-frees-append : (t : List Entry) (xs ys zs : List (List ℕ)) → frees t xs (ys ++ zs) ≡ frees t xs ys && frees t (xs ++ ys) zs
+pub frees-append : (t : List Entry) (xs ys zs : List (List ℕ)) → frees t xs (ys ++ zs) ≡ frees t xs ys && frees t (xs ++ ys) zs
 frees-append t xs [] zs = ap (λ (l : List (List ℕ)). frees t l zs) (sym (append-nil xs))
 frees-append t xs (y ∷ ys) zs = ap (λ (b : Bool). free t xs y && b) (frees-append t (xs ++ (y ∷ [])) ys zs ∙ ap (λ (l : List (List ℕ)). frees t (xs ++ (y ∷ [])) ys && frees t l zs) (append-assoc xs (y ∷ []) ys)) ∙ sym (and-assoc (free t xs y) (frees t (xs ++ (y ∷ [])) ys) (frees t (xs ++ (y ∷ ys)) zs))
 

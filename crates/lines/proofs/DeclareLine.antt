@@ -28,7 +28,7 @@ use Rattle.headings.proofs.Lists.{Nonempty, some-nonempty}
 use Rattle.lines.specs.declared.Progress.{Progress}
 use Rattle.lines.specs.Progress.{Opened, Represents, numberOf, numbered, whole, Concludes, Numbers}
 use Rattle.lines.specs.Lines.{Takes}
-use Rattle.lines.proofs.Verdicts.{ending, concludes-word, number-by, numbered-zero, follows-most}
+use Rattle.lines.proofs.Verdicts.{ending, concludes-lands, concludes-word, number-by, numbered-zero, follows-most}
 
 -- the syntax of declared names
 abbrev mk : List Declared → Line
@@ -72,7 +72,7 @@ sizes-small (array x d ∷ ds) h =
     both-hold (le-leb (number d) 2147483647 (omega (arith, leb-true (number d) 4096 (both-true (leb 1 (number d)) _ p .1)))) (sizes-small ds q)
 
 -- what a test implies adds nothing to it
-implied : (a b : Bool) → (b ≡ true → a ≡ true) → a && b ≡ b
+pub implied : (a b : Bool) → (b ≡ true → a ≡ true) → a && b ≡ b
 implied a true h = ap (λ (x : Bool). x && true) (h refl)
 implied true false h = refl
 implied false false h = refl
@@ -171,9 +171,10 @@ module _ (k : ℕ) (s : List ℕ) (p : Progress) (T : List ℕ) (I : List ℤ) (
 
     pub declare-line : (f : ℕ) → 3 * length s + 4 ≤ f → Concludes (numberOf st) (λ l. Represents after-line T′ I C O (after k l st)) (whole (readDeclare peek-in skip-in f) s) n
     declare-line f b = subst (λ (q : Parsed (List ℕ) Line). Concludes (numberOf st) (λ l. Represents after-line T′ I C O (after k l st)) q n) (sym (declare-by f s))
-        (concludes-word (λ ds. Nonempty ds × Enlists (st .table) T (p .cells) 0 T′ r ds) s (readSome f (readDeclared peek-in skip-in)) mk (numberOf st) (λ l. Represents after-line T′ I C O (after k l st)) (r .next) (r .rank) n hn judge 0 a "integer" g (omega arith)
-        (λ i. some-nonempty (readDeclared peek-in skip-in) s (Enlists (st .table) T (p .cells) 0 T′ r) f (drop a s) (r .next) (h (st .table) (rp .table) f (omega arith) .lands i))
-        (λ i. omega (arith, h (st .table) (rp .table) f (omega arith) .lost i)) refl)
+        (concludes-word (numberOf st) (λ l. Represents after-line T′ I C O (after k l st)) n s 0 a "integer" g (omega arith) (ending (readSome f (readDeclared peek-in skip-in)) mk)
+        (λ i. concludes-lands (λ ds. Nonempty ds × Enlists (st .table) T (p .cells) 0 T′ r ds) s mk (numberOf st) (λ l. Represents after-line T′ I C O (after k l st)) (r .next) (r .rank) n hn judge (readSome f (readDeclared peek-in skip-in) (drop a s))
+        (some-nonempty (readDeclared peek-in skip-in) s (Enlists (st .table) T (p .cells) 0 T′ r) f (drop a s) (r .next) (h (st .table) (rp .table) f (omega arith) .lands i)))
+        (λ i. hn .beyond (omega (arith, h (st .table) (rp .table) f (omega arith) .lost i))) refl)
       where
         judge : (ds : List Declared) → Nonempty ds × Enlists (st .table) T (p .cells) 0 T′ r ds → (numbered (r .rank) ≡ numberOf st (mk ds)) × (numbered (r .rank) ≡ 0 → Represents after-line T′ I C O (after k (mk ds) st))
         judge [] e = absurd (e .0)

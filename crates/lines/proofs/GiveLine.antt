@@ -33,7 +33,7 @@ use Rattle.headings.specs.declared.Headed.{Headed}
 use Rattle.headings.proofs.Lists.{Nonempty}
 use Rattle.lines.specs.declared.Progress.{Progress}
 use Rattle.lines.specs.Progress.{Opened, Represents, numberOf, numbered, whole, Concludes, Numbers}
-use Rattle.lines.proofs.Verdicts.{ending, concludes-word, number-by, numbered-zero, follows-most}
+use Rattle.lines.proofs.Verdicts.{ending, concludes-lands, concludes-word, number-by, numbered-zero, follows-most}
 use Rattle.lines.proofs.DeclareLine.{heading-code}
 
 -- ---- what is read
@@ -332,9 +332,9 @@ module _ (k : ℕ) (s : List ℕ) (p : Progress) (T : List ℕ) (I : List ℤ) (
     pub give-line : (f : ℕ) → 3 * length s + 4 ≤ f → Concludes (numberOf st) (λ l. Represents after-line T′ I′ C O (after k l st)) (whole (readGive peek-in skip-in f) s) n
     unfolding Full
     give-line f b = weighed-concludes st (λ l. Represents after-line T′ I′ C O (after k l st)) (whole (readGive peek-in skip-in f) s) (next (wants peek-in skip-in "data" s) (λ _. ending (readData f) mk)) n (give-by f s)
-        (concludes-word Full s (readData f) mk (numberOf st) (λ l. Represents after-line T′ I′ C O (after k l st)) (r .next) (r .rank) n hn judge 0 a "data" g (omega arith)
-        (λ i. full f (drop a s) (r .next) (h (st .table) (rp .table) f (omega arith) .lands i))
-        (λ i. omega (arith, h (st .table) (rp .table) f (omega arith) .lost i)) refl)
+        (concludes-word (numberOf st) (λ l. Represents after-line T′ I′ C O (after k l st)) n s 0 a "data" g (omega arith) (ending (readData f) mk)
+        (λ i. concludes-lands Full s mk (numberOf st) (λ l. Represents after-line T′ I′ C O (after k l st)) (r .next) (r .rank) n hn judge (readData f (drop a s)) (full f (drop a s) (r .next) (h (st .table) (rp .table) f (omega arith) .lands i)))
+        (λ i. hn .beyond (omega (arith, h (st .table) (rp .table) f (omega arith) .lost i))) refl)
       where
         judge : (y : List ℕ × List Item) → Full y → (numbered (r .rank) ≡ numberOf st (mk y)) × (numbered (r .rank) ≡ 0 → Represents after-line T′ I′ C O (after k (mk y) st))
         judge (x, []) e = absurd (e .0)

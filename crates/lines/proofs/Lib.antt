@@ -1,3 +1,4 @@
 pub mod Verdicts
 pub mod DeclareLine
 pub mod GiveLine
+pub mod DirectLine

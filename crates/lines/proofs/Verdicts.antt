@@ -51,9 +51,9 @@ ending R mk u = next (R u) (λ a v. next (finish peek-in skip-in v) (λ _. done 
 abbrev ended : Bool → List ℕ → Parsed (List ℕ) (Unit {0})
 ended b v = cond b (done tt v) broken
 
-module _ {A : Type 0} (P : A → Type 0) (s : List ℕ) (R : Reader (List ℕ) A) (mk : A → Line) (num : Line → ℕ) (good : Line → Type 0) (m rank n : ℕ) (h : Numbers s m rank n)
+module _ {A : Type 0} (P : A → Type 0) (s : List ℕ) (mk : A → Line) (num : Line → ℕ) (good : Line → Type 0) (m rank n : ℕ) (h : Numbers s m rank n)
     (f : (a : A) → P a → (numbered rank ≡ num (mk a)) × (numbered rank ≡ 0 → good (mk a))) where
-  concludes-lands : (p : Parsed (List ℕ) A) → Lands P s p m → Concludes num good (next p (λ a v. next (finish peek-in skip-in v) (λ _. done (mk a)))) n
+  pub concludes-lands : (p : Parsed (List ℕ) A) → Lands P s p m → Concludes num good (next p (λ a v. next (finish peek-in skip-in v) (λ _. done (mk a)))) n
   unfolding Concludes
   concludes-lands broken l = h .beyond (omega (arith, l))
   concludes-lands (done a u) l = subst (λ (v : List ℕ). Concludes num good (next (finish peek-in skip-in v) (λ _. done (mk a))) n) (sym (l .0)) (go (eqb (kind (peek-in (drop m s))) 0) (h .within (l .1)))
@@ -62,21 +62,21 @@ module _ {A : Type 0} (P : A → Type 0) (s : List ℕ) (R : Reader (List ℕ) A
       go true e = let (x, y) = f a (l .2) in (e ∙ x, λ z. y (sym e ∙ z))
       go false e = e
 
-  -- after a word or a sign
-  module _ (at k : ℕ) (t : String) (g : Goes Any s at (passes (bytes t)) k) (b : at ≤ length s) (r : k ≤ length s → Lands P s (R (drop k s)) m) (o : length s < k → length s < m) where
-    concludes-passed : Concludes num good (next (passes (bytes t) (drop at s)) (λ _. ending R mk)) n
-    unfolding Concludes
-    concludes-passed = go (passes (bytes t) (drop at s)) (g .lands b)
-      where
-        go : (p : Parsed (List ℕ) (Unit {0})) → Lands Any s p k → Concludes num good (next p (λ _. ending R mk)) n
-        go broken l = h .beyond (o (omega (arith, l)))
-        go (done a u) l = subst (λ (v : List ℕ). Concludes num good (ending R mk v) n) (sym (l .0)) (concludes-lands (R (drop k s)) (r (l .1)))
+-- a word or a sign, and what comes after it
+module _ (num : Line → ℕ) (good : Line → Type 0) (n : ℕ) (s : List ℕ) (at k : ℕ) (t : String) (g : Goes Any s at (passes (bytes t)) k) (b : at ≤ length s) (rest : Reader (List ℕ) Line) (r : k ≤ length s → Concludes num good (rest (drop k s)) n) (o : length s < k → n ≡ 2) where
+  concludes-passed : Concludes num good (next (passes (bytes t) (drop at s)) (λ _. rest)) n
+  unfolding Concludes
+  concludes-passed = go (passes (bytes t) (drop at s)) (g .lands b)
+    where
+      go : (p : Parsed (List ℕ) (Unit {0})) → Lands Any s p k → Concludes num good (next p (λ _. rest)) n
+      go broken l = o (omega (arith, l))
+      go (done a u) l = subst (λ (v : List ℕ). Concludes num good (rest v) n) (sym (l .0)) (r (l .1))
 
-    pub concludes-word : lettered (bytes t) ≡ true → Concludes num good (next (wants peek-in skip-in t (drop at s)) (λ _. ending R mk)) n
-    concludes-word e = subst (λ (p : Parsed (List ℕ) (Unit {0})). Concludes num good (next p (λ _. ending R mk)) n) (sym (wants-passes t e (drop at s))) concludes-passed
+  pub concludes-word : lettered (bytes t) ≡ true → Concludes num good (next (wants peek-in skip-in t (drop at s)) (λ _. rest)) n
+  concludes-word e = subst (λ (p : Parsed (List ℕ) (Unit {0})). Concludes num good (next p (λ _. rest)) n) (sym (wants-passes t e (drop at s))) concludes-passed
 
-    pub concludes-sign : signed (bytes t) ≡ true → Concludes num good (next (expects peek-in skip-in t (drop at s)) (λ _. ending R mk)) n
-    concludes-sign e = subst (λ (p : Parsed (List ℕ) (Unit {0})). Concludes num good (next p (λ _. ending R mk)) n) (sym (expects-passes t e (drop at s))) concludes-passed
+  pub concludes-sign : signed (bytes t) ≡ true → Concludes num good (next (expects peek-in skip-in t (drop at s)) (λ _. rest)) n
+  concludes-sign e = subst (λ (p : Parsed (List ℕ) (Unit {0})). Concludes num good (next p (λ _. rest)) n) (sym (expects-passes t e (drop at s))) concludes-passed
 
 -- ---- a line in order
 

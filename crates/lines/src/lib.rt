@@ -6,11 +6,13 @@ ghost use lib.ListN.{length};
 ghost use lib.IntN.{ℤ};
 ghost use Rattle.syntax.specs.Reader.{readDeclare, readGive, peek-in, skip-in};
 ghost use Rattle.headings.specs.Lists.{Standing};
-ghost use Rattle.lines.specs.Lines.{Takes};
+ghost use Rattle.lines.specs.Lines.{Takes, readOpening};
 ghost use Rattle.lines.specs.Progress.{Numbers};
+use headings::Directed;
 use headings::Headed;
 use headings::Listed;
 use headings::data_values;
+use headings::directive;
 use headings::integers;
 use lexer::Tok;
 use lexer::pass;
@@ -82,6 +84,30 @@ pub fn data_line(s: &[u8], p: Progress, table: &mut [u32; 613], initial: &mut [i
         stage: 2,
         cells,
         processors: 0,
+        from: 0,
+        count: 0,
+        place: 0,
+        depth: 0,
+    }
+}
+
+// ---- 3. the directive
+
+pub fn directive_line(s: &[u8], p: Progress, table: &mut [u32; 613]) -> Progress
+    requires { ⌜ (length (now s) ≤ 2048) × Standing (now table) ⌝ }
+    ensures { λ r. ⌜ ((k : ℕ) (I : List ℤ) (C O : List ℕ) → Takes readOpening 3 (now (s .entry)) k p (now (table .entry)) I C O r (now (table .exit)) I C O) ⌝ }
+    ensures { λ r. ⌜ r .cells ≡ p .cells ⌝ }
+{
+    let a = pass(s, 0, b"!$omp");
+    let b = pass(s, a, b"parallel");
+    let c = pass(s, b, b"do");
+    let r = directive(s, c, table);
+    let cells = p.cells;
+    Progress {
+        number: number_of(s, r.next, r.rank),
+        stage: 3,
+        cells,
+        processors: r.processors,
         from: 0,
         count: 0,
         place: 0,
