@@ -2,3 +2,5 @@ pub mod Verdicts
 pub mod DeclareLine
 pub mod GiveLine
 pub mod DirectLine
+pub mod LoopLine
+pub mod EndLines

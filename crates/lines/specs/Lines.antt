@@ -3,12 +3,12 @@ use mathlib.Core.Path.{_≡_}
 use mathlib.Core.Bool.{true}
 use mathlib.Core.List.{List}
 use Prim.Native.Nat.{ℕ, _+_, _*_, _≤_}
-use lib.ListN.{length}
+use lib.ListN.{length, drop}
 use lib.IntN.{ℤ}
 use Rattle.syntax.specs.Known.{State, after}
 use Rattle.syntax.specs.Conditions.{follows}
 use Rattle.syntax.specs.Grammar.{Line, direct, close}
-use Rattle.syntax.specs.Reader.{Reader, _>>=_, _>>_, yield, expects, wants, readDigits, readClauses, peek-in, skip-in}
+use Rattle.syntax.specs.Reader.{Reader, done, _>>=_, _>>_, yield, expects, wants, readDigits, readClauses, peek-in, skip-in}
 use Rattle.syntax.proofs.Sane.{Sane}
 use Rattle.lines.specs.declared.Progress.{Progress}
 use Rattle.lines.specs.Progress.{Represents, numberOf, whole, Concludes}
@@ -40,3 +40,7 @@ readClosing f = do
   wants peek-in skip-in "parallel"
   wants peek-in skip-in "do"
   yield close
+
+-- a line that is known by its first words, which end at a place
+abbrev pub reads : Line → ℕ → ℕ → Reader (List ℕ) Line
+reads l at f s = done l (drop at s)

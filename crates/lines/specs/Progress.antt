@@ -48,6 +48,14 @@ pub record Represents (p : Progress) (T : List ℕ) (I : List ℤ) (C O : List �
   pub shallow : p .depth ≤ 8
   pub stack : 8 ≤ length O
 
+-- some text was read so far
+abbrev pub Underway : Progress → List ℕ → List ℕ → Type 0
+Underway p C O = (T : List ℕ) × (I : List ℤ) × (s : State) × Represents p T I C O s
+
+-- a line after `do`
+abbrev pub moved : Progress → ℕ → ℕ → ℕ → ℕ → Progress
+moved p number stage place depth = record { number = number; stage = stage; cells = p .cells; processors = p .processors; from = p .from; count = p .count; place = place; depth = depth }
+
 -- ---- what a line comes to
 
 -- the number of a line that stands where it may: "2 before 3 before 4"; 0 for a good one

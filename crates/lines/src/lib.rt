@@ -1,18 +1,22 @@
 // The lines of a loop text, each by its kind: read to its end, judged, and taken into what is known so far.
 ghost use mathlib.Core.Path.{_≡_};
 ghost use mathlib.Core.List.{List};
+ghost use mathlib.Core.Bool.{Bool};
 ghost use Prim.Native.Nat.{ℕ, _≤_, _<_, _+_, _*_};
-ghost use lib.ListN.{length};
+ghost use lib.ListN.{length, getD, set};
 ghost use lib.IntN.{ℤ};
-ghost use Rattle.syntax.specs.Reader.{readDeclare, readGive, peek-in, skip-in};
+ghost use Rattle.syntax.specs.Grammar.{otherwise, end-if, inside, end-do};
+ghost use Rattle.syntax.specs.Reader.{readDeclare, readGive, readLoop, peek-in, skip-in};
 ghost use Rattle.headings.specs.Lists.{Standing};
-ghost use Rattle.lines.specs.Lines.{Takes, readOpening};
-ghost use Rattle.lines.specs.Progress.{Numbers};
+ghost use Rattle.lines.specs.Lines.{Takes, readOpening, readClosing, reads};
+ghost use Rattle.lines.specs.Progress.{Numbers, moved, Underway};
 use headings::Directed;
 use headings::Headed;
 use headings::Listed;
+use headings::Looped;
 use headings::data_values;
 use headings::directive;
+use headings::do_line;
 use headings::integers;
 use lexer::Tok;
 use lexer::pass;
@@ -113,4 +117,142 @@ pub fn directive_line(s: &[u8], p: Progress, table: &mut [u32; 613]) -> Progress
         place: 0,
         depth: 0,
     }
+}
+
+// ---- 4. do
+
+pub fn loop_line(s: &[u8], p: Progress, table: &mut [u32; 613]) -> Progress
+    requires { ⌜ length (now s) ≤ 2048 ⌝ }
+    ensures { λ r. ⌜ ((k : ℕ) (I : List ℤ) (C O : List ℕ) → Takes (readLoop peek-in skip-in) 4 (now (s .entry)) k p (now (table .entry)) I C O r (now (table .exit)) I C O) ⌝ }
+{
+    let a = pass(s, 0, b"do");
+    let r = do_line(s, a, table);
+    let cells = p.cells;
+    let processors = p.processors;
+    Progress {
+        number: number_of(s, r.next, r.rank),
+        stage: 4,
+        cells,
+        processors,
+        from: r.from,
+        count: r.count,
+        place: 0,
+        depth: 0,
+    }
+}
+
+// ---- lines after do
+
+// How far a text was read, with this line's number and stage, and another place and depth.
+fn onward(p: Progress, number: u32, stage: u32, place: usize, depth: usize) -> Progress
+    ensures { λ r. ⌜ r ≡ moved p number stage place depth ⌝ }
+{
+    let cells = p.cells;
+    let processors = p.processors;
+    let from = p.from;
+    let count = p.count;
+    Progress {
+        number,
+        stage,
+        cells,
+        processors,
+        from,
+        count,
+        place,
+        depth,
+    }
+}
+
+// Fills in the distance of a jump.
+fn fill(code: &mut [u32], jump: usize, distance: usize)
+    requires { ⌜ (2 * jump + 1 < length (now code)) × (getD (now code) (2 * jump + 1) 0 ≤ 7) × (distance ≤ 65536) ⌝ }
+    ensures { λ _. ⌜ now (code .exit) ≡ set (now (code .entry)) (2 * jump + 1) (getD (now (code .entry)) (2 * jump + 1) 0 + 8 * distance) ⌝ }
+    ensures { λ _. ⌜ length (now (code .exit)) ≡ length (now (code .entry)) ⌝ }
+{
+    let i = 2 * jump + 1;
+    code[i] = code[i] + 8 * distance as u32;
+}
+
+// Writes a jump over nothing.
+fn put_jump(code: &mut [u32], place: usize)
+    requires { ⌜ 2 * (place + 1) ≤ length (now code) ⌝ }
+    ensures { λ _. ⌜ now (code .exit) ≡ set (set (now (code .entry)) (2 * place) 16) (2 * place + 1) 0 ⌝ }
+    ensures { λ _. ⌜ length (now (code .exit)) ≡ length (now (code .entry)) ⌝ }
+{
+    let i = 2 * place;
+    code[i] = 16;
+    code[i + 1] = 0;
+}
+
+// `else`, after which the line goes on at a place.
+pub fn else_line(
+    s: &[u8],
+    at: usize,
+    p: Progress,
+    code: &mut [u32],
+    opens: &mut [u32; 8],
+) -> Progress
+    requires { ⌜ (at ≤ length (now s)) × (p .place ≤ 4096) × (2 * (p .place + 1) ≤ length (now code)) × Underway p (now code) (now opens) ⌝ }
+    ensures { λ r. ⌜ ((k : ℕ) (T : List ℕ) (I : List ℤ) → Takes (reads (inside otherwise) at) 5 (now (s .entry)) k p T I (now (code .entry)) (now (opens .entry)) r T I (now (code .exit)) (now (opens .exit))) ⌝ }
+    ensures { λ r. ⌜ (r .place ≤ p .place + 1) × (length (now (code .exit)) ≡ length (now (code .entry))) ⌝ }
+{
+    let depth = p.depth;
+    let place = p.place;
+    if depth == 0 {
+        return onward(p, 2, 5, place, depth);
+    }
+    let w = opens[depth - 1];
+    if w % 2 == 1 {
+        return onward(p, 2, 5, place, depth);
+    }
+    let jump = w as usize / 2;
+    fill(code, jump, place - jump);
+    put_jump(code, place);
+    opens[depth - 1] = 2 * place as u32 + 1;
+    onward(p, number_of(s, at, 0), 5, place + 1, depth)
+}
+
+// `end if`
+pub fn end_if_line(s: &[u8], at: usize, p: Progress, code: &mut [u32], opens: &[u32; 8]) -> Progress
+    requires { ⌜ (at ≤ length (now s)) × (p .place ≤ 4096) × (2 * p .place ≤ length (now code)) × Underway p (now code) (now opens) ⌝ }
+    ensures { λ r. ⌜ ((j : Bool) (k : ℕ) (T : List ℕ) (I : List ℤ) → Takes (reads (inside (end-if j)) at) 5 (now (s .entry)) k p T I (now (code .entry)) (now (opens .entry)) r T I (now (code .exit)) (now (opens .entry))) ⌝ }
+    ensures { λ r. ⌜ (r .place ≤ p .place) × (length (now (code .exit)) ≡ length (now (code .entry))) ⌝ }
+{
+    let depth = p.depth;
+    let place = p.place;
+    if depth == 0 {
+        return onward(p, 2, 5, place, depth);
+    }
+    let jump = opens[depth - 1] as usize / 2;
+    fill(code, jump, place - (jump + 1));
+    onward(p, number_of(s, at, 0), 5, place, depth - 1)
+}
+
+// ---- 6. end do, and 7. the closing directive
+
+pub fn end_do_line(s: &[u8], at: usize, p: Progress) -> Progress
+    requires { ⌜ at ≤ length (now s) ⌝ }
+    ensures { λ r. ⌜ ((j : Bool) (k : ℕ) (T : List ℕ) (I : List ℤ) (C O : List ℕ) → Takes (reads (end-do j) at) 6 (now (s .entry)) k p T I C O r T I C O) ⌝ }
+    ensures { λ r. ⌜ r .place ≤ p .place ⌝ }
+{
+    let depth = p.depth;
+    let place = p.place;
+    if depth == 0 {
+        return onward(p, number_of(s, at, 0), 6, place, depth);
+    }
+    onward(p, 2, 6, place, depth)
+}
+
+pub fn close_line(s: &[u8], p: Progress) -> Progress
+    requires { ⌜ length (now s) ≤ 2048 ⌝ }
+    ensures { λ r. ⌜ ((k : ℕ) (T : List ℕ) (I : List ℤ) (C O : List ℕ) → Takes readClosing 7 (now (s .entry)) k p T I C O r T I C O) ⌝ }
+    ensures { λ r. ⌜ r .place ≤ p .place ⌝ }
+{
+    let a = pass(s, 0, b"!$omp");
+    let b = pass(s, a, b"end");
+    let c = pass(s, b, b"parallel");
+    let d = pass(s, c, b"do");
+    let depth = p.depth;
+    let place = p.place;
+    onward(p, number_of(s, d, 0), 7, place, depth)
 }

@@ -1,0 +1,63 @@
+-- `lines::close_line` meets its contract.
+use mathlib.Core.Path.{ap}
+use native.Mathlib.Omega.{arith}
+use Rattle.lines.specs.declared.Progress.{Progress}
+use Rattle.lines.specs.Progress.{numberOf}
+use Rattle.lines.proofs.EndLines.{concluded, close-line}
+use borrow.Author.Needs.{needs}
+use Rattle.lines.proofs.close_line.Statement.{statement}
+use Rattle.lines.proofs.close_line.Tie as tie
+use Rattle.lines.proofs.close_line.Reads as reads
+use Rattle.lines.proofs.close_line.Lts as lts
+use Rattle.lexer.proofs.pass.Reads as pass-reads
+use Rattle.lines.proofs.number_of.Reads as number-of-reads
+use Rattle.lines.proofs.onward.Reads as onward-reads
+
+slice-aggregate-pass : tie.Need-slice-aggregate-pass
+slice-aggregate-pass c = search needs
+
+pass-requires : tie.Need-pass-requires
+pass-requires c κs = search needs
+
+slice-aggregate-pass-2 : tie.Need-slice-aggregate-pass-2
+slice-aggregate-pass-2 c = search needs
+
+pass-requires-2 : tie.Need-pass-requires-2
+pass-requires-2 c κs = search needs
+
+slice-aggregate-pass-3 : tie.Need-slice-aggregate-pass-3
+slice-aggregate-pass-3 c = search needs
+
+pass-requires-3 : tie.Need-pass-requires-3
+pass-requires-3 c κs = search needs
+
+slice-aggregate-pass-4 : tie.Need-slice-aggregate-pass-4
+slice-aggregate-pass-4 c = search needs
+
+pass-requires-4 : tie.Need-pass-requires-4
+pass-requires-4 c κs = search needs
+
+number-of-requires : tie.Need-number-of-requires
+number-of-requires c κs = search needs
+
+onward-requires : tie.Need-onward-requires
+onward-requires c κs = search needs
+
+returns : tie.Need-returns
+returns c = (λ k T I C O st rp sane fo f b. concluded _ _ (c .onward .ensures) (numberOf st) k T I C O st _ (close-line k _ (c .before .before .before .before .before .before .before .before .before .before .before .args .p) T I C O _ _ _ _ (c .before .before .before .before .before .before .before .before .pass .ensures) (c .before .before .before .before .before .before .pass2 .ensures) (c .before .before .before .before .pass3 .ensures) (c .before .before .pass4 .ensures) _ (c .before .number-of .ensures) st rp f), omega (arith, ap (λ (r : Progress). r .place) (c .onward .ensures)))
+
+pub close-line-spec : {M : Type 1} → statement M
+close-line-spec =
+    tie.close
+    (tie.spec
+    slice-aggregate-pass
+    pass-requires
+    slice-aggregate-pass-2
+    pass-requires-2
+    slice-aggregate-pass-3
+    pass-requires-3
+    slice-aggregate-pass-4
+    pass-requires-4
+    number-of-requires
+    onward-requires
+    returns)

@@ -1,0 +1,111 @@
+-- `lines::else_line` meets its contract.
+use mathlib.Core.Path.{refl, ap, _∙_}
+use mathlib.Core.List.{List}
+use Prim.Native.Nat.{ℕ, _+_, _*_}
+use native.Mathlib.Omega.{arith}
+use lib.ListN.{set}
+use Rattle.lines.specs.declared.Progress.{Progress}
+use Rattle.lines.specs.Progress.{numberOf}
+use Rattle.lines.proofs.EndLines.{concluded, jumps, else-none, else-again, else-turns}
+use borrow.Author.Needs.{needs}
+use Rattle.lines.proofs.else_line.Statement.{statement}
+use Rattle.lines.proofs.else_line.Tie as tie
+use Rattle.lines.proofs.else_line.Reads as reads
+use Rattle.lines.proofs.else_line.Lts as lts
+use Rattle.lines.proofs.fill.Reads as fill-reads
+use Rattle.lines.proofs.number_of.Reads as number-of-reads
+use Rattle.lines.proofs.onward.Reads as onward-reads
+use Rattle.lines.proofs.put_jump.Reads as put-jump-reads
+
+onward-requires : tie.Need-onward-requires
+onward-requires c κs = search needs
+
+returns : tie.Need-returns
+returns c = (λ k T I st rp sane fo f b. concluded _ _ (c .onward .ensures) (numberOf st) k T I _ _ st _ (else-none k _ _ (c .before .before .before .before .pre .0) (c .before .before .before .before .args .p) T I _ _ st rp _ (c .before .if1 .taken)), (omega (arith, ap (λ (r : Progress). r .place) (c .onward .ensures)), refl))
+
+sub-w : tie.Need-sub-w
+sub-w c = search needs
+
+mul-w : tie.Need-mul-w
+mul-w c = search needs
+
+element-copy-out-w : tie.Need-element-copy-out-w
+element-copy-out-w c = search needs
+
+onward-requires-2 : tie.Need-onward-requires-2
+onward-requires-2 c κs = search needs
+
+returns-2 : tie.Need-returns-2
+returns-2 c = (λ k T I st rp sane fo f b. concluded _ _ (c .onward2 .ensures) (numberOf st) k T I _ _ st _ (else-again k _ _ (c .before .before .before .before .before .before .pre .0) (c .before .before .before .before .before .before .args .p) T I _ _ st rp (c .before .before .before .if1 .left) _ (c .before .if2 .taken)), (omega (arith, ap (λ (r : Progress). r .place) (c .onward2 .ensures)), refl))
+
+cast-jump : tie.Need-cast-jump
+cast-jump c = (let u = jumps _ _ _ (c .before .before .before .before .before .pre .3) (c .before .before .if1 .left) in omega (arith, u .word, c .before .before .before .before .before .pre .1))
+
+sub-fill : tie.Need-sub-fill
+sub-fill c = (let u = jumps _ _ _ (c .before .before .before .before .before .before .pre .3) (c .before .before .before .if1 .left) in omega (arith, u .before))
+
+fill-requires : tie.Need-fill-requires
+fill-requires c κs = (let u = jumps _ _ _ (c .before .before .before .before .before .before .pre .3) (c .before .before .before .if1 .left) in (omega (arith, u .before, u .long), u .small, omega (arith, c .before .before .before .before .before .before .pre .1)))
+
+put-jump-requires : tie.Need-put-jump-requires
+put-jump-requires c κs = search needs
+
+cast-opens : tie.Need-cast-opens
+cast-opens c = search needs
+
+mul-opens : tie.Need-mul-opens
+mul-opens c = search needs
+
+add-opens : tie.Need-add-opens
+add-opens c = search needs
+
+sub-opens : tie.Need-sub-opens
+sub-opens c = search needs
+
+mul-opens-2 : tie.Need-mul-opens-2
+mul-opens-2 c = search needs
+
+element-write-opens : tie.Need-element-write-opens
+element-write-opens c = search needs
+
+number-of-requires : tie.Need-number-of-requires
+number-of-requires c κs = search needs
+
+add-onward : tie.Need-add-onward
+add-onward c = search needs
+
+onward-requires-3 : tie.Need-onward-requires-3
+onward-requires-3 c κs = search needs
+
+same-length : tie.Need-same-length
+same-length c = search needs
+
+returns-3 : tie.Need-returns-3
+returns-3 c = (λ k T I st rp sane fo f b. concluded _ _ (c .onward3 .ensures) (numberOf st) k T I _ _ st _ (else-turns k _ _ (c .before .before .before .before .before .before .before .before .before .before .before .before .before .before .before .pre .0) (c .before .before .before .before .before .before .before .before .before .before .before .before .before .before .before .args .p) T I _ _ st rp (c .before .before .before .before .before .before .before .before .before .before .before .before .if1 .left) (c .before .before .before .before .before .before .before .before .before .before .if2 .left) (c .before .before .before .before .before .before .before .before .before .before .before .before .before .before .before .pre .2) _ (c .before .before .before .before .put-jump .ensures .0 ∙ ap (λ (l : List ℕ). set (set l (2 * (c .before .before .before .before .before .before .before .before .before .before .before .before .before .before .before .args .p) .place) 16) (2 * (c .before .before .before .before .before .before .before .before .before .before .before .before .before .before .before .args .p) .place + 1) 0) (c .before .before .before .before .before .before .before .before .fill .ensures .0)) _ refl _ (c .before .number-of .ensures)), (omega (arith, ap (λ (r : Progress). r .place) (c .onward3 .ensures)), c .before .before .before .before .put-jump .ensures .1 ∙ c .before .before .before .before .before .before .before .before .fill .ensures .1))
+
+pub else-line-spec : {M : Type 1} → statement M
+else-line-spec =
+    tie.close
+    (tie.spec
+    onward-requires
+    returns
+    sub-w
+    mul-w
+    element-copy-out-w
+    onward-requires-2
+    returns-2
+    cast-jump
+    sub-fill
+    fill-requires
+    put-jump-requires
+    cast-opens
+    mul-opens
+    add-opens
+    sub-opens
+    mul-opens-2
+    element-write-opens
+    number-of-requires
+    add-onward
+    onward-requires-3
+    same-length
+    returns-3)

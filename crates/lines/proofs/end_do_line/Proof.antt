@@ -1,0 +1,32 @@
+-- `lines::end_do_line` meets its contract.
+use mathlib.Core.Path.{ap}
+use native.Mathlib.Omega.{arith}
+use Rattle.lines.specs.declared.Progress.{Progress}
+use Rattle.lines.specs.Progress.{numberOf}
+use Rattle.lines.proofs.EndLines.{concluded, end-do-line, end-do-open}
+use borrow.Author.Needs.{needs}
+use Rattle.lines.proofs.end_do_line.Statement.{statement}
+use Rattle.lines.proofs.end_do_line.Tie as tie
+use Rattle.lines.proofs.end_do_line.Reads as reads
+use Rattle.lines.proofs.end_do_line.Lts as lts
+use Rattle.lines.proofs.number_of.Reads as number-of-reads
+use Rattle.lines.proofs.onward.Reads as onward-reads
+
+number-of-requires : tie.Need-number-of-requires
+number-of-requires c κs = search needs
+
+onward-requires : tie.Need-onward-requires
+onward-requires c κs = search needs
+
+returns : tie.Need-returns
+returns c = (λ j k T I C O st rp sane fo f b. concluded _ _ (c .onward .ensures) (numberOf st) k T I C O st _ (end-do-line k _ _ (omega arith) (c .before .before .before .before .args .p) T I C O j st rp _ (c .before .number-of .ensures) (c .before .before .if1 .taken)), omega (arith, ap (λ (r : Progress). r .place) (c .onward .ensures)))
+
+onward-requires-2 : tie.Need-onward-requires-2
+onward-requires-2 c κs = search needs
+
+returns-2 : tie.Need-returns-2
+returns-2 c = (λ j k T I C O st rp sane fo f b. concluded _ _ (c .onward2 .ensures) (numberOf st) k T I C O st _ (end-do-open k _ _ (c .before .before .before .pre) (c .before .before .before .args .p) T I C O j st rp _ (c .before .if1 .left)), omega (arith, ap (λ (r : Progress). r .place) (c .onward2 .ensures)))
+
+pub end-do-line-spec : {M : Type 1} → statement M
+end-do-line-spec =
+    tie.close (tie.spec number-of-requires onward-requires returns onward-requires-2 returns-2)

@@ -1,0 +1,75 @@
+-- `lines::end_if_line` meets its contract.
+use mathlib.Core.Path.{refl, ap, _∙_}
+use native.Mathlib.Omega.{arith}
+use Rattle.lines.specs.declared.Progress.{Progress}
+use Rattle.lines.specs.Progress.{numberOf}
+use Rattle.lines.proofs.EndLines.{concluded, jumps, end-if-none, end-if-ends}
+use borrow.Author.Needs.{needs}
+use Rattle.lines.proofs.end_if_line.Statement.{statement}
+use Rattle.lines.proofs.end_if_line.Tie as tie
+use Rattle.lines.proofs.end_if_line.Reads as reads
+use Rattle.lines.proofs.end_if_line.Lts as lts
+use Rattle.lines.proofs.fill.Reads as fill-reads
+use Rattle.lines.proofs.number_of.Reads as number-of-reads
+use Rattle.lines.proofs.onward.Reads as onward-reads
+
+onward-requires : tie.Need-onward-requires
+onward-requires c κs = search needs
+
+returns : tie.Need-returns
+returns c = (λ j k T I st rp sane fo f b. concluded _ _ (c .onward .ensures) (numberOf st) k T I _ _ st _ (end-if-none k _ _ (c .before .before .before .before .pre .0) (c .before .before .before .before .args .p) T I _ _ st rp j _ (c .before .if1 .taken)), (omega (arith, ap (λ (r : Progress). r .place) (c .onward .ensures)), refl))
+
+sub-jump : tie.Need-sub-jump
+sub-jump c = search needs
+
+mul-jump : tie.Need-mul-jump
+mul-jump c = search needs
+
+element-copy-out-jump : tie.Need-element-copy-out-jump
+element-copy-out-jump c = search needs
+
+cast-jump : tie.Need-cast-jump
+cast-jump c = (let u = jumps _ _ _ (c .before .before .before .before .pre .3) (c .before .if1 .left) in omega (arith, u .word, c .before .before .before .before .pre .1))
+
+add-fill : tie.Need-add-fill
+add-fill c = (let u = jumps _ _ _ (c .before .before .before .before .before .pre .3) (c .before .before .if1 .left) in omega (arith, u .word, c .before .before .before .before .before .pre .1))
+
+sub-fill : tie.Need-sub-fill
+sub-fill c = (let u = jumps _ _ _ (c .before .before .before .before .before .pre .3) (c .before .before .if1 .left) in omega (arith, u .before))
+
+fill-requires : tie.Need-fill-requires
+fill-requires c κs = (let u = jumps _ _ _ (c .before .before .before .before .before .pre .3) (c .before .before .if1 .left) in (omega (arith, u .before, u .long), u .small, omega (arith, c .before .before .before .before .before .pre .1)))
+
+number-of-requires : tie.Need-number-of-requires
+number-of-requires c κs = search needs
+
+sub-onward : tie.Need-sub-onward
+sub-onward c = search needs
+
+onward-requires-2 : tie.Need-onward-requires-2
+onward-requires-2 c κs = search needs
+
+same-length : tie.Need-same-length
+same-length c = search needs
+
+returns-2 : tie.Need-returns-2
+returns-2 c = (λ j k T I st rp sane fo f b. concluded _ _ (c .onward2 .ensures) (numberOf st) k T I _ _ st _ (end-if-ends k _ _ (c .before .before .before .before .before .before .before .before .before .before .pre .0) (c .before .before .before .before .before .before .before .before .before .before .args .p) T I _ _ st rp (c .before .before .before .before .before .before .before .if1 .left) _ (c .before .before .before .before .fill .ensures .0) j _ (c .before .number-of .ensures)), (omega (arith, ap (λ (r : Progress). r .place) (c .onward2 .ensures)), c .before .before .before .before .fill .ensures .1))
+
+pub end-if-line-spec : {M : Type 1} → statement M
+end-if-line-spec =
+    tie.close
+    (tie.spec
+    onward-requires
+    returns
+    sub-jump
+    mul-jump
+    element-copy-out-jump
+    cast-jump
+    add-fill
+    sub-fill
+    fill-requires
+    number-of-requires
+    sub-onward
+    onward-requires-2
+    same-length
+    returns-2)

@@ -1,0 +1,33 @@
+-- `lines::loop_line` meets its contract.
+use mathlib.Core.Path.{_≡_}
+use mir.Val.{toZ, ofZ}
+use mir.Syntax.{w32}
+use Rattle.lines.proofs.LoopLine.{loop-line}
+use borrow.Author.Needs.{needs}
+use Rattle.lines.proofs.loop_line.Statement.{statement}
+use Rattle.lines.proofs.loop_line.Tie as tie
+use Rattle.lines.proofs.loop_line.Reads as reads
+use Rattle.lines.proofs.loop_line.Lts as lts
+use Rattle.headings.proofs.do_line.Reads as do-line-reads
+use Rattle.lexer.proofs.pass.Reads as pass-reads
+use Rattle.lines.proofs.number_of.Reads as number-of-reads
+
+slice-aggregate-pass : tie.Need-slice-aggregate-pass
+slice-aggregate-pass c = search needs
+
+pass-requires : tie.Need-pass-requires
+pass-requires c κs = search needs
+
+do-line-requires : tie.Need-do-line-requires
+do-line-requires c κs = search needs
+
+number-of-requires : tie.Need-number-of-requires
+number-of-requires c κs = search needs
+
+returns : tie.Need-returns
+returns c = let e : toZ w32 (ofZ w32 (c .before .before .do-line .result .from)) ≡ c .before .before .do-line .result .from = search needs in λ k I C O st rp sane fo f b. loop-line k _ (c .before .before .before .before .before .before .before .args .p) _ I C O _ _ (c .before .before .before .before .pass .ensures) (c .before .before .do-line .result) (c .before .before .do-line .ensures) _ (c .before .number-of .ensures) _ e st rp f
+
+pub loop-line-spec : {M : Type 1} → statement M
+loop-line-spec =
+    tie.close
+    (tie.spec slice-aggregate-pass pass-requires do-line-requires number-of-requires returns)
