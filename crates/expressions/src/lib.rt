@@ -198,7 +198,7 @@ fn begin(s: &[u8], at: usize) -> Seen
 }
 
 // Reads a sign after what was read.
-fn expect(s: &[u8], g: Got, c: u8) -> Got
+pub fn expect(s: &[u8], g: Got, c: u8) -> Got
     requires { ⌜ Inside (now s) g × Sign c ⌝ }
     ensures { λ r. ⌜ Sealed c (now (s .entry)) g r ⌝ }
 {
@@ -223,7 +223,7 @@ fn expect(s: &[u8], g: Got, c: u8) -> Got
 // ---- instructions
 
 // Writes an instruction's two words.
-fn emit(code: &mut [u32], place: usize, operation: u32, argument: u32)
+pub fn emit(code: &mut [u32], place: usize, operation: u32, argument: u32)
     requires { ⌜ 2 * (place + 1) ≤ length (now code) ⌝ }
     ensures { λ _. ⌜ now (code .exit) ≡ set (set (now (code .entry)) (2 * place) operation) (suc (2 * place)) argument ⌝ }
 {
@@ -233,7 +233,7 @@ fn emit(code: &mut [u32], place: usize, operation: u32, argument: u32)
 }
 
 // Writes an instruction after what was read.
-fn then_emit(g: Got, code: &mut [u32], operation: u32, argument: u32) -> Got
+pub fn then_emit(g: Got, code: &mut [u32], operation: u32, argument: u32) -> Got
     requires { ⌜ Room 1 g (now code) ⌝ }
     ensures { λ r. ⌜ Emits 1 (operation ∷ argument ∷ []) g (now (code .entry)) (now (code .exit)) r ⌝ }
 {
@@ -278,7 +278,7 @@ fn factor_operation(sign: u32, line: u32) -> u32
 }
 
 // A first cell and a length in one argument. A table of names within the limits has no others.
-fn span(first: u32, size: u32) -> u32
+pub fn span(first: u32, size: u32) -> u32
     ensures { λ r. ⌜ r ≡ spanOf first size ⌝ }
 {
     if 4096 < first {
