@@ -111,7 +111,7 @@ top st O d h = go (st .opens) (placesOf st) refl refl h
     go (o ∷ os) (q ∷ qs) eo eq h = record { innermost = record { branch = o; others = os; opens = eo }; at = q; rest = qs; places = eq; word = h .0; others = h .1 }
 
 -- open jumps below d stand in the words below d
-opened-below : (O : List ℕ) (d i x : ℕ) (os : List Open) (qs : List ℕ) → d ≤ i → Opened O d os qs → Opened (set O i x) d os qs
+pub opened-below : (O : List ℕ) (d i x : ℕ) (os : List Open) (qs : List ℕ) → d ≤ i → Opened O d os qs → Opened (set O i x) d os qs
 opened-below O zero i x [] [] b h = tt
 opened-below O zero i x [] (q ∷ qs) b h = h
 opened-below O zero i x (o ∷ os) qs b h = h

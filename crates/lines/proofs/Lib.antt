@@ -4,3 +4,5 @@ pub mod GiveLine
 pub mod DirectLine
 pub mod LoopLine
 pub mod EndLines
+pub mod Yields
+pub mod StatementLines

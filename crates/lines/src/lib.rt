@@ -1,15 +1,17 @@
 // The lines of a loop text, each by its kind: read to its end, judged, and taken into what is known so far.
 ghost use mathlib.Core.Path.{_≡_};
 ghost use mathlib.Core.List.{List};
-ghost use mathlib.Core.Bool.{Bool};
-ghost use Prim.Native.Nat.{ℕ, _≤_, _<_, _+_, _*_};
+ghost use mathlib.Core.Bool.{Bool, cond};
+ghost use Prim.Native.Nat.{ℕ, suc, _≤_, _<_, _+_, _-_, _*_, max};
+ghost use lib.Dec.{leb};
 ghost use lib.ListN.{length, getD, set};
 ghost use lib.IntN.{ℤ};
 ghost use Rattle.syntax.specs.Grammar.{otherwise, end-if, inside, end-do};
-ghost use Rattle.syntax.specs.Reader.{readDeclare, readGive, readLoop, peek-in, skip-in};
+ghost use Rattle.syntax.specs.Reader.{readDeclare, readGive, readLoop, readAssign, readWhen, peek-in, skip-in};
 ghost use Rattle.headings.specs.Lists.{Standing};
 ghost use Rattle.lines.specs.Lines.{Takes, readOpening, readClosing, reads};
 ghost use Rattle.lines.specs.Progress.{Numbers, moved, Underway};
+use expressions::Got;
 use headings::Directed;
 use headings::Headed;
 use headings::Listed;
@@ -21,6 +23,7 @@ use headings::integers;
 use lexer::Tok;
 use lexer::pass;
 use lexer::token;
+use statements::condition;
 
 // How far a text was read: 0 or the number of its first bad line; which of 1 to 7 stood last; how many cells, processors and iterations there are,
 // and the first value of the loop's variable; how many instructions are emitted, and how many ifs are open.
@@ -160,6 +163,56 @@ fn onward(p: Progress, number: u32, stage: u32, place: usize, depth: usize) -> P
         count,
         place,
         depth,
+    }
+}
+
+// ---- 5. statements
+
+// The word of an open jump that stands before a place.
+fn open_word(place: usize) -> u32
+    requires { ⌜ place ≤ 65536 ⌝ }
+    ensures { λ r. ⌜ r ≡ 2 * (place - 1) ⌝ }
+{
+    if place == 0 {
+        return 0;
+    }
+    2 * (place as u32 - 1)
+}
+
+// The rank of an `if` inside as many others.
+fn nested(rank: u32, depth: usize) -> u32
+    ensures { λ r. ⌜ r ≡ max rank (cond (leb (suc depth) 8) 0 1) ⌝ }
+{
+    if depth < 8 {
+        return rank;
+    }
+    if rank < 1 { 1 } else { rank }
+}
+
+pub fn if_line(
+    s: &[u8],
+    line: u32,
+    p: Progress,
+    table: &[u32; 613],
+    code: &mut [u32],
+    opens: &mut [u32; 8],
+) -> Progress
+    requires { ⌜ (length (now s) ≤ 2048) × (line ≤ 2049) × (2 * (p .place + 2 * length (now s)) ≤ length (now code)) × (p .place ≤ 32768) × (p .depth ≤ 8) ⌝ }
+    ensures { λ r. ⌜ ((I : List ℤ) → Takes (readWhen peek-in skip-in) 5 (now (s .entry)) line p (now (table .entry)) I (now (code .entry)) (now (opens .entry)) r (now (table .entry)) I (now (code .exit)) (now (opens .exit))) ⌝ }
+    ensures { λ r. ⌜ (r .place ≤ p .place + 2 * length (now (s .entry))) × (length (now (code .exit)) ≡ length (now (code .entry))) ⌝ }
+{
+    let depth = p.depth;
+    let before = p.place;
+    match condition(s, line, table, code, before) {
+        Got::Done { at, place, rank } => {
+            let number = number_of(s, at, nested(rank, depth));
+            if depth < 8 {
+                opens[depth] = open_word(place);
+                return onward(p, number, 5, place, depth + 1);
+            }
+            onward(p, number, 5, place, depth)
+        }
+        Got::Broken => onward(p, 2, 5, before, depth),
     }
 }
 

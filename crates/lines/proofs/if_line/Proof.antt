@@ -1,0 +1,98 @@
+-- `lines::if_line` meets its contract.
+use mathlib.Core.Path.{ap, subst}
+use Prim.Native.Nat.{ℕ}
+use lib.ListN.{set}
+use native.Mathlib.Omega.{arith}
+use Rattle.syntax.specs.Reader.{readWhen, peek-in, skip-in}
+use Rattle.statements.specs.Statement.{Compiles}
+use Rattle.lines.specs.declared.Progress.{Progress}
+use Rattle.lines.specs.Progress.{numberOf}
+use Rattle.lines.proofs.EndLines.{concluded}
+use Rattle.lines.proofs.StatementLines.{when-line, when-deep, when-broken, compiled-bounded, compiled-number}
+use borrow.Author.Needs.{needs}
+use Rattle.lines.proofs.if_line.Statement.{statement}
+use Rattle.lines.proofs.if_line.Tie as tie
+use Rattle.lines.proofs.if_line.Reads as reads
+use Rattle.lines.proofs.if_line.Lts as lts
+use Rattle.lines.proofs.nested.Reads as nested-reads
+use Rattle.lines.proofs.number_of.Reads as number-of-reads
+use Rattle.lines.proofs.onward.Reads as onward-reads
+use Rattle.lines.proofs.open_word.Reads as open-word-reads
+use Rattle.statements.proofs.condition.Reads as condition-reads
+
+condition-requires : tie.Need-condition-requires
+condition-requires c κs = search needs
+
+enum-known-at : tie.Need-enum-known-at
+enum-known-at c = search needs
+
+nested-requires : tie.Need-nested-requires
+nested-requires c κs = search needs
+
+number-of-requires : tie.Need-number-of-requires
+number-of-requires c κs = search needs
+
+open-word-requires : tie.Need-open-word-requires
+open-word-requires c κs = omega (arith, compiled-bounded _ _ _ _ _ _ _ _ _ _ _ (c .before .before .before .before .before .before .before .before .condition .ensures) (c .before .before .before .before .at .given .1), c .before .before .before .before .before .before .before .before .before .before .before .before .pre .0, c .before .before .before .before .before .before .before .before .before .before .before .before .pre .3)
+
+mul-opens : tie.Need-mul-opens
+mul-opens c = search needs
+
+element-write-opens : tie.Need-element-write-opens
+element-write-opens c = search needs
+
+add-onward : tie.Need-add-onward
+add-onward c = search needs
+
+onward-requires : tie.Need-onward-requires
+onward-requires c κs = search needs
+
+same-length : tie.Need-same-length
+same-length c = search needs
+
+returns : tie.Need-returns
+returns c = (λ I st rp sane fo f b. concluded _ _ (c .onward .ensures) (numberOf st) _ _ I _ _ st _ (when-line _ _ (c .before .before .before .before .before .before .before .before .before .before .before .before .before .before .args .p) _ I _ _ _ st rp _ _ _ (subst (Compiles (readWhen peek-in skip-in) _ _ _ _ _ _) (c .before .before .before .before .before .before .at .given .1) (c .before .before .before .before .before .before .before .before .before .before .condition .ensures)) (omega arith) _ (ap (λ (x : ℕ). set (c .before .before .before .before .before .before .before .before .before .before .before .before .before .before .args .opens .now) (c .before .before .before .before .before .before .before .before .before .before .before .before .before .before .args .p .depth) x) (c .before .open-word .ensures)) _ (compiled-number _ _ _ _ _ (c .before .before .before .before .nested .ensures) (c .before .before .before .number-of .ensures)) f b), (omega (arith, ap (λ (r : Progress). r .place) (c .onward .ensures), compiled-bounded _ _ _ _ _ _ _ _ _ _ _ (c .before .before .before .before .before .before .before .before .before .before .condition .ensures) (c .before .before .before .before .before .before .at .given .1)), search needs))
+
+onward-requires-2 : tie.Need-onward-requires-2
+onward-requires-2 c κs = search needs
+
+enum-told : tie.Need-enum-told
+enum-told c = search needs
+
+onward-requires-3 : tie.Need-onward-requires-3
+onward-requires-3 c κs = search needs
+
+same-length-2 : tie.Need-same-length-2
+same-length-2 c = search needs
+
+returns-2 : tie.Need-returns-2
+returns-2 c = (λ I st rp sane fo f b. concluded _ _ (c .onward2 .ensures) (numberOf st) _ _ I _ _ st _ (when-deep _ _ (c .before .before .before .before .before .before .before .before .before .before .before .before .before .args .p) _ I _ _ _ st rp _ _ _ (subst (Compiles (readWhen peek-in skip-in) _ _ _ _ _ _) (c .before .before .before .before .before .at .given .1) (c .before .before .before .before .before .before .before .before .before .condition .ensures)) (omega arith) _ _ (compiled-number _ _ _ _ _ (c .before .before .before .nested .ensures) (c .before .before .number-of .ensures)) f b), (omega (arith, ap (λ (r : Progress). r .place) (c .onward2 .ensures), compiled-bounded _ _ _ _ _ _ _ _ _ _ _ (c .before .before .before .before .before .before .before .before .before .condition .ensures) (c .before .before .before .before .before .at .given .1)), search needs))
+
+same-length-3 : tie.Need-same-length-3
+same-length-3 c = search needs
+
+returns-3 : tie.Need-returns-3
+returns-3 c = (λ I st rp sane fo f b. concluded _ _ (c .onward3 .ensures) (numberOf st) _ _ I _ _ st _ (when-broken _ _ (c .before .before .before .before .before .before .before .before .before .args .p) _ I _ _ _ st rp (subst (Compiles (readWhen peek-in skip-in) _ _ _ _ _ _) (c .before .enum-told .given .1) (c .before .before .before .before .before .condition .ensures)) _ f b), (omega (arith, ap (λ (r : Progress). r .place) (c .onward3 .ensures)), search needs))
+
+pub if-line-spec : {M : Type 1} → statement M
+if-line-spec =
+    tie.close
+    (tie.spec
+    condition-requires
+    enum-known-at
+    nested-requires
+    number-of-requires
+    open-word-requires
+    mul-opens
+    element-write-opens
+    add-onward
+    onward-requires
+    same-length
+    returns
+    onward-requires-2
+    enum-told
+    onward-requires-3
+    same-length-2
+    returns-2
+    same-length-3
+    returns-3)
