@@ -1,2 +1,4 @@
 pub mod Statement
 pub mod Comparison
+pub mod Alike
+pub mod Assignment
