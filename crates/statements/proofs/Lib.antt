@@ -6,3 +6,4 @@ pub mod Comparisons
 pub mod Tokens
 pub mod Readings
 pub mod Assigned
+pub mod Assignments

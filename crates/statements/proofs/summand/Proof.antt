@@ -1,6 +1,6 @@
 -- `statements::summand` meets its contract: what is emitted lies after the place.
 use mathlib.Core.Path.{refl}
-use Prim.Native.Nat.{_*_, _≤_}
+use Prim.Native.Nat.{_-_, _*_, _≤_}
 use lib.ListN.{length}
 use native.Mathlib.Omega.{arith}
 use borrow.Author.Needs.{needs}
@@ -48,7 +48,7 @@ returns-2 : tie.Need-returns-2
 returns-2 c =
     let room : 2 * c .before .before .before .before .before .before .before .before .before .before .before .before .before .args .place ≤ length (c .before .before .before .before .before .before .before .before .before .before .before .before .before .args .code .now) = omega (arith, c .before .before .before .before .before .before .before .before .before .before .before .before .before .pre .0 .room) in
     let w = within-done _ _ _ _ _ _ _ _ (c .before .before .before .before .before .before .before .before .reference .ensures .within) (c .before .before .before .before .to .given .1) in
-    summands-unadded _ _ _ _ _ _ _ _ _ (take-put (2 * c .before .before .before .before .before .before .before .before .before .before .before .before .before .args .place) _ (c .before .before .before .before .before .before .before .before .before .before .before .before .before .args .code .now) _ room) _ _ _ _ (c .before .before .before .before .before .before .before .before .reference .ensures) _ _ _ (c .before .before .before .before .to .given .1) (c .before .pass .ensures) (w .1) (omega arith)
+    summands-unadded _ _ _ _ _ _ _ _ _ (take-put (2 * c .before .before .before .before .before .before .before .before .before .before .before .before .before .args .place) (length (c .before .before .before .before .before .before .before .before .before .before .before .before .before .args .code .now) - 2 * c .before .before .before .before .before .before .before .before .before .before .before .before .before .args .place) (c .before .before .before .before .before .before .before .before .before .before .before .before .before .args .code .now) (c .before .before .before .before .before .before .before .before .reference .last .1 .1 .1 .1 .1 .0) room) _ _ _ _ (c .before .before .before .before .before .before .before .before .reference .ensures) _ _ _ (c .before .before .before .before .to .given .1) (c .before .pass .ensures) (w .1) (omega arith)
 
 alike-requires : tie.Need-alike-requires
 alike-requires c κs =
@@ -62,7 +62,7 @@ returns-3 : tie.Need-returns-3
 returns-3 c =
     let room : 2 * c .before .before .before .before .before .before .before .before .before .before .before .before .before .before .before .args .place ≤ length (c .before .before .before .before .before .before .before .before .before .before .before .before .before .before .before .args .code .now) = omega (arith, c .before .before .before .before .before .before .before .before .before .before .before .before .before .before .before .pre .0 .room) in
     let w = within-done _ _ _ _ _ _ _ _ (c .before .before .before .before .before .before .before .before .before .before .reference .ensures .within) (c .before .before .before .before .before .before .to .given .1) in
-    summands-other _ _ _ _ _ _ _ _ _ (take-put (2 * c .before .before .before .before .before .before .before .before .before .before .before .before .before .before .before .args .place) _ (c .before .before .before .before .before .before .before .before .before .before .before .before .before .before .before .args .code .now) _ room) _ _ _ _ (c .before .before .before .before .before .before .before .before .before .before .reference .ensures) _ _ _ (c .before .before .before .before .before .before .to .given .1) (c .before .before .before .pass .ensures) (w .1) (c .before .alike .ensures) (not-true _ (c .if3 .taken))
+    summands-other _ _ _ _ _ _ _ _ _ (take-put (2 * c .before .before .before .before .before .before .before .before .before .before .before .before .before .before .before .args .place) (length (c .before .before .before .before .before .before .before .before .before .before .before .before .before .before .before .args .code .now) - 2 * c .before .before .before .before .before .before .before .before .before .before .before .before .before .before .before .args .place) (c .before .before .before .before .before .before .before .before .before .before .before .before .before .before .before .args .code .now) (c .before .before .before .before .before .before .before .before .before .before .reference .last .1 .1 .1 .1 .1 .0) room) _ _ _ _ (c .before .before .before .before .before .before .before .before .before .before .reference .ensures) _ _ _ (c .before .before .before .before .before .before .to .given .1) (c .before .before .before .pass .ensures) (w .1) (c .before .alike .ensures) (not-true _ (c .if3 .taken))
 
 enum-told : tie.Need-enum-told
 enum-told c = search needs
@@ -74,7 +74,7 @@ returns-4 : tie.Need-returns-4
 returns-4 c =
     let room : 2 * c .before .before .before .before .before .before .before .before .before .before .before .before .before .before .before .args .place ≤ length (c .before .before .before .before .before .before .before .before .before .before .before .before .before .before .before .args .code .now) = omega (arith, c .before .before .before .before .before .before .before .before .before .before .before .before .before .before .before .pre .0 .room) in
     let w = within-done _ _ _ _ _ _ _ _ (c .before .before .before .before .before .before .before .before .before .before .reference .ensures .within) (c .before .before .before .before .before .before .to .given .1) in
-    summands-found _ _ _ _ _ _ _ _ _ (take-put (2 * c .before .before .before .before .before .before .before .before .before .before .before .before .before .before .before .args .place) _ (c .before .before .before .before .before .before .before .before .before .before .before .before .before .before .before .args .code .now) _ room) _ _ _ _ (c .before .before .before .before .before .before .before .before .before .before .reference .ensures) _ _ _ (c .before .before .before .before .before .before .to .given .1) (c .before .before .before .pass .ensures) (w .1) (c .before .alike .ensures) (not-false _ (c .before .before .before .before .before .before .before .before .before .before .before .before .if1 .left)) (not-false _ (c .if3 .left)) (omega arith)
+    summands-found _ _ _ _ _ _ _ _ _ (take-put (2 * c .before .before .before .before .before .before .before .before .before .before .before .before .before .before .before .args .place) (length (c .before .before .before .before .before .before .before .before .before .before .before .before .before .before .before .args .code .now) - 2 * c .before .before .before .before .before .before .before .before .before .before .before .before .before .before .before .args .place) (c .before .before .before .before .before .before .before .before .before .before .before .before .before .before .before .args .code .now) (c .before .before .before .before .before .before .before .before .before .before .reference .last .1 .1 .1 .1 .1 .0) room) _ _ _ _ (c .before .before .before .before .before .before .before .before .before .before .reference .ensures) _ _ _ (c .before .before .before .before .before .before .to .given .1) (c .before .before .before .pass .ensures) (w .1) (c .before .alike .ensures) (not-false _ (c .before .before .before .before .before .before .before .before .before .before .before .before .if1 .left)) (not-false _ (c .if3 .left)) (omega arith)
 
 same-length-4 : tie.Need-same-length-4
 same-length-4 c = search needs
@@ -82,7 +82,7 @@ same-length-4 c = search needs
 returns-5 : tie.Need-returns-5
 returns-5 c =
     let room : 2 * c .before .before .before .before .before .before .before .before .before .args .place ≤ length (c .before .before .before .before .before .before .before .before .before .args .code .now) = omega (arith, c .before .before .before .before .before .before .before .before .before .pre .0 .room) in
-    summands-unread _ _ _ _ _ _ _ _ _ (take-put (2 * c .before .before .before .before .before .before .before .before .before .args .place) _ (c .before .before .before .before .before .before .before .before .before .args .code .now) _ room) _ _ _ _ (c .before .before .before .before .reference .ensures) (c .enum-told .given .1)
+    summands-unread _ _ _ _ _ _ _ _ _ (take-put (2 * c .before .before .before .before .before .before .before .before .before .args .place) (length (c .before .before .before .before .before .before .before .before .before .args .code .now) - 2 * c .before .before .before .before .before .before .before .before .before .args .place) (c .before .before .before .before .before .before .before .before .before .args .code .now) (c .before .before .before .before .reference .last .1 .1 .1 .1 .1 .0) room) _ _ _ _ (c .before .before .before .before .reference .ensures) (c .enum-told .given .1)
 
 pub summand-spec : {M : Type 1} → statement M
 summand-spec =
