@@ -23,6 +23,7 @@ use headings::integers;
 use lexer::Tok;
 use lexer::pass;
 use lexer::token;
+use statements::assignment;
 use statements::condition;
 
 // How far a text was read: 0 or the number of its first bad line; which of 1 to 7 stood last; how many cells, processors and iterations there are,
@@ -187,6 +188,25 @@ fn nested(rank: u32, depth: usize) -> u32
         return rank;
     }
     if rank < 1 { 1 } else { rank }
+}
+
+pub fn assign_line(
+    s: &[u8],
+    line: u32,
+    p: Progress,
+    table: &[u32; 613],
+    code: &mut [u32],
+) -> Progress
+    requires { ⌜ (length (now s) ≤ 2048) × (line ≤ 2049) × (2 * (p .place + 2 * length (now s)) ≤ length (now code)) ⌝ }
+    ensures { λ r. ⌜ ((I : List ℤ) (O : List ℕ) → Takes (readAssign peek-in skip-in) 5 (now (s .entry)) line p (now (table .entry)) I (now (code .entry)) O r (now (table .entry)) I (now (code .exit)) O) ⌝ }
+    ensures { λ r. ⌜ (r .place ≤ p .place + 2 * length (now (s .entry))) × (length (now (code .exit)) ≡ length (now (code .entry))) ⌝ }
+{
+    let depth = p.depth;
+    let before = p.place;
+    match assignment(s, line, table, code, before) {
+        Got::Done { at, place, rank } => onward(p, number_of(s, at, rank), 5, place, depth),
+        Got::Broken => onward(p, 2, 5, before, depth),
+    }
 }
 
 pub fn if_line(
