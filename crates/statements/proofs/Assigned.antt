@@ -1,7 +1,7 @@
 -- The parts of an assignment: what the name that it begins with is, the code of an update and of a store, and whether it is an update.
 use mathlib.Core.Path.{_≡_, refl, sym, _∙_, ap, subst}
 use mathlib.Core.Bool.{Bool, true, false, cond, _&&_}
-use mathlib.Core.List.{List, [], _∷_, _++_}
+use mathlib.Core.List.{List, [], _∷_}
 use Prim.Native.Nat.{ℕ, zero, suc, _+_, _-_, _*_, _≤_, _<_, max}
 use native.Mathlib.Omega.{arith}
 use borrow.Author.Tests.{le-leb}
@@ -16,7 +16,7 @@ use Rattle.syntax.specs.Conditions.{refName, mentions, inRef}
 use Rattle.syntax.specs.Reader.{Parsed, broken, done, next, kind, peek-in, skip-in, readExpr, readRef}
 use Rattle.syntax.proofs.Spelling.{Spells}
 use Rattle.syntax.proofs.Sound.{sounds}
-use Rattle.code.specs.Instr.{Instr, words}
+use Rattle.code.specs.Instr.{words}
 use Rattle.code.specs.Compile.{code, codeRef, stores, checks, updates}
 use Rattle.names.specs.declared.Named as names
 use Rattle.names.specs.Table.{variableOf, classOf, Tabled, Knows}
@@ -27,7 +27,7 @@ use Rattle.lexer.proofs.Said.{sees-said, sign-text}
 use Rattle.lexer.proofs.PlaceLaws.{pass-there, pass-not, pass-onward}
 use Rattle.expressions.specs.Answer.{worst, Reads, Within, Answers}
 use Rattle.expressions.specs.Readers.{readRemainder}
-use Rattle.expressions.specs.Parts.{kindAt, textAt, stands, spanOf, Room, Emits}
+use Rattle.expressions.specs.Parts.{stands, spanOf, Room, Emits}
 use Rattle.expressions.specs.declared.Got.{Got}
 use Rattle.expressions.specs.declared.Got.the-variants.{Broken, Done}
 use Rattle.expressions.proofs.Laws.{Since, since-none, since-rank, since-emit, reads-done, reads-next, emits-broken, done-emits, read-done, read-broken}
@@ -37,7 +37,7 @@ use Rattle.statements.specs.declared.Target.{Target}
 use Rattle.statements.specs.Statement.{Bounded}
 use Rattle.statements.specs.Alike.{Alike}
 use Rattle.statements.specs.Assignment.{operandOf, Named, Targets, Adds, Begun, Past, Summands, Back, testWords, Tests, codeUpdate, codeStore, Updates, Stores}
-use Rattle.statements.proofs.Readings.{indexed, Referred, ref-read}
+use Rattle.statements.proofs.Readings.{indexed, ref-read}
 
 -- ---- small parts
 

@@ -6,7 +6,7 @@ use mathlib.Core.Option.{Option, none, some}
 use Prim.Native.Nat.{ℕ, zero, suc, _+_, _-_, _*_, _≤_, _<_, max}
 use native.Mathlib.Omega.{arith}
 use lib.ListN.{length, take, drop, set, length-append}
-use lib.Seq.{sets, length-sets, take-take, take-set-le}
+use lib.Seq.{sets, take-take, take-set-le}
 use Rattle.syntax.specs.Bytes.{bytes, same}
 use Rattle.syntax.specs.Grammar.{Expr, Ref, showRef, assign, Line, inside}
 use Rattle.syntax.specs.Known.{Entry, find}

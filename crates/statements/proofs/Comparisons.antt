@@ -1,9 +1,9 @@
 -- Conditions: the relation between the two sides, and what the reader answers from what the readers that it calls in turn answer.
 use mathlib.Core.Path.{_≡_, refl, sym, _∙_, ap, subst}
-use mathlib.Core.Bool.{Bool, true, false, cond}
-use mathlib.Core.List.{List, [], _∷_, _++_, append-nil, append-assoc}
+use mathlib.Core.Bool.{Bool, true, cond}
+use mathlib.Core.List.{List, [], _∷_, append-nil, append-assoc}
 use mathlib.Core.Option.{Option, none, some}
-use Prim.Native.Nat.{ℕ, suc, _+_, _-_, _*_, _≤_, _<_, max}
+use Prim.Native.Nat.{ℕ, suc, _+_, _-_, _*_, _≤_, _<_}
 use native.Mathlib.Decide.{decLe}
 use native.Mathlib.Omega.{arith}
 use lib.ListN.{length, drop}
@@ -13,7 +13,7 @@ use Rattle.syntax.specs.Bytes.{bytes, same, sign}
 use Rattle.syntax.specs.Grammar.{Expr, when, Line, inside}
 use Rattle.syntax.specs.Known.{Entry}
 use Rattle.syntax.specs.Conditions.{mentions, inLine}
-use Rattle.syntax.specs.Reader.{Parsed, broken, done, next, kind, is, relOf, given, says, expects, wants, peek-in, skip-in, readExpr, readRel, readWhen}
+use Rattle.syntax.specs.Reader.{Parsed, broken, done, next, kind, is, relOf, given, expects, wants, peek-in, skip-in, readExpr, readRel, readWhen}
 use Rattle.syntax.proofs.Spelling.{is-true}
 use Rattle.code.specs.Instr.{Instr, jump-unless, relation-number, words}
 use Rattle.code.specs.Compile.{code}
@@ -24,12 +24,12 @@ use Rattle.lexer.specs.Places.{Goes, Any, passes}
 use Rattle.lexer.proofs.Said.{signed, sees-said, word-text}
 use Rattle.lexer.proofs.PlaceLaws.{goes-some, pass-there, pass-not}
 use Rattle.expressions.specs.Answer.{worst, Reads, Within, Answers}
-use Rattle.expressions.specs.Parts.{Passes, Sealed, Emits, Inside}
+use Rattle.expressions.specs.Parts.{Passes, Sealed, Emits}
 use Rattle.expressions.specs.declared.Got.{Got}
 use Rattle.expressions.specs.declared.Got.the-variants.{Broken, Done}
-use Rattle.expressions.proofs.Laws.{worst-append, Since, since-none, since-emit, reads-done, reads-next, reads-sealed, emits-broken, emits-none, done-emits, in-turn}
+use Rattle.expressions.proofs.Laws.{worst-append, since-none, since-emit, reads-done, reads-sealed, emits-broken, emits-none, done-emits, in-turn}
 use Rattle.expressions.proofs.Signs.{passes-token}
-use Rattle.expressions.proofs.Spans.{within-done, within-broken, within-from, within-then, within-emits, within-sealed}
+use Rattle.expressions.proofs.Spans.{within-broken, within-from, within-emits, within-sealed}
 use Rattle.statements.specs.declared.Compared.{Compared}
 use Rattle.statements.specs.Statement.{codeLine, assignedRank, rankLine, Writes, Bounded, Compiles}
 use Rattle.statements.specs.Comparison.{numberOf, Relates, Then, unread, other, ends, readCompared, codeCompared, inCompared}

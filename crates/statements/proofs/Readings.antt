@@ -1,20 +1,20 @@
 -- What the readers of an assignment read: a reference begins with a name; an expression that begins with a reference and + is that reference and the
 -- remainder after the +; and where an expression's summand is a reference, that is read first and + stands after it.
-use mathlib.Core.Path.{_≡_, refl, sym, _∙_, ap, subst}
+use mathlib.Core.Path.{_≡_, refl, sym, _∙_, ap}
 use mathlib.Core.Logic.{inl, inr}
 use mathlib.Core.Bool.{Bool, true, false, cond, _&&_, _||_, not}
 use mathlib.Core.List.{List, [], _∷_, _++_, append-nil}
-use mathlib.Core.Option.{Option, none, some}
+use mathlib.Core.Option.{none, some}
 use Prim.Native.Nat.{ℕ, zero, suc, max}
 use native.Mathlib.Omega.{arith}
 use borrow.Author.Tests.{eqb-true}
 use lib.Dec.{eqb}
 use Rattle.syntax.specs.Bytes.{choose, bytes, same, sign}
-use Rattle.syntax.specs.Grammar.{Lead, bare, plus, minus, Expr, expr, Terms, no-terms, terms, Term, term, Factors, no-factors, factors, Factor, literal, cell, rdiv, brackets, Ref, single, element}
+use Rattle.syntax.specs.Grammar.{Lead, bare, plus, minus, Expr, expr, Terms, terms, Term, term, Factors, no-factors, factors, Factor, literal, cell, rdiv, brackets, Ref, single, element}
 use Rattle.syntax.specs.Known.{Entry}
 use Rattle.syntax.specs.Meaning.{summand, added, unled, lone, remainder}
 use Rattle.syntax.specs.Conditions.{refName, mentions, inTerms, inTerm, inRef}
-use Rattle.syntax.specs.Reader.{Parsed, broken, done, next, kind, text, is, sees, says, expects, isDigits, readDigits, readName, readLead, readExpr, readTerms, readTerm, readFactors, readFactor, readRef, peek-in, skip-in}
+use Rattle.syntax.specs.Reader.{done, next, kind, text, is, sees, says, expects, isDigits, readDigits, readName, readLead, readExpr, readTerms, readTerm, readFactors, readFactor, readRef, peek-in, skip-in}
 use Rattle.syntax.proofs.Spelling.{not-done, same-done, bound, chosen, conded, is-true}
 use Rattle.expressions.specs.Answer.{worst}
 use Rattle.expressions.specs.Readers.{readRemainder}

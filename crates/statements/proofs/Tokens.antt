@@ -2,7 +2,7 @@
 use mathlib.Core.Path.{_≡_, refl, sym, _∙_, ap, subst}
 use mathlib.Core.Bool.{Bool, true, false, cond, _&&_, not}
 use mathlib.Core.List.{List, [], _∷_}
-use mathlib.Core.Option.{Option, none, some}
+use mathlib.Core.Option.{some}
 use Prim.Native.Nat.{ℕ, suc, _+_, _-_, _≤_, _<_}
 use native.Mathlib.Numerals.{add-one}
 use native.Mathlib.Omega.{arith}
@@ -17,8 +17,7 @@ use Rattle.syntax.proofs.Places.{size-one}
 use Rattle.syntax.proofs.Spelling.{Spells, here, token}
 use Rattle.lexer.specs.declared.Tok.{Tok}
 use Rattle.lexer.specs.Lex.{part, Lexed}
-use Rattle.lexer.proofs.Laws.{part-none}
-use Rattle.statements.specs.Alike.{Zeros, sameToken, Alike}
+use Rattle.statements.specs.Alike.{sameToken, Alike}
 
 -- ---- leading zeros
 

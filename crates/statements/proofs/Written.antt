@@ -1,7 +1,7 @@
 -- What is written: the words up to the place after a statement's code.
-use mathlib.Core.Path.{_≡_, refl, sym, _∙_, ap, subst}
+use mathlib.Core.Path.{_≡_, _∙_, ap, subst}
 use mathlib.Core.List.{List, _++_}
-use Prim.Native.Nat.{ℕ, _+_, _-_, _*_, _≤_, max}
+use Prim.Native.Nat.{ℕ, _+_, _-_, _*_, _≤_}
 use native.Mathlib.Omega.{arith}
 use lib.ListN.{length, take, drop, length-append}
 use lib.Seq.{sets, sets-eq, take-at, length-take-le}
@@ -11,7 +11,7 @@ use Rattle.syntax.specs.Reader.{Parsed, broken, done}
 use Rattle.code.specs.Instr.{words}
 use Rattle.expressions.specs.Answer.{Reads}
 use Rattle.expressions.specs.declared.Got.{Got}
-use Rattle.expressions.specs.declared.Got.the-variants.{Broken, Done}
+use Rattle.expressions.specs.declared.Got.the-variants.{Done}
 use Rattle.expressions.proofs.Laws.{words-length}
 use Rattle.statements.specs.Statement.{codeLine, rankLine, Writes, Bounded}
 

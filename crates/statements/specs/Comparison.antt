@@ -4,7 +4,7 @@ use mathlib.Core.Bool.{true, false}
 use mathlib.Core.List.{List, [], _∷_, _++_}
 use mathlib.Core.Option.{Option, none, some}
 use Prim.Native.Nat.{ℕ, _≤_}
-use lib.ListN.{length, drop}
+use lib.ListN.{drop}
 use Rattle.int32.specs.declared.Relation.{Relation}
 use Rattle.syntax.specs.Grammar.{Expr}
 use Rattle.syntax.specs.Known.{Entry}

@@ -10,7 +10,7 @@ ghost use Rattle.expressions.specs.Answer.{Answers, Ready};
 ghost use Rattle.expressions.specs.Parts.{Inside, spanOf};
 ghost use Rattle.statements.specs.Statement.{Compiles};
 ghost use Rattle.statements.specs.Alike.{Zeros, sameToken, Alike};
-ghost use Rattle.statements.specs.Assignment.{operandOf, Targets, Summands, Back, Tests, Updates, Stores};
+ghost use Rattle.statements.specs.Assignment.{Targets, Summands, Back, Tests, Updates, Stores};
 ghost use Rattle.statements.specs.Comparison.{Relates, Then, readCompared, codeCompared, inCompared};
 use expressions::Got;
 use expressions::emit;

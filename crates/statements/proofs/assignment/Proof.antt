@@ -1,8 +1,6 @@
 -- `statements::assignment` meets its contract.
 use mathlib.Core.Path.{refl, _∙_, subst}
-use Prim.Native.Nat.{_+_}
 use native.Mathlib.Omega.{arith}
-use lib.ListN.{length}
 use Rattle.syntax.specs.Bytes.{bytes}
 use borrow.Author.Needs.{needs}
 use Rattle.lexer.proofs.PlaceLaws.{pass-onward}

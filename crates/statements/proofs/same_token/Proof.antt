@@ -1,7 +1,5 @@
 -- `statements::same_token` meets its contract, by kinds.
 use mathlib.Core.Path.{refl, sym, _∙_}
-use mathlib.Core.Bool.{true, false}
-use lib.Dec.{eqb}
 use borrow.Author.Tests.{eq-eqb, ne-eqb}
 use Rattle.syntax.specs.Bytes.{same}
 use Rattle.lexer.specs.Lex.{part}

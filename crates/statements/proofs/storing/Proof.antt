@@ -1,5 +1,4 @@
 -- `statements::storing` meets its contract.
-use mathlib.Core.Path.{_∙_}
 use native.Mathlib.Omega.{arith}
 use borrow.Author.Needs.{needs}
 use Rattle.expressions.proofs.Spans.{within-done}

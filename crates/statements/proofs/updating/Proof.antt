@@ -1,7 +1,4 @@
 -- `statements::updating` meets its contract.
-use mathlib.Core.Path.{_∙_}
-use mathlib.Core.Bool.{Bool, true, false, cond}
-use Prim.Native.Nat.{_≤_}
 use native.Mathlib.Omega.{arith}
 use borrow.Author.Needs.{needs}
 use Rattle.statements.proofs.Assigned.{test-few, room-after, updates-answers}

@@ -1,0 +1,39 @@
+-- `reader::begins` meets its contract.
+use mathlib.Core.Path.{refl, _∙_}
+use Rattle.reader.proofs.WholeLines.{begins-at}
+use borrow.Author.Needs.{needs}
+use Rattle.reader.proofs.begins.Statement.{statement}
+use Rattle.reader.proofs.begins.Tie as tie
+use Rattle.reader.proofs.begins.Reads as reads
+use Rattle.reader.proofs.begins.Lts as lts
+use Rattle.lexer.proofs.run_end.Reads as run-end-reads
+use Rattle.lexer.proofs.starts.Reads as starts-reads
+
+run-end-requires : tie.Need-run-end-requires
+run-end-requires c κs = search needs
+
+sub-starts : tie.Need-sub-starts
+sub-starts c = search needs
+
+part-starts-start : tie.Need-part-starts-start
+part-starts-start c = search needs
+
+part-starts-end : tie.Need-part-starts-end
+part-starts-end c = search needs
+
+starts-requires : tie.Need-starts-requires
+starts-requires c κs = search needs
+
+returns : tie.Need-returns
+returns c = c .starts .ensures ∙ begins-at (c .before .before .before .before .before .args .w .now) (c .before .before .before .before .before .args .s .now) _ _ refl (c .before .before .run-end .ensures .0)
+
+pub begins-spec : {M : Type 1} → statement M
+begins-spec =
+    tie.close
+    (tie.spec
+    run-end-requires
+    sub-starts
+    part-starts-start
+    part-starts-end
+    starts-requires
+    returns)

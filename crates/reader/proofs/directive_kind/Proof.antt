@@ -1,0 +1,29 @@
+-- `reader::directive_kind` meets its contract.
+use mathlib.Core.Path.{refl, _∙_, sym}
+use Rattle.reader.proofs.Starts.{said, directive-closing, directive-opening}
+use borrow.Author.Needs.{needs}
+use Rattle.reader.proofs.directive_kind.Statement.{statement}
+use Rattle.reader.proofs.directive_kind.Tie as tie
+use Rattle.reader.proofs.directive_kind.Reads as reads
+use Rattle.reader.proofs.directive_kind.Lts as lts
+use Rattle.lexer.proofs.reads.Reads as reads-reads
+use Rattle.lexer.proofs.token.Reads as token-reads
+
+token-requires : tie.Need-token-requires
+token-requires c κs = search needs
+
+slice-aggregate-reads : tie.Need-slice-aggregate-reads
+slice-aggregate-reads c = search needs
+
+reads-requires : tie.Need-reads-requires
+reads-requires c κs = search needs
+
+returns : tie.Need-returns
+returns c = λ e. directive-closing _ _ e (said (c .before .before .before .before .before .args .s .now) (c .before .before .before .before .before .args .at) _ (c .before .before .before .token .ensures) "end" _ (c .before .reads .ensures) refl ∙ c .if1 .taken)
+
+returns-2 : tie.Need-returns-2
+returns-2 c = λ e. directive-opening _ _ e (said (c .before .before .before .before .before .args .s .now) (c .before .before .before .before .before .args .at) _ (c .before .before .before .token .ensures) "end" _ (c .before .reads .ensures) refl ∙ c .if1 .left)
+
+pub directive-kind-spec : {M : Type 1} → statement M
+directive-kind-spec =
+    tie.close (tie.spec token-requires slice-aggregate-reads reads-requires returns returns-2)

@@ -1,0 +1,47 @@
+-- `reader::end_kind` meets its contract.
+use mathlib.Core.Path.{refl, _∙_, sym}
+use Rattle.reader.proofs.Starts.{said, end-of-if, end-of-do, end-of-none}
+use borrow.Author.Needs.{needs}
+use Rattle.reader.proofs.end_kind.Statement.{statement}
+use Rattle.reader.proofs.end_kind.Tie as tie
+use Rattle.reader.proofs.end_kind.Reads as reads
+use Rattle.reader.proofs.end_kind.Lts as lts
+use Rattle.lexer.proofs.reads.Reads as reads-reads
+use Rattle.lexer.proofs.token.Reads as token-reads
+
+token-requires : tie.Need-token-requires
+token-requires c κs = search needs
+
+slice-aggregate-reads : tie.Need-slice-aggregate-reads
+slice-aggregate-reads c = search needs
+
+reads-requires : tie.Need-reads-requires
+reads-requires c κs = search needs
+
+returns : tie.Need-returns
+returns c = λ e. end-of-if _ _ _ e (c .before .before .before .token .ensures .next) (c .before .before .before .token .ensures .within) (said (c .before .before .before .before .before .args .s .now) (c .before .before .before .before .before .args .at) _ (c .before .before .before .token .ensures) "if" _ (c .before .reads .ensures) refl ∙ c .if1 .taken)
+
+slice-aggregate-reads-2 : tie.Need-slice-aggregate-reads-2
+slice-aggregate-reads-2 c = search needs
+
+reads-requires-2 : tie.Need-reads-requires-2
+reads-requires-2 c κs = search needs
+
+returns-2 : tie.Need-returns-2
+returns-2 c = λ e. end-of-do _ _ _ e (c .before .before .before .before .before .before .token .ensures .next) (c .before .before .before .before .before .before .token .ensures .within) (said (c .before .before .before .before .before .before .before .before .args .s .now) (c .before .before .before .before .before .before .before .before .args .at) _ (c .before .before .before .before .before .before .token .ensures) "if" _ (c .before .before .before .before .reads .ensures) refl ∙ c .before .before .before .if1 .left) (said (c .before .before .before .before .before .before .before .before .args .s .now) (c .before .before .before .before .before .before .before .before .args .at) _ (c .before .before .before .before .before .before .token .ensures) "do" _ (c .before .reads2 .ensures) refl ∙ c .if2 .taken)
+
+returns-3 : tie.Need-returns-3
+returns-3 c = λ e. end-of-none _ _ e (said (c .before .before .before .before .before .before .before .before .args .s .now) (c .before .before .before .before .before .before .before .before .args .at) _ (c .before .before .before .before .before .before .token .ensures) "if" _ (c .before .before .before .before .reads .ensures) refl ∙ c .before .before .before .if1 .left) (said (c .before .before .before .before .before .before .before .before .args .s .now) (c .before .before .before .before .before .before .before .before .args .at) _ (c .before .before .before .before .before .before .token .ensures) "do" _ (c .before .reads2 .ensures) refl ∙ c .if2 .left)
+
+pub end-kind-spec : {M : Type 1} → statement M
+end-kind-spec =
+    tie.close
+    (tie.spec
+    token-requires
+    slice-aggregate-reads
+    reads-requires
+    returns
+    slice-aggregate-reads-2
+    reads-requires-2
+    returns-2
+    returns-3)

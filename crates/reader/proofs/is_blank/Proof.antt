@@ -1,0 +1,17 @@
+-- `reader::is_blank` meets its contract.
+use Rattle.reader.proofs.WholeLines.{blank-is}
+use borrow.Author.Needs.{needs}
+use Rattle.reader.proofs.is_blank.Statement.{statement}
+use Rattle.reader.proofs.is_blank.Tie as tie
+use Rattle.reader.proofs.is_blank.Reads as reads
+use Rattle.reader.proofs.is_blank.Lts as lts
+use Rattle.lexer.proofs.run_end.Reads as run-end-reads
+
+run-end-requires : tie.Need-run-end-requires
+run-end-requires c κs = search needs
+
+returns : tie.Need-returns
+returns c = blank-is _ _ (c .run-end .ensures .0)
+
+pub is-blank-spec : {M : Type 1} → statement M
+is-blank-spec = tie.close (tie.spec run-end-requires returns)

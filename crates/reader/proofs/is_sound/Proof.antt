@@ -1,0 +1,48 @@
+-- `reader::is_sound` meets its contract.
+use mathlib.Core.Path.{refl, sym, _∙_}
+use mathlib.Core.Bool.{true, false}
+use Rattle.reader.proofs.WholeLines.{sound-by}
+use borrow.Author.Needs.{needs}
+use Rattle.reader.proofs.is_sound.Statement.{statement}
+use Rattle.reader.proofs.is_sound.Tie as tie
+use Rattle.reader.proofs.is_sound.Reads as reads
+use Rattle.reader.proofs.is_sound.Lts as lts
+use Rattle.reader.proofs.begins.Reads as begins-reads
+use Rattle.reader.proofs.is_printable.Reads as is-printable-reads
+
+is-printable-requires : tie.Need-is-printable-requires
+is-printable-requires c κs = search needs
+
+slice-aggregate-begins : tie.Need-slice-aggregate-begins
+slice-aggregate-begins c = search needs
+
+begins-requires : tie.Need-begins-requires
+begins-requires c κs = search needs
+
+slice-aggregate-begins-2 : tie.Need-slice-aggregate-begins-2
+slice-aggregate-begins-2 c = search needs
+
+begins-requires-2 : tie.Need-begins-requires-2
+begins-requires-2 c κs = search needs
+
+returns : tie.Need-returns
+returns c = sym (sound-by _ true true _ (sym (c .before .before .before .before .before .before .is-printable .ensures) ∙ c .before .before .before .before .before .if1 .taken) (sym (c .before .before .before .begins .ensures) ∙ c .before .before .if2 .taken) (sym (c .begins2 .ensures)))
+
+returns-2 : tie.Need-returns-2
+returns-2 c = sym (sound-by _ true false _ (sym (c .before .before .before .before .is-printable .ensures) ∙ c .before .before .before .if1 .taken) (sym (c .before .begins .ensures) ∙ c .if2 .left) refl)
+
+returns-3 : tie.Need-returns-3
+returns-3 c = sym (sound-by (c .before .before .before .args .s .now) false _ _ (sym (c .before .is-printable .ensures) ∙ c .if1 .left) refl refl)
+
+pub is-sound-spec : {M : Type 1} → statement M
+is-sound-spec =
+    tie.close
+    (tie.spec
+    is-printable-requires
+    slice-aggregate-begins
+    begins-requires
+    slice-aggregate-begins-2
+    begins-requires-2
+    returns
+    returns-2
+    returns-3)

@@ -1,0 +1,66 @@
+-- `reader::judge_line` meets its contract.
+use mathlib.Core.Path.{_≡_, refl, sym, _∙_, ap}
+use native.Mathlib.Omega.{arith}
+use Rattle.reader.proofs.Judging.{bad-bytes, skipped-early, skipped-good, ends-late, ends-open}
+use borrow.Author.Needs.{needs}
+use Rattle.reader.proofs.judge_line.Statement.{statement}
+use Rattle.reader.proofs.judge_line.Tie as tie
+use Rattle.reader.proofs.judge_line.Reads as reads
+use Rattle.reader.proofs.judge_line.Lts as lts
+use Rattle.reader.proofs.broken_line.Reads as broken-line-reads
+use Rattle.reader.proofs.is_skipped.Reads as is-skipped-reads
+use Rattle.reader.proofs.is_sound.Reads as is-sound-reads
+use Rattle.reader.proofs.spoken_line.Reads as spoken-line-reads
+
+is-sound-requires : tie.Need-is-sound-requires
+is-sound-requires c κs = search needs
+
+is-skipped-requires : tie.Need-is-skipped-requires
+is-skipped-requires c κs = search needs
+
+broken-line-requires : tie.Need-broken-line-requires
+broken-line-requires c κs = search needs
+
+returns : tie.Need-returns
+returns c = (λ st rp sane. skipped-early _ _ _ _ _ _ _ st _ (sym (sym (c .before .before .before .before .before .before .before .is-sound .ensures) ∙ c .before .before .before .before .before .before .if1 .taken)) (sym (sym (c .before .before .before .before .before .is-skipped .ensures) ∙ c .before .before .before .before .if2 .taken)) (c .before .before .before .if3 .taken) (omega (arith, c .before .if4 .taken, rp .stage)) (c .broken-line .ensures), (c .before .before .before .before .before .before .before .before .before .before .pre .initial, refl))
+
+returns-2 : tie.Need-returns-2
+returns-2 c = (λ st rp sane. skipped-good _ _ _ _ _ _ _ st _ (sym (sym (c .before .before .before .before .before .before .is-sound .ensures) ∙ c .before .before .before .before .before .if1 .taken)) (sym (sym (c .before .before .before .before .is-skipped .ensures) ∙ c .before .before .before .if2 .taken)) (ends-late (c .before .before .before .before .before .before .before .before .before .args .last) _ (st .stage) (rp .stage) (c .if4 .left)) (c .before .before .before .before .before .before .before .before .before .pre .fine) rp, (c .before .before .before .before .before .before .before .before .before .pre .initial, refl))
+
+returns-3 : tie.Need-returns-3
+returns-3 c = (λ st rp sane. skipped-good _ _ _ _ _ _ _ st _ (sym (sym (c .before .before .before .before .is-sound .ensures) ∙ c .before .before .before .if1 .taken)) (sym (sym (c .before .before .is-skipped .ensures) ∙ c .before .if2 .taken)) (ends-open (c .before .before .before .before .before .before .before .args .last) (st .stage) (c .if3 .left)) (c .before .before .before .before .before .before .before .pre .fine) rp, (c .before .before .before .before .before .before .before .pre .initial, refl))
+
+spoken-line-requires : tie.Need-spoken-line-requires
+spoken-line-requires c κs = search needs
+
+same-length : tie.Need-same-length
+same-length c = search needs
+
+same-length-2 : tie.Need-same-length-2
+same-length-2 c = search needs
+
+returns-4 : tie.Need-returns-4
+returns-4 c = (λ st rp sane. c .before .before .before .spoken-line .ensures .0 (sym (sym (c .before .before .before .before .before .before .before .before .before .before .before .is-sound .ensures) ∙ c .before .before .before .before .before .before .before .before .before .before .if1 .taken)) (sym (sym (c .before .before .before .before .before .before .before .before .before .is-skipped .ensures) ∙ c .before .before .before .before .before .before .before .before .if2 .left)) st rp sane, c .before .before .before .spoken-line .ensures .1)
+
+broken-line-requires-2 : tie.Need-broken-line-requires-2
+broken-line-requires-2 c κs = search needs
+
+returns-5 : tie.Need-returns-5
+returns-5 c = (λ st rp sane. bad-bytes _ _ _ _ _ _ _ st _ (sym (sym (c .before .before .is-sound .ensures) ∙ c .before .if1 .left)) (c .broken-line2 .ensures), (c .before .before .before .before .before .pre .initial, refl))
+
+pub judge-line-spec : {M : Type 1} → statement M
+judge-line-spec =
+    tie.close
+    (tie.spec
+    is-sound-requires
+    is-skipped-requires
+    broken-line-requires
+    returns
+    returns-2
+    returns-3
+    spoken-line-requires
+    same-length
+    same-length-2
+    returns-4
+    broken-line-requires-2
+    returns-5)

@@ -1,0 +1,177 @@
+-- `reader::line_by` meets its contract.
+use mathlib.Core.Path.{refl}
+use native.Mathlib.Omega.{arith}
+use Rattle.reader.proofs.Dispatch.{inside-else, inside-end-if, inside-end-do, underway, by-broken, by-integer, by-data, by-opening, by-loop, by-assignment, by-if, by-else, by-end-if, by-end-do, by-closing}
+use borrow.Author.Needs.{needs}
+use Rattle.reader.proofs.line_by.Statement.{statement}
+use Rattle.reader.proofs.line_by.Tie as tie
+use Rattle.reader.proofs.line_by.Reads as reads
+use Rattle.reader.proofs.line_by.Lts as lts
+use Rattle.lines.proofs.assign_line.Reads as assign-line-reads
+use Rattle.lines.proofs.close_line.Reads as close-line-reads
+use Rattle.lines.proofs.data_line.Reads as data-line-reads
+use Rattle.lines.proofs.directive_line.Reads as directive-line-reads
+use Rattle.lines.proofs.else_line.Reads as else-line-reads
+use Rattle.lines.proofs.end_do_line.Reads as end-do-line-reads
+use Rattle.lines.proofs.end_if_line.Reads as end-if-line-reads
+use Rattle.lines.proofs.if_line.Reads as if-line-reads
+use Rattle.lines.proofs.integer_line.Reads as integer-line-reads
+use Rattle.lines.proofs.loop_line.Reads as loop-line-reads
+use Rattle.reader.proofs.broken_line.Reads as broken-line-reads
+
+enum-told : tie.Need-enum-told
+enum-told c = search needs
+
+broken-line-requires : tie.Need-broken-line-requires
+broken-line-requires c κs = search needs
+
+enum-told-2 : tie.Need-enum-told-2
+enum-told-2 c = search needs
+
+integer-line-requires : tie.Need-integer-line-requires
+integer-line-requires c κs = search needs
+
+enum-told-3 : tie.Need-enum-told-3
+enum-told-3 c = search needs
+
+data-line-requires : tie.Need-data-line-requires
+data-line-requires c κs = search needs
+
+enum-told-4 : tie.Need-enum-told-4
+enum-told-4 c = search needs
+
+directive-line-requires : tie.Need-directive-line-requires
+directive-line-requires c κs = search needs
+
+enum-told-5 : tie.Need-enum-told-5
+enum-told-5 c = search needs
+
+loop-line-requires : tie.Need-loop-line-requires
+loop-line-requires c κs = search needs
+
+enum-told-6 : tie.Need-enum-told-6
+enum-told-6 c = search needs
+
+assign-line-requires : tie.Need-assign-line-requires
+assign-line-requires c κs = search needs
+
+enum-told-7 : tie.Need-enum-told-7
+enum-told-7 c = search needs
+
+if-line-requires : tie.Need-if-line-requires
+if-line-requires c κs = search needs
+
+enum-known-k : tie.Need-enum-known-k
+enum-known-k c = search needs
+
+else-line-requires : tie.Need-else-line-requires
+else-line-requires c κs = (inside-else _ _ _ (c .before .before .before .before .before .before .before .pre .1) (c .before .before .before .k .given .1), omega (arith, c .before .before .before .before .before .before .before .pre .0 .place), omega (arith, c .before .before .before .before .before .before .before .pre .0 .room), underway _ _ _ _ _ _ _ (c .before .before .before .before .before .before .before .pre .0))
+
+enum-known-k-2 : tie.Need-enum-known-k-2
+enum-known-k-2 c = search needs
+
+end-if-line-requires : tie.Need-end-if-line-requires
+end-if-line-requires c κs = (inside-end-if _ _ _ _ (c .before .before .before .before .before .before .before .pre .1) (c .before .before .before .k2 .given .1), omega (arith, c .before .before .before .before .before .before .before .pre .0 .place), omega (arith, c .before .before .before .before .before .before .before .pre .0 .room), underway _ _ _ _ _ _ _ (c .before .before .before .before .before .before .before .pre .0))
+
+enum-known-k-3 : tie.Need-enum-known-k-3
+enum-known-k-3 c = search needs
+
+end-do-line-requires : tie.Need-end-do-line-requires
+end-do-line-requires c κs = inside-end-do _ _ _ _ (c .before .before .before .before .before .pre .1) (c .before .k3 .given .1)
+
+enum-told-8 : tie.Need-enum-told-8
+enum-told-8 c = search needs
+
+close-line-requires : tie.Need-close-line-requires
+close-line-requires c κs = search needs
+
+returns : tie.Need-returns
+returns c = (by-broken _ _ _ _ _ _ _ _ _ _ _ _ _ (c .before .enum-told .given .1) (c .broken-line .ensures), (c .before .before .before .before .before .pre .0 .initial, refl))
+
+returns-2 : tie.Need-returns-2
+returns-2 c = (by-integer _ _ _ _ _ _ _ _ _ _ _ _ _ (c .before .before .enum-told2 .given .1) (c .integer-line .ensures .0 _ _ _ _), (c .before .before .before .before .before .before .pre .0 .initial, refl))
+
+same-length : tie.Need-same-length
+same-length c = search needs
+
+returns-3 : tie.Need-returns-3
+returns-3 c = (by-data _ _ _ _ _ _ _ _ _ _ _ _ _ (c .before .before .before .before .enum-told3 .given .1) (c .before .data-line .ensures .0 _ _ _), (c .before .data-line .ensures .1 .1, refl))
+
+returns-4 : tie.Need-returns-4
+returns-4 c = (by-opening _ _ _ _ _ _ _ _ _ _ _ _ _ (c .before .before .enum-told4 .given .1) (c .directive-line .ensures .0 _ _ _ _), (c .before .before .before .before .before .before .pre .0 .initial, refl))
+
+returns-5 : tie.Need-returns-5
+returns-5 c = (by-loop _ _ _ _ _ _ _ _ _ _ _ _ _ (c .before .before .enum-told5 .given .1) (c .loop-line .ensures _ _ _ _), (c .before .before .before .before .before .before .pre .0 .initial, refl))
+
+same-length-2 : tie.Need-same-length-2
+same-length-2 c = search needs
+
+returns-6 : tie.Need-returns-6
+returns-6 c = (by-assignment _ _ _ _ _ _ _ _ _ _ _ _ _ (c .before .before .before .before .before .enum-told6 .given .1) (c .before .before .assign-line .ensures .0 _ _), (c .before .before .before .before .before .before .before .before .before .pre .0 .initial, c .before .before .assign-line .ensures .1 .1))
+
+same-length-3 : tie.Need-same-length-3
+same-length-3 c = search needs
+
+returns-7 : tie.Need-returns-7
+returns-7 c = (by-if _ _ _ _ _ _ _ _ _ _ _ _ _ (c .before .before .before .before .before .before .enum-told7 .given .1) (c .before .before .if-line .ensures .0 _), (c .before .before .before .before .before .before .before .before .before .before .pre .0 .initial, c .before .before .if-line .ensures .1 .1))
+
+same-length-4 : tie.Need-same-length-4
+same-length-4 c = search needs
+
+returns-8 : tie.Need-returns-8
+returns-8 c = (by-else _ _ _ _ _ _ _ _ _ _ _ _ _ _ (c .before .before .before .before .before .before .k .given .1) (c .before .before .else-line .ensures .0 _ _ _), (c .before .before .before .before .before .before .before .before .before .before .pre .0 .initial, c .before .before .else-line .ensures .1 .1))
+
+same-length-5 : tie.Need-same-length-5
+same-length-5 c = search needs
+
+returns-9 : tie.Need-returns-9
+returns-9 c = (by-end-if _ _ _ _ _ _ _ _ _ _ _ _ _ _ _ (c .before .before .before .before .before .before .k2 .given .1) (c .before .before .end-if-line .ensures .0 _ _ _ _), (c .before .before .before .before .before .before .before .before .before .before .pre .0 .initial, c .before .before .end-if-line .ensures .1 .1))
+
+returns-10 : tie.Need-returns-10
+returns-10 c = (by-end-do _ _ _ _ _ _ _ _ _ _ _ _ _ _ _ (c .before .before .k3 .given .1) (c .end-do-line .ensures .0 _ _ _ _ _ _), (c .before .before .before .before .before .before .pre .0 .initial, refl))
+
+returns-11 : tie.Need-returns-11
+returns-11 c = (by-closing _ _ _ _ _ _ _ _ _ _ _ _ _ (c .before .enum-told8 .given .1) (c .close-line .ensures .0 _ _ _ _ _), (c .before .before .before .before .before .pre .0 .initial, refl))
+
+pub line-by-spec : {M : Type 1} → statement M
+line-by-spec =
+    tie.close
+    (tie.spec
+    enum-told
+    broken-line-requires
+    enum-told-2
+    integer-line-requires
+    enum-told-3
+    data-line-requires
+    enum-told-4
+    directive-line-requires
+    enum-told-5
+    loop-line-requires
+    enum-told-6
+    assign-line-requires
+    enum-told-7
+    if-line-requires
+    enum-known-k
+    else-line-requires
+    enum-known-k-2
+    end-if-line-requires
+    enum-known-k-3
+    end-do-line-requires
+    enum-told-8
+    close-line-requires
+    returns
+    returns-2
+    same-length
+    returns-3
+    returns-4
+    returns-5
+    same-length-2
+    returns-6
+    same-length-3
+    returns-7
+    same-length-4
+    returns-8
+    same-length-5
+    returns-9
+    returns-10
+    returns-11)

@@ -1,0 +1,33 @@
+-- What the functions on lines and on whole texts yield, by the first bad line of `Rattle.syntax.specs.Text`.
+use mathlib.Core.Path.{_≡_}
+use mathlib.Core.Bool.{Bool}
+use mathlib.Core.List.{List}
+use Prim.Native.Nat.{ℕ, _+_, _*_, _≤_, _<_}
+use lib.ListN.{length}
+use lib.IntN.{ℤ}
+use Rattle.syntax.specs.Known.{State}
+use Rattle.syntax.specs.Text.{Verdict, refused, good, judge-line}
+use Rattle.syntax.proofs.Sane.{Sane}
+use Rattle.lines.specs.declared.Progress.{Progress}
+use Rattle.lines.specs.Progress.{Represents}
+
+-- the verdict on line k, where r is how far the text was read: its number, or what is known after it
+unfoldable pub Judged : ℕ → Verdict → Progress → List ℕ → List ℤ → List ℕ → List ℕ → Type 0
+Judged k (refused n j) r T I C O = (r .number ≡ n) × (j ≡ k) × (0 < n)
+Judged k (good s) r T I C O = (r .number ≡ 0) × Represents r T I C O s
+
+-- What is lent to the functions on a line: a text was read so far, and there is room for the code of the line
+pub record Lent (s : List ℕ) (line : ℕ) (p : Progress) (T : List ℕ) (I : List ℤ) (C O : List ℕ) : Type 0 where
+  pub short : length s ≤ 2048
+  pub low : line ≤ 2049
+  pub fine : p .number ≡ 0
+  pub stage : p .stage ≤ 7
+  pub place : p .place ≤ 2048
+  pub room : 2 * (p .place + 2 * length s + 1) ≤ length C
+  pub initial : length I ≡ 4096
+  pub held : (st : State) × Represents p T I C O st × Sane st
+
+-- line k of a text, the last or not
+abbrev pub JudgesLine : List ℕ → Bool → ℕ → Progress → List ℕ → List ℤ → List ℕ → List ℕ → Progress → List ℕ → List ℤ → List ℕ → List ℕ → Type 0
+JudgesLine s last k p T I C O r T′ I′ C′ O′ =
+    (st : State) → Represents p T I C O st → Sane st → Judged k (judge-line k last st s) r T′ I′ C′ O′
