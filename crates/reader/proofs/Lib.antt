@@ -4,3 +4,6 @@ pub mod Parses
 pub mod Order
 pub mod Dispatch
 pub mod Judging
+pub mod TextLines
+pub mod Reaching
+pub mod Whole

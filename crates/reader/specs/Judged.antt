@@ -3,13 +3,14 @@ use mathlib.Core.Path.{_≡_}
 use mathlib.Core.Bool.{Bool}
 use mathlib.Core.List.{List}
 use Prim.Native.Nat.{ℕ, _+_, _*_, _≤_, _<_}
-use lib.ListN.{length}
-use lib.IntN.{ℤ}
+use lib.ListN.{length, replicate}
+use lib.IntN.{ℤ, pos}
 use Rattle.syntax.specs.Known.{State}
 use Rattle.syntax.specs.Text.{Verdict, refused, good, judge-line}
 use Rattle.syntax.proofs.Sane.{Sane}
 use Rattle.lines.specs.declared.Progress.{Progress}
 use Rattle.lines.specs.Progress.{Represents}
+use Rattle.reader.specs.declared.Reading.{Reading}
 
 -- the verdict on line k, where r is how far the text was read: its number, or what is known after it
 unfoldable pub Judged : ℕ → Verdict → Progress → List ℕ → List ℤ → List ℕ → List ℕ → Type 0
@@ -31,3 +32,16 @@ pub record Lent (s : List ℕ) (line : ℕ) (p : Progress) (T : List ℕ) (I : L
 abbrev pub JudgesLine : List ℕ → Bool → ℕ → Progress → List ℕ → List ℤ → List ℕ → List ℕ → Progress → List ℕ → List ℤ → List ℕ → List ℕ → Type 0
 JudgesLine s last k p T I C O r T′ I′ C′ O′ =
     (st : State) → Represents p T I C O st → Sane st → Judged k (judge-line k last st s) r T′ I′ C′ O′
+
+-- ---- whole texts
+
+-- the number and the line of the first bad one, or what is known of the text
+unfoldable pub Reads : Verdict → Reading → List ℕ → List ℤ → List ℕ → Type 0
+Reads (refused n k) r T I C = (r .progress .number ≡ n) × (r .line ≡ k) × (0 < n)
+Reads (good s) r T I C = (r .progress .number ≡ 0) × ((O : List ℕ) × Represents (r .progress) T I C O s)
+
+-- what is lent before the first line is all zero, and there is room for the code
+pub record Fresh (T : List ℕ) (I : List ℤ) (C : List ℕ) : Type 0 where
+  pub table : T ≡ replicate 613 0
+  pub initial : I ≡ replicate 4096 (pos 0)
+  pub code : length C ≡ 8194

@@ -4,13 +4,18 @@ ghost use mathlib.Core.Bool.{true, false};
 ghost use Prim.Native.Nat.{_≤_, _<_, _+_, _*_};
 ghost use lib.Dec.{leb, eqb};
 ghost use lib.ListN.{length, drop};
-ghost use Rattle.syntax.specs.Bytes.{all, printable, bytes, starts as startsWith, trimmed, directive-line, skipped-line, sound-line};
+ghost use lib.IntN.{pos};
+ghost use Rattle.syntax.specs.Bytes.{all, printable, bytes, starts as startsWith, trimmed, lines, skipped-line, sound-line};
 ghost use Rattle.syntax.specs.Conditions.{several, may-miss, follows, finished};
 ghost use Rattle.syntax.specs.Reader.{readDirective, readEnd, readStart, peek-in, skip-in};
 ghost use Rattle.lines.specs.Lines.{Takes};
 ghost use Rattle.reader.specs.Kinds.{readBy, stageBy, Inside, Kinds};
-ghost use Rattle.reader.specs.Judged.{Lent, JudgesLine};
+ghost use Rattle.syntax.specs.Known.{nothing};
+ghost use Rattle.syntax.specs.Text.{judge, read as readText};
+ghost use Rattle.reader.specs.Judged.{Lent, JudgesLine, Reads, Fresh};
 use lexer::Tok;
+use lexer::line_end;
+use lexer::lowered;
 use lexer::reads;
 use lexer::run_end;
 use lexer::starts;
@@ -345,4 +350,87 @@ fn judge_line(
         return spoken_line(s, last, line, p, table, initial, code, opens);
     }
     broken_line(p)
+}
+
+// ---- whole texts
+
+// How far a text was read, and the line that was read last.
+pub struct Reading {
+    pub line: u32,
+    pub progress: Progress,
+}
+
+// No line was read.
+fn start() -> Progress
+    ensures { λ r. ⌜ r ≡ record { number = 0; stage = 0; cells = 0; processors = 0; from = pos 0; count = 0; place = 0; depth = 0 } ⌝ }
+{
+    Progress {
+        number: 0,
+        stage: 0,
+        cells: 0,
+        processors: 0,
+        from: 0,
+        count: 0,
+        place: 0,
+        depth: 0,
+    }
+}
+
+// The lines of a text in lower case, up to the first bad one.
+fn read_lines(s: &[u8], table: &mut [u32; 613], initial: &mut [i32], code: &mut [u32]) -> Reading
+    requires { ⌜ (length (now s) ≤ 2048) × Fresh (now table) (now initial) (now code) ⌝ }
+    ensures { λ r. ⌜ Reads (judge 1 nothing (lines (now (s .entry)))) r (now (table .exit)) (now (initial .exit)) (now (code .exit)) ⌝ }
+{
+    let n = s.len();
+    let mut opens = [0; 8];
+    let mut at = 0;
+    let mut line = 1;
+    let mut p = start();
+    while at <= n {
+        let e = line_end(s, at);
+        let last = n <= e + 1;
+        p = judge_line(&s[at..e], last, line, p, table, initial, code, &mut opens);
+        if p.number != 0 {
+            return Reading { line, progress: p };
+        }
+        if last {
+            return Reading { line, progress: p };
+        }
+        at = e + 1;
+        line += 1;
+    }
+    Reading { line, progress: p }
+}
+
+// A text over 2,048 bytes.
+fn too_long() -> Reading
+    ensures { λ r. ⌜ (r .progress .number ≡ 1) × (r .line ≡ 0) ⌝ }
+{
+    Reading {
+        line: 0,
+        progress: Progress {
+            number: 1,
+            stage: 0,
+            cells: 0,
+            processors: 0,
+            from: 0,
+            count: 0,
+            place: 0,
+            depth: 0,
+        },
+    }
+}
+
+// A whole text: the number and the line of the first bad one, or what is known of it, with its names, the cells from its data and its code.
+pub fn read(text: &[u8], table: &mut [u32; 613], initial: &mut [i32], code: &mut [u32]) -> Reading
+    requires { ⌜ Fresh (now table) (now initial) (now code) ⌝ }
+    ensures { λ r. ⌜ Reads (readText (now (text .entry))) r (now (table .exit)) (now (initial .exit)) (now (code .exit)) ⌝ }
+{
+    let n = text.len();
+    if 2048 < n {
+        return too_long();
+    }
+    let mut low = [0; 2048];
+    lowered(text, &mut low);
+    read_lines(&low[0..n], table, initial, code)
 }

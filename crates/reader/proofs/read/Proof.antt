@@ -1,0 +1,62 @@
+-- `reader::read` meets its contract.
+use mathlib.Core.Path.{refl, sym, _∙_, ap}
+use native.Mathlib.Omega.{arith}
+use lib.ListN.{replicate}
+use Rattle.reader.proofs.Whole.{over-long, in-lower, lowered-at}
+use borrow.Author.Needs.{needs}
+use Rattle.reader.proofs.read.Statement.{statement}
+use Rattle.reader.proofs.read.Tie as tie
+use Rattle.reader.proofs.read.Reads as reads
+use Rattle.reader.proofs.read.Lts as lts
+use Rattle.lexer.proofs.lowered.Reads as lowered-reads
+use Rattle.reader.proofs.read_lines.Reads as read-lines-reads
+use Rattle.reader.proofs.too_long.Reads as too-long-reads
+
+too-long-requires : tie.Need-too-long-requires
+too-long-requires c κs = search needs
+
+returns : tie.Need-returns
+returns c = over-long _ _ _ _ _ (c .before .if1 .taken) (c .too-long .ensures .0) (c .too-long .ensures .1)
+
+slice-aggregate-lowered : tie.Need-slice-aggregate-lowered
+slice-aggregate-lowered c = search needs
+
+lowered-requires : tie.Need-lowered-requires
+lowered-requires c κs = search needs
+
+sub-read-lines : tie.Need-sub-read-lines
+sub-read-lines c = search needs
+
+part-read-lines-start : tie.Need-part-read-lines-start
+part-read-lines-start c = search needs
+
+part-read-lines-end : tie.Need-part-read-lines-end
+part-read-lines-end c = search needs
+
+read-lines-requires : tie.Need-read-lines-requires
+read-lines-requires c κs = search needs
+
+same-length : tie.Need-same-length
+same-length c = search needs
+
+same-length-2 : tie.Need-same-length-2
+same-length-2 c = search needs
+
+returns-2 : tie.Need-returns-2
+returns-2 c = in-lower (c .before .before .before .before .before .before .before .before .before .before .before .before .before .before .before .args .text .now) _ _ _ _ (λ h. omega (arith, h, c .before .before .before .before .before .before .before .before .before .before .before .before .if1 .left)) _ (lowered-at (c .before .before .before .before .before .before .before .before .before .before .before .before .before .before .before .args .text .now) (replicate 2048 0) _ _ (c .before .before .before .before .before .before .before .before .before .before .lowered .ensures) refl (omega (arith, c .before .before .before .before .before .before .before .before .before .before .before .before .if1 .left))) (c .before .before .before .read-lines .ensures)
+
+pub read-spec : {M : Type 1} → statement M
+read-spec =
+    tie.close
+    (tie.spec
+    too-long-requires
+    returns
+    slice-aggregate-lowered
+    lowered-requires
+    sub-read-lines
+    part-read-lines-start
+    part-read-lines-end
+    read-lines-requires
+    same-length
+    same-length-2
+    returns-2)
