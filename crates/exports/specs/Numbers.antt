@@ -1,0 +1,16 @@
+-- Document 01, Services and answers: "Returned: number, line, value of v", for each answer.
+use lib.IntN.{pos}
+use Rattle.services.specs.declared.Checked.{Checked}
+use Rattle.services.specs.declared.Checked.the-variants.{Sizes, Refused}
+use Rattle.services.specs.declared.Completed.{Completed}
+use Rattle.services.specs.declared.Completed.the-variants.{Done, Refused as Rejected}
+use Rattle.exports.specs.declared.CheckAnswer.{CheckAnswer}
+use Rattle.exports.specs.declared.DoneAnswer.{DoneAnswer}
+
+unfoldable pub checkNumbers : Checked → CheckAnswer
+checkNumbers (Sizes n p) = record { number = 0; line = 0; v = pos 0; cells = n; processors = p }
+checkNumbers (Refused k l) = record { number = k; line = l; v = pos 0; cells = 0; processors = 0 }
+
+unfoldable pub doneNumbers : Completed → DoneAnswer
+doneNumbers Done = record { number = 0; line = 0; v = pos 0 }
+doneNumbers (Rejected k l) = record { number = k; line = l; v = pos 0 }
