@@ -67,14 +67,14 @@ module _ (l : Loop) (δ : Partition) (h : Proper l δ) where
       sized = put-place (λ q w. Sized (l .size) (w .act)) (opening l (suc i)) (h .sized (suc i)) (o .sized);
     }
 
-  step-keeps : (p : ℕ) (s : State) → Orderly s → Orderly (step l δ p s)
+  pub step-keeps : (p : ℕ) (s : State) → Orderly s → Orderly (step l δ p s)
   unfolding step
   step-keeps p s o = elim (decLt (s .places p .at) (bound δ (suc p))) [
     | yes y ↦ rw (below-yes y (go-on l δ p (s .places p .act) s) s) (go-on-keeps s p o y (s .places p .act) refl)
     | no y ↦ rw (below-no {i = s .places p .at} {j = bound δ (suc p)} (omega arith) (go-on l δ p (s .places p .act) s) s) o
   ]
 
-  start-orderly : Orderly (start l δ)
+  pub start-orderly : Orderly (start l δ)
   unfolding only
   start-orderly = record { inside = inside-nil; ascending = turn-nil; ahead = λ p j e x. refl; placed = λ p. omega arith; sized = λ p. h .sized (bound δ p) }
 

@@ -2,17 +2,18 @@
 -- a trial over these words cites.
 use mathlib.Core.Path.{_≡_, sym, _∙_, ap, subst}
 use mathlib.Core.Logic.{_↔_}
-use mathlib.Core.Bool.{true}
+use mathlib.Core.Bool.{Bool, true, false}
 use mathlib.Core.List.{List, [], _∷_}
 use mathlib.Core.Option.{Option, Option·getD}
-use Prim.Native.Nat.{ℕ, _+_, _≤_, _<_}
+use Prim.Native.Nat.{ℕ, _+_, _/_, _≤_, _<_}
+use native.Mathlib.Omega.{arith}
 use mir.Syntax.{w32}
 use mir.Val.{SFits}
 use lib.ListN.{getD}
 use lib.IntN.{ℤ, pos}
 use Rattle.int32.specs.Integers.{value, sum}
 use Rattle.rules.specs.Choose.{pick}
-use Rattle.rules.specs.Loop.{Loop, Partition}
+use Rattle.rules.specs.Loop.{Class, Loop, Partition}
 use Rattle.rules.specs.Log.{reads, writes, updates, Access, access, Log, only}
 use Rattle.rules.specs.Marks.{marks}
 use Rattle.rules.specs.Obstacles.{ObstacleAt}
@@ -25,7 +26,7 @@ use Rattle.shadow.proofs.Change.{Latest}
 use Rattle.shadow.proofs.Counts.{Inside}
 use Rattle.shadow.proofs.Shows.{worker, table, Ascending, Shows, merged-right}
 use Rattle.shadow.proofs.Bounds.{tables-bounded}
-use Rattle.tables.specs.Layout.{row-at, own-at, Holds}
+use Rattle.tables.specs.Layout.{row-at, own-at, class-number, bit, flags-of, Holds}
 use Rattle.tables.specs.Changes.{Ready, read-noted, counted, written, updated, marks-read, blocked}
 use Rattle.tables.proofs.Accesses.{holds-read, holds-write, holds-update}
 use Rattle.tables.proofs.Room.{ready}
@@ -71,11 +72,26 @@ module _ (l : Loop) (δ : Partition) (f : l .plus ≡ sum) (z : l .zero ≡ pos 
 
 -- ---- what is read off
 
+flags-class : (k : Class) (x y : Bool) → flags-of k x y / 4 ≡ class-number k
+flags-class k x y = omega (arith, bit-most x, bit-most y)
+  where
+    bit-most : (b : Bool) → bit b ≤ 1
+    bit-most true = omega arith
+    bit-most false = omega arith
+
 module _ (l : Loop) (δ : Partition) (g : Log) (W : List ℕ) (h : Logged l δ g W) where
   -- there is room for the next access
   pub logged-ready : Proper l δ → Inside (l .iterations) (l .size) g → Ascending l δ g → l .size ≤ 4096 → l .iterations ≤ 65535 → δ .groups ≤ 65535
       → (c q : ℕ) → c < l .size → q < δ .processors → Ready W (row-at (δ .processors) c) (own-at (row-at (δ .processors) c) q)
   logged-ready o x a s i k = ready l δ (δ .processors) (l .class) (l .entry) W (table l δ g) h (tables-bounded l δ o g x a) s i k
+
+  -- the class of a cell
+  pub logged-class : (c : ℕ) → c < l .size → getD W (row-at (δ .processors) c + 3) 0 / 4 ≡ class-number (l .class c)
+  logged-class c b = ap (λ (x : ℕ). x / 4) (h .rows c b .flags) ∙ flags-class (l .class c) (table l δ g .rows c .crossed) (table l δ g .rows c .updated)
+
+  -- the value of a cell at entry
+  pub logged-entry : (c : ℕ) → c < l .size → value (getD W (row-at (δ .processors) c) 0) ≡ l .entry c
+  logged-entry c b = h .rows c b .entry
 
   module _ (s : Shows l δ g (table l δ g)) where
     pub logged-pairs : getD W 0 0 ≡ pairs l g

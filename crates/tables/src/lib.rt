@@ -156,6 +156,14 @@ pub fn entry_value(w: &[u32], row: usize) -> i32
     int32::of_word(w[row])
 }
 
+// The class of the cell: 0 shared, 1 lastprivate, 2 reduction.
+pub fn class_of(w: &[u32], row: usize) -> u32
+    requires { ⌜ row + 4 ≤ length (now w) ⌝ }
+    ensures { λ r. ⌜ r ≡ getD (now (w .entry)) (row + 3) 0 / 4 ⌝ }
+{
+    w[row + 3] / 4
+}
+
 // What a group reads that has the cell for itself: what it wrote, else the entry value.
 pub fn own_value(w: &[u32], row: usize, own: usize, group: u32) -> i32
     requires { ⌜ (row < own) × (own + 5 ≤ length (now w)) × (group < 4294967295) ⌝ }
