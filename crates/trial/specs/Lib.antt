@@ -1,0 +1,3 @@
+-- What cells, words and records stand for, and what the functions promise.
+pub mod Standing
+pub mod Accesses

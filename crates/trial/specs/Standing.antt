@@ -1,0 +1,68 @@
+-- What the lent cells, the workspace's words and a processor's record stand for: a state of the step rule (crates/rules, Steps). The rule itself is there.
+use mathlib.Core.Path.{_≡_}
+use mathlib.Core.List.{List, []}
+use Prim.Native.Nat.{ℕ, suc, _≤_, _<_}
+use mir.Syntax.{w32}
+use mir.Val.{SFits}
+use lib.IntN.{ℤ, pos, _+ℤ_}
+use Rattle.int32.specs.Integers.{sum}
+use Rattle.rules.specs.Choose.{pick}
+use Rattle.rules.specs.Cells.{listed}
+use Rattle.rules.specs.Loop.{Act, fault, Loop, Partition, bound}
+use Rattle.rules.specs.Blocks.{singles}
+use Rattle.rules.specs.Proper.{Proper}
+use Rattle.rules.specs.Steps.{Place, State}
+use Rattle.shadow.proofs.Orderly.{Orderly}
+use Rattle.tables.proofs.Logged.{Logged}
+use Rattle.code.specs.Instr.{instructions, resume}
+use Rattle.machine.specs.Machine.{pendings, Holding}
+use Rattle.trial.specs.declared.Point.{Point}
+
+-- ---- the loop
+
+-- its iterations, each by itself, over k processors
+abbrev pub dealt : Loop → ℕ → Partition
+dealt l k = singles (l .iterations) k
+
+-- a loop over k processors, within document 01's limits
+pub record Suits (k : ℕ) (l : Loop) : Type 0 where
+  pub proper : Proper l (dealt l k)
+  pub plus : l .plus ≡ sum
+  pub nought : l .zero ≡ pos 0
+  pub cells-most : l .size ≤ 4096
+  pub iterations-most : l .iterations ≤ 65535
+  pub some : 0 < k
+  pub most : k ≤ 8
+
+-- its iterations do what the code does, with the loop's variable from m on
+pub record Coded (code : List ℕ) (m : ℤ) (l : Loop) : Type 0 where
+  pub body : (i : ℕ) → i < l .iterations → l .body i ≡ resume (instructions code) 0 [] (m +ℤ pos i)
+  pub fits : (i : ℕ) → i < l .iterations → SFits w32 (m +ℤ pos i)
+
+-- ---- a state
+
+-- the cells and the words stand for it
+pub record Standing (k : ℕ) (l : Loop) (M : List ℤ) (W : List ℕ) (s : State) : Type 0 where
+  pub suits : Suits k l
+  pub orderly : Orderly l (dealt l k) (suits .proper) s
+  pub cells : M ≡ listed (l .size) (s .cells)
+  pub words : Logged l (dealt l k) (s .log) W
+
+-- what is left of an iteration by a processor's record: its pending values are in a
+unfoldable pub left-of : List ℕ → ℤ → List ℤ → Point → Act
+left-of code v a t = pick (t .fault) 0 (resume (instructions code) (t .place) (pendings a (t .depth)) v) (fault (t .fault) (t .line))
+
+-- a processor's record stands for its place
+pub record Placed (code : List ℕ) (m : ℤ) (l : Loop) (a : List ℤ) (t : Point) (w : Place) : Type 0 where
+  pub holding : Holding a (t .depth)
+  pub at : w .at ≡ t .iteration .0
+  pub act : w .at < l .iterations → w .act ≡ left-of code (m +ℤ pos (w .at)) a t
+
+-- processor p has an iteration open, and no fault stopped it
+pub record Open (code : List ℕ) (m : ℤ) (k : ℕ) (l : Loop) (M : List ℤ) (W : List ℕ) (s : State) (p : ℕ) (a : List ℤ) (t : Point) : Type 0 where
+  pub coded : Coded code m l
+  pub standing : Standing k l M W s
+  pub placed : Placed code m l a t (s .places p)
+  pub low : p < k
+  pub unfinished : s .places p .at < bound (dealt l k) (suc p)
+  pub unstopped : t .fault ≡ 0

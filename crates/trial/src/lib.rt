@@ -1,0 +1,81 @@
+// The trial of a loop (document 01, Steps): each processor's record, its step over the code, the steps of a schedule and the run to the end; the shadow
+// tables in the workspace are kept on the way. What records, cells and words stand for is in specs/Standing.antt, the step rule in crates/rules.
+ghost use mathlib.Core.Path.{_≡_};
+ghost use Prim.Native.Nat.{_+_, _<_, _≤_};
+ghost use lib.ListN.{length};
+ghost use Rattle.trial.specs.Accesses.{CanStep, Steps};
+use machine::Move;
+use rules::Iteration;
+use rules::Processor;
+
+mod access;
+
+// Where a processor is: how many values are pending, its place in the code and its iteration; 0 or the number of the fault that stopped it, and that fault's line.
+pub struct Point {
+    pub depth: usize,
+    pub place: usize,
+    pub iteration: Iteration,
+    pub fault: u32,
+    pub line: u32,
+}
+
+// A processor's record: its pending values, and where it is.
+pub struct Worker {
+    pub pending: [i32; 32],
+    pub depth: usize,
+    pub place: usize,
+    pub iteration: Iteration,
+    pub fault: u32,
+    pub line: u32,
+}
+
+// What is fixed in a run: how many processors and iterations there are, and the first value of the loop's variable.
+pub struct Setting {
+    pub processors: u32,
+    pub iterations: u32,
+    pub from: i32,
+}
+
+// One step of a processor that is not finished and not stopped: up to and including its next cell access, or to the end of its iteration or a fault.
+fn go_on(
+    code: &[u32],
+    setting: Setting,
+    p: Processor,
+    cells: &mut [i32],
+    w: &mut [u32],
+    pending: &mut [i32; 32],
+    t: Point,
+) -> Point
+    requires { ⌜ CanStep (now code) (setting .from) (setting .processors) (now cells) (now w) (p .0) (now pending) t ⌝ }
+    ensures { λ r. ⌜ Steps (now (code .entry)) (setting .from) (setting .processors) (now (cells .entry)) (now (w .entry)) (p .0) (now (pending .entry)) t (now (cells .exit)) (now (w .exit)) (now (pending .exit)) r ⌝ }
+{
+    let i = t.iteration;
+    let v = setting.from + i.0 as i32;
+    let processors = setting.processors as usize;
+    let r = machine::advance(code, t.place, t.depth, pending, v);
+    let done = r.done;
+    let place = r.place;
+    let depth = r.depth;
+    match done {
+        Move::Read { cell } => {
+            let x = access::read_cell(processors, p, i, cells, w, cell);
+            let d = machine::push(pending, depth, x);
+            Point { depth: d, place: place, iteration: i, fault: 0, line: 0 }
+        }
+        Move::Write { cell, value } => {
+            access::write_cell(processors, p, i, cells, w, cell, value);
+            Point { depth: depth, place: place, iteration: i, fault: 0, line: 0 }
+        }
+        Move::Update { cell, value } => {
+            access::update_cell(processors, p, i, cells, w, cell, value);
+            Point { depth: depth, place: place, iteration: i, fault: 0, line: 0 }
+        }
+        Move::Fault { number, line } => {
+            Point { depth: depth, place: place, iteration: i, fault: number, line: line }
+        }
+        Move::End => {
+            let next = Iteration(i.0 + 1);
+            Point { depth: 0, place: 0, iteration: next, fault: 0, line: 0 }
+        }
+    }
+}
