@@ -4,6 +4,7 @@ use mathlib.Core.Logic.{_≢_}
 use mathlib.Core.List.{List, [], _∷_}
 use Prim.Native.Nat.{ℕ, zero, suc, _+_, _≤_, _<_}
 use native.Mathlib.Decide.{decLt}
+use native.Mathlib.Numerals.{add-one}
 use native.Mathlib.Omega.{arith}
 use lib.IntN.{ℤ, pos, _+ℤ_}
 use Rattle.rules.specs.Choose.{put}
@@ -17,10 +18,14 @@ use Rattle.rules.proofs.TrialRun.{Home, home}
 use Rattle.shadow.proofs.Orderly.{step-keeps}
 use Rattle.tables.proofs.Logged.{Logged}
 use Rattle.code.specs.Instr.{instructions, resume}
-use Rattle.machine.specs.Machine.{pendings, Holding}
+use Rattle.machine.specs.declared.Move.{Move}
+use Rattle.machine.specs.declared.Move.the-variants.{Read, Write, Update, Fault, End}
+use Rattle.machine.specs.declared.Advanced.{Advanced}
+use Rattle.machine.specs.Machine.{pendings, Holding, Pushed, Advances, left, coming}
 use Rattle.trial.specs.declared.Point.{Point}
 use Rattle.trial.specs.Standing.{dealt, Coded, Standing, Placed, left-of, Open}
-use Rattle.trial.specs.Accesses.{Accessible}
+use Rattle.trial.specs.Accesses.{Accessible, Reads, Writes, Updates}
+use Rattle.trial.proofs.Faults.{resume-fault}
 
 -- ---- the step rule
 
@@ -43,7 +48,7 @@ module _ (l : Loop) (δ : Partition) (p : ℕ) (s : State) where
 
   -- others stay
   pub step-other : (q : ℕ) → p ≢ q → step l δ p s .places q ≡ s .places q
-  unfolding step
+  unfolding step go-on
   step-other q n = elim (decLt (s .places p .at) (bound δ (suc p))) [
     | yes y ↦ ap (λ (u : State). u .places q) (below-yes y (go-on l δ p (s .places p .act) s) s) ∙ stays (s .places p .act)
     | no y ↦ ap (λ (u : State). u .places q) (below-no {i = s .places p .at} {j = bound δ (suc p)} (omega arith) (go-on l δ p (s .places p .act) s) s)
@@ -162,3 +167,63 @@ module _ (code : List ℕ) (m : ℤ) (k : ℕ) (l : Loop) (M : List ℤ) (W : Li
         at = sym q;
         act = λ lt. w .body (suc i) lt ∙ rw (x, y) (sym (pick-same f _ _));
       }))
+
+-- ---- with the machine
+
+module _ (code : List ℕ) (m : ℤ) (k : ℕ) (l : Loop) (M : List ℤ) (W : List ℕ) (s : State) (p : ℕ) (a : List ℤ) (t : Point) (o : Open code m k l M W s p a t)
+    (v′ : ℤ) (b : List ℤ) (r : Advanced) (f : Advances code (t .place) (t .depth) a v′ b r) (ev : v′ ≡ m +ℤ pos (t .iteration .0)) where
+  abbrev on : List ℤ → Act
+  on z = resume (instructions code) (r .place) z (m +ℤ pos (t .iteration .0))
+
+  -- what is left by the machine's move
+  came : (w : Move) → r .done ≡ w → s .places p .act ≡ left w on (pendings b (r .depth))
+  came w e = open-act code m k l M W s p a t o ∙ rw (ev, e) at (f .meaning)
+
+  space : (w : Move) → r .done ≡ w → r .depth + coming w ≤ 32
+  space w e = rw e at (f .room)
+
+  abbrev reached : ℕ → Point
+  reached d = record { depth = d; place = r .place; iteration = t .iteration; fault = 0; line = 0 }
+
+  abbrev Comes : List ℤ → List ℕ → List ℤ → Point → Type 0
+  Comes M′ W′ a′ t′ = Standing k l M′ W′ (step l (dealt l k) p s) × Placed code m l a′ t′ (step l (dealt l k) p s .places p)
+
+  pub can-read : (c : ℕ) → r .done ≡ Read c → Accessible k l M W s p (t .iteration .0) c
+  unfolding left
+  can-read c e = open-access code m k l M W s p a t o c (open-sized code m k l M W s p a t o _ (came (Read c) e) .0)
+
+  pub can-push : (c : ℕ) → r .done ≡ Read c → r .depth < 32
+  can-push c e = omega (arith, space (Read c) e)
+
+  pub can-write : (c : ℕ) (x : ℤ) → r .done ≡ Write c x → Accessible k l M W s p (t .iteration .0) c
+  unfolding left
+  can-write c x e = open-access code m k l M W s p a t o c (open-sized code m k l M W s p a t o _ (came (Write c x) e) .0)
+
+  pub can-update : (c : ℕ) (x : ℤ) → r .done ≡ Update c x → Accessible k l M W s p (t .iteration .0) c
+  unfolding left
+  can-update c x e = open-access code m k l M W s p a t o c (open-sized code m k l M W s p a t o _ (came (Update c x) e) .0)
+
+  pub comes-read : (c : ℕ) (x : ℤ) (W′ : List ℕ) (a′ : List ℤ) (d : ℕ) → r .done ≡ Read c → Reads k M W p (t .iteration .0) c W′ x → Pushed b (r .depth) x a′ d → Comes M W′ a′ (reached d)
+  unfolding left
+  comes-read c x W′ a′ d e g u = after-read code m k l M W s p a t o c (λ y. on (y ∷ pendings b (r .depth))) x W′ a′ (reached d) (came (Read c) e) (g l s (can-read c e)) refl refl
+      (record { size = u .size; most = omega (arith, u .deeper, can-push c e) }) (ap on (sym (u .values)))
+
+  pub comes-write : (c : ℕ) (x : ℤ) (M′ : List ℤ) (W′ : List ℕ) → r .done ≡ Write c x → Writes k M W p (t .iteration .0) c x M′ W′ → Comes M′ W′ b (reached (r .depth))
+  unfolding left
+  comes-write c x M′ W′ e g = after-write code m k l M W s p a t o c x (on (pendings b (r .depth))) M′ W′ b (reached (r .depth)) (came (Write c x) e) (g l s (can-write c x e)) refl refl
+      (record { size = f .size; most = omega (arith, space (Write c x) e) }) refl
+
+  pub comes-update : (c : ℕ) (x : ℤ) (W′ : List ℕ) → r .done ≡ Update c x → Updates k M W p (t .iteration .0) c x W′ → Comes M W′ b (reached (r .depth))
+  unfolding left
+  comes-update c x W′ e g = after-update code m k l M W s p a t o c x (on (pendings b (r .depth))) W′ b (reached (r .depth)) (came (Update c x) e) (g l s (can-update c x e)) refl refl
+      (record { size = f .size; most = omega (arith, space (Update c x) e) }) refl
+
+  pub comes-fault : (n d : ℕ) → r .done ≡ Fault n d → Comes M W b (record { depth = r .depth; place = r .place; iteration = t .iteration; fault = n; line = d })
+  unfolding left
+  comes-fault n d e = after-fault code m k l M W s p a t o n d b _ (came (Fault n d) e)
+      (resume-fault (instructions code) (t .place) (pendings a (t .depth)) (m +ℤ pos (t .iteration .0)) n d (sym (open-act code m k l M W s p a t o) ∙ came (Fault n d) e))
+      refl refl refl (record { size = f .size; most = omega (arith, space (Fault n d) e) })
+
+  pub comes-end : (t′ : Point) → r .done ≡ End → t′ .iteration .0 ≡ t .iteration .0 + 1 → t′ .fault ≡ 0 → t′ .place ≡ 0 → t′ .depth ≡ 0 → Comes M W b t′
+  unfolding left
+  comes-end t′ e q g x y = after-end code m k l M W s p a t o b t′ (came End e) (o .coded) (q ∙ add-one (t .iteration .0)) g x y (record { size = f .size; most = omega arith })

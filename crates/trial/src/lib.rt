@@ -3,6 +3,9 @@
 ghost use mathlib.Core.Path.{_≡_};
 ghost use Prim.Native.Nat.{_+_, _<_, _≤_};
 ghost use lib.ListN.{length};
+ghost use lib.IntN.{pos, _+ℤ_};
+ghost use mir.Syntax.{w32};
+ghost use mir.Val.{SFits};
 ghost use Rattle.trial.specs.Accesses.{CanStep, Steps};
 use machine::Move;
 use rules::Iteration;
@@ -36,6 +39,14 @@ pub struct Setting {
     pub from: i32,
 }
 
+// The value of the loop's variable in an iteration.
+fn value_at(from: i32, i: Iteration) -> i32
+    requires { ⌜ (i .0 ≤ 65535) × SFits w32 (from +ℤ pos (i .0)) ⌝ }
+    ensures { λ r. ⌜ r ≡ from +ℤ pos (i .0) ⌝ }
+{
+    from + i.0 as i32
+}
+
 // One step of a processor that is not finished and not stopped: up to and including its next cell access, or to the end of its iteration or a fault.
 fn go_on(
     code: &[u32],
@@ -50,7 +61,7 @@ fn go_on(
     ensures { λ r. ⌜ Steps (now (code .entry)) (setting .from) (setting .processors) (now (cells .entry)) (now (w .entry)) (p .0) (now (pending .entry)) t (now (cells .exit)) (now (w .exit)) (now (pending .exit)) r ⌝ }
 {
     let i = t.iteration;
-    let v = setting.from + i.0 as i32;
+    let v = value_at(setting.from, i);
     let processors = setting.processors as usize;
     let r = machine::advance(code, t.place, t.depth, pending, v);
     let done = r.done;
