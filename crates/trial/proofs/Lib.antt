@@ -1,4 +1,5 @@
--- What the functions cite: an access, the faults of code, a step.
+-- What the functions cite: an access, the faults of code, a step, turns of processors.
 mod AccessLaws
 mod Faults
 mod Stepping
+mod Turns

@@ -1,3 +1,4 @@
 -- What cells, words and records stand for, and what the functions promise.
 pub mod Standing
+pub mod Running
 pub mod Accesses

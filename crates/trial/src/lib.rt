@@ -7,6 +7,7 @@ ghost use lib.IntN.{pos, _+ℤ_};
 ghost use mir.Syntax.{w32};
 ghost use mir.Val.{SFits};
 ghost use Rattle.trial.specs.Accesses.{CanStep, Steps};
+ghost use Rattle.trial.specs.Running.{HasTurn, TakesTurn, CanFollow, Follows};
 use machine::Move;
 use rules::Iteration;
 use rules::Processor;
@@ -89,4 +90,70 @@ fn go_on(
             Point { depth: 0, place: 0, iteration: next, fault: 0, line: 0 }
         }
     }
+}
+
+// One step of a processor by its record. A finished or stopped one does nothing.
+pub fn step(
+    code: &[u32],
+    setting: Setting,
+    p: Processor,
+    cells: &mut [i32],
+    w: &mut [u32],
+    worker: Worker,
+) -> Worker
+    requires { ⌜ HasTurn (now code) setting (now cells) (now w) (p .0) worker ⌝ }
+    ensures { λ r. ⌜ TakesTurn (now (code .entry)) setting (now (cells .entry)) (now (w .entry)) (p .0) worker (now (cells .exit)) (now (w .exit)) r ⌝ }
+{
+    let after = Processor(p.0 + 1);
+    let end = rules::block_start(setting.iterations, setting.processors, after);
+    let i = worker.iteration;
+    if worker.fault != 0 {
+        return worker;
+    }
+    if end.0 <= i.0 {
+        return worker;
+    }
+    let mut pending = worker.pending;
+    let t = Point {
+        depth: worker.depth,
+        place: worker.place,
+        iteration: i,
+        fault: worker.fault,
+        line: worker.line,
+    };
+    let r = go_on(code, setting, p, cells, w, &mut pending, t);
+    let j = r.iteration;
+    Worker {
+        pending: pending,
+        depth: r.depth,
+        place: r.place,
+        iteration: j,
+        fault: r.fault,
+        line: r.line,
+    }
+}
+
+// The steps of a schedule, in order.
+pub fn follow(
+    code: &[u32],
+    setting: Setting,
+    schedule: &[u8],
+    cells: &mut [i32],
+    w: &mut [u32],
+    workers: [Worker; 8],
+) -> [Worker; 8]
+    requires { ⌜ CanFollow (now code) setting (now cells) (now w) workers (now schedule) ⌝ }
+    ensures { λ r. ⌜ Follows (now (code .entry)) setting (now (cells .entry)) (now (w .entry)) workers (now (schedule .entry)) (now (cells .exit)) (now (w .exit)) r ⌝ }
+{
+    let mut ws = workers;
+    let mut j = 0;
+    while j < schedule.len() {
+        let q = schedule[j] as usize;
+        let p = Processor(q as u32);
+        let x = ws[q];
+        let y = step(code, setting, p, cells, w, x);
+        ws[q] = y;
+        j += 1;
+    }
+    ws
 }

@@ -1,0 +1,95 @@
+-- Turns of processors with their records, and a schedule of them.
+use mathlib.Core.Path.{_≡_, refl, sym, _∙_, ap, subst}
+use mathlib.Core.Logic.{_≢_}
+use mathlib.Core.List.{List, [], _∷_}
+use Prim.Native.Nat.{ℕ, zero, suc, _+_, _≤_, _<_}
+use native.Mathlib.Decide.{ℕ-discrete, decLt}
+use native.Mathlib.Omega.{arith}
+use lib.ListN.{length, getD, set, take}
+use lib.Seq.{getD-set-same, getD-set-other}
+use lib.IntN.{ℤ, pos, _+ℤ_}
+use Rattle.rules.specs.ChooseLaws.{pick-other}
+use Rattle.rules.specs.Loop.{Act, fault, Loop, Partition, bound}
+use Rattle.rules.specs.Blocks.{blockStart, singles}
+use Rattle.rules.proofs.BlocksLaws.{share-floor, start-within}
+use Rattle.rules.proofs.TrialRun.{Home, home}
+use Rattle.rules.specs.Steps.{Place, State, step, steps}
+use Rattle.code.specs.Instr.{instructions, resume}
+use Rattle.machine.specs.Machine.{pendings}
+use Rattle.trial.specs.declared.Point.{Point}
+use Rattle.trial.specs.declared.Worker.{Worker}
+use Rattle.trial.specs.declared.Setting.{Setting}
+use Rattle.trial.specs.Standing.{dealt, Standing, Placed, left-of, Open}
+use Rattle.trial.specs.Running.{Running, point-of, Held, waiting, Run, Turn}
+use Rattle.trial.proofs.Stepping.{step-finished, step-stopped, step-other}
+
+-- the first iteration of a processor, as the code has it
+pub bound-is : (l : Loop) (k p : ℕ) → 0 < k → p ≤ k → bound (dealt l k) p ≡ blockStart (l .iterations) k p
+unfolding singles
+bound-is l k p a b = omega (arith, share-floor (l .iterations) k a p b, start-within (l .iterations) k a p b)
+
+module _ (code : List ℕ) (g : Setting) (l : Loop) where
+  abbrev k : ℕ
+  k = g .processors
+
+  abbrev δ : Partition
+  δ = dealt l k
+
+  module _ (M : List ℤ) (W : List ℕ) (s : State) (p : ℕ) (x : Worker) (t : Turn code g l M W s p x) where
+    abbrev i : ℕ
+    i = x .iteration .0
+
+    -- where its block ends
+    pub turn-end : bound δ (suc p) ≡ blockStart (g .iterations) k (suc p)
+    turn-end = bound-is l k (suc p) (t .running .standing .suits .some) (omega (arith, t .low)) ∙ ap (λ (n : ℕ). blockStart n k (suc p)) (t .running .iterations)
+
+    pub turn-limits : (g .iterations ≤ 65535) × ((0 < k) × (k ≤ 8))
+    turn-limits = let u = t .running .standing .suits in (omega (arith, u .iterations-most, t .running .iterations), (u .some, u .most))
+
+    -- nothing is done
+    idle : step l δ p s ≡ s → Turn code g l M W (step l δ p s) p x
+    idle e = rw e t
+
+    pub turn-finished : blockStart (g .iterations) k (suc p) ≤ i → Turn code g l M W (step l δ p s) p x
+    turn-finished h = idle (step-finished l δ p s (omega (arith, turn-end, t .held .at)))
+
+    pub turn-stopped : x .fault ≢ 0 → Turn code g l M W (step l δ p s) p x
+    unfolding left-of
+    turn-stopped n = idle (elim (decLt (s .places p .at) (bound δ (suc p))) [
+      | yes y ↦ step-stopped l δ p s (x .fault) (x .line) (t .held .act (home l δ (t .running .standing .suits .proper) p (s .places p .at) (t .running .standing .orderly .placed p) y .inside) ∙ pick-other n _ _)
+      | no y ↦ step-finished l δ p s (omega arith)
+    ])
+
+    pub turn-open : x .fault ≡ 0 → i < blockStart (g .iterations) k (suc p) → Open code (g .from) k l M W s p (x .pending) (point-of x)
+    turn-open f h = record {
+      coded = t .running .coded;
+      standing = t .running .standing;
+      placed = t .held;
+      low = t .low;
+      unfinished = omega (arith, turn-end, t .held .at);
+      unstopped = f;
+    }
+
+    pub turn-stepped : (M′ : List ℤ) (W′ : List ℕ) (x′ : Worker) → Standing k l M′ W′ (step l δ p s) × Held code g l x′ (step l δ p s .places p) → Turn code g l M′ W′ (step l δ p s) p x′
+    turn-stepped M′ W′ x′ (a, b) = record { running = record { coded = t .running .coded; iterations = t .running .iterations; standing = a }; low = t .low; held = b }
+
+  -- ---- all of them
+
+  pub run-turn : (M : List ℤ) (W : List ℕ) (ws : List Worker) (s : State) (p : ℕ) → Run code g l M W ws s → p < k → Turn code g l M W s p (getD ws p (waiting 0))
+  run-turn M W ws s p r b = record { running = r .running; low = b; held = r .crew p b }
+
+  pub run-stepped : (M : List ℤ) (W : List ℕ) (ws : List Worker) (s : State) (p : ℕ) → Run code g l M W ws s → p < length ws → (M′ : List ℤ) (W′ : List ℕ) (x′ : Worker) → Turn code g l M′ W′ (step l δ p s) p x′ → Run code g l M′ W′ (set ws p x′) (step l δ p s)
+  run-stepped M W ws s p r b M′ W′ x′ t = record {
+    running = t .running;
+    crew = λ q c. elim (ℕ-discrete p q) [
+      | yes e ↦ subst (λ (j : ℕ). Held code g l (getD (set ws p x′) j (waiting 0)) (step l δ p s .places j)) e (rw (getD-set-same ws p x′ (waiting 0) b) (t .held))
+      | no n ↦ rw (getD-set-other ws p q x′ (waiting 0) (λ (e : q ≡ p). n (sym e)), step-other l δ p s q n) (r .crew q c)
+    ];
+  }
+
+  -- one byte more of a schedule
+  pub steps-more : (ps : List ℕ) (j : ℕ) (s : State) → j < length ps → steps l δ (take (suc j) ps) s ≡ step l δ (getD ps j 0) (steps l δ (take j ps) s)
+  unfolding steps
+  steps-more [] j s h = absurd (omega arith)
+  steps-more (p ∷ ps) zero s h = refl
+  steps-more (p ∷ ps) (suc j) s h = steps-more ps j (step l δ p s) (omega arith)

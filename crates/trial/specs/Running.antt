@@ -1,0 +1,63 @@
+-- A run with its processors' records: what its state is, and what a step and a schedule do to it.
+use mathlib.Core.Path.{_≡_}
+use mathlib.Core.List.{List, []}
+use Prim.Native.Nat.{ℕ, _<_}
+use lib.ListN.{length, getD, replicate}
+use lib.IntN.{ℤ, pos}
+use Rattle.rules.specs.Loop.{Loop}
+use Rattle.rules.specs.Steps.{Place, State, step, steps}
+use Rattle.trial.specs.declared.Point.{Point}
+use Rattle.trial.specs.declared.Worker.{Worker}
+use Rattle.trial.specs.declared.Setting.{Setting}
+use Rattle.trial.specs.Standing.{dealt, Coded, Standing, Placed}
+
+-- the code, the setting, the cells and the words stand for a state of the loop's run
+pub record Running (code : List ℕ) (g : Setting) (l : Loop) (M : List ℤ) (W : List ℕ) (s : State) : Type 0 where
+  pub coded : Coded code (g .from) l
+  pub iterations : l .iterations ≡ g .iterations
+  pub standing : Standing (g .processors) l M W s
+
+-- where a processor is, by its record
+abbrev pub point-of : Worker → Point
+point-of x = record { depth = x .depth; place = x .place; iteration = x .iteration; fault = x .fault; line = x .line }
+
+-- a processor's record stands for its place
+abbrev pub Held : List ℕ → Setting → Loop → Worker → Place → Type 0
+Held code g l x w = Placed code (g .from) l (x .pending) (point-of x) w
+
+-- a record at the start of an iteration
+abbrev pub waiting : ℕ → Worker
+waiting i = record { pending = replicate 32 (pos 0); depth = 0; place = 0; iteration = record { 0 = i }; fault = 0; line = 0 }
+
+-- with the record of each processor
+pub record Run (code : List ℕ) (g : Setting) (l : Loop) (M : List ℤ) (W : List ℕ) (ws : List Worker) (s : State) : Type 0 where
+  pub running : Running code g l M W s
+  pub crew : (q : ℕ) → q < g .processors → Held code g l (getD ws q (waiting 0)) (s .places q)
+
+-- ---- a step
+
+-- processor p with its record
+pub record Turn (code : List ℕ) (g : Setting) (l : Loop) (M : List ℤ) (W : List ℕ) (s : State) (p : ℕ) (x : Worker) : Type 0 where
+  pub running : Running code g l M W s
+  pub low : p < g .processors
+  pub held : Held code g l x (s .places p)
+
+abbrev pub HasTurn : List ℕ → Setting → List ℤ → List ℕ → ℕ → Worker → Type 0
+HasTurn code g M W p x = (l : Loop) × (s : State) × Turn code g l M W s p x
+
+-- "each names the processor that takes one step"
+abbrev pub TakesTurn : List ℕ → Setting → List ℤ → List ℕ → ℕ → Worker → List ℤ → List ℕ → Worker → Type 0
+TakesTurn code g M W p x M′ W′ x′ = (l : Loop) (s : State) → Turn code g l M W s p x → Turn code g l M′ W′ (step l (dealt l (g .processors)) p s) p x′
+
+-- ---- a schedule
+
+-- its bytes name processors
+abbrev pub Names : Setting → List ℕ → Type 0
+Names g ps = (j : ℕ) → j < length ps → getD ps j 0 < g .processors
+
+abbrev pub CanFollow : List ℕ → Setting → List ℤ → List ℕ → List Worker → List ℕ → Type 0
+CanFollow code g M W ws ps = (l : Loop) × (s : State) × Run code g l M W ws s × Names g ps
+
+-- "In order, each names the processor that takes one step"
+abbrev pub Follows : List ℕ → Setting → List ℤ → List ℕ → List Worker → List ℕ → List ℤ → List ℕ → List Worker → Type 0
+Follows code g M W ws ps M′ W′ ws′ = (l : Loop) (s : State) → Run code g l M W ws s → Run code g l M′ W′ ws′ (steps l (dealt l (g .processors)) ps s)
