@@ -20,7 +20,7 @@ use Rattle.trial.specs.declared.Point.{Point}
 use Rattle.trial.specs.declared.Worker.{Worker}
 use Rattle.trial.specs.declared.Setting.{Setting}
 use Rattle.trial.specs.Standing.{dealt, Standing, Placed, left-of, Open}
-use Rattle.trial.specs.Running.{Running, point-of, Held, waiting, Run, Turn}
+use Rattle.trial.specs.Running.{Running, point-of, Held, nobody, Run, Turn}
 use Rattle.trial.proofs.Stepping.{step-finished, step-stopped, step-other}
 
 -- the first iteration of a processor, as the code has it
@@ -75,15 +75,15 @@ module _ (code : List ℕ) (g : Setting) (l : Loop) where
 
   -- ---- all of them
 
-  pub run-turn : (M : List ℤ) (W : List ℕ) (ws : List Worker) (s : State) (p : ℕ) → Run code g l M W ws s → p < k → Turn code g l M W s p (getD ws p (waiting 0))
+  pub run-turn : (M : List ℤ) (W : List ℕ) (ws : List Worker) (s : State) (p : ℕ) → Run code g l M W ws s → p < k → Turn code g l M W s p (getD ws p nobody)
   run-turn M W ws s p r b = record { running = r .running; low = b; held = r .crew p b }
 
   pub run-stepped : (M : List ℤ) (W : List ℕ) (ws : List Worker) (s : State) (p : ℕ) → Run code g l M W ws s → p < length ws → (M′ : List ℤ) (W′ : List ℕ) (x′ : Worker) → Turn code g l M′ W′ (step l δ p s) p x′ → Run code g l M′ W′ (set ws p x′) (step l δ p s)
   run-stepped M W ws s p r b M′ W′ x′ t = record {
     running = t .running;
     crew = λ q c. elim (ℕ-discrete p q) [
-      | yes e ↦ subst (λ (j : ℕ). Held code g l (getD (set ws p x′) j (waiting 0)) (step l δ p s .places j)) e (rw (getD-set-same ws p x′ (waiting 0) b) (t .held))
-      | no n ↦ rw (getD-set-other ws p q x′ (waiting 0) (λ (e : q ≡ p). n (sym e)), step-other l δ p s q n) (r .crew q c)
+      | yes e ↦ subst (λ (j : ℕ). Held code g l (getD (set ws p x′) j nobody) (step l δ p s .places j)) e (rw (getD-set-same ws p x′ nobody b) (t .held))
+      | no n ↦ rw (getD-set-other ws p q x′ nobody (λ (e : q ≡ p). n (sym e)), step-other l δ p s q n) (r .crew q c)
     ];
   }
 

@@ -29,10 +29,14 @@ Held code g l x w = Placed code (g .from) l (x .pending) (point-of x) w
 abbrev pub waiting : ℕ → Worker
 waiting i = record { pending = replicate 32 (pos 0); depth = 0; place = 0; iteration = record { 0 = i }; fault = 0; line = 0 }
 
+-- what stands past the records
+abbrev pub nobody : Worker
+nobody = record { pending = []; depth = 0; place = 0; iteration = record { 0 = 0 }; fault = 0; line = 0 }
+
 -- with the record of each processor
 pub record Run (code : List ℕ) (g : Setting) (l : Loop) (M : List ℤ) (W : List ℕ) (ws : List Worker) (s : State) : Type 0 where
   pub running : Running code g l M W s
-  pub crew : (q : ℕ) → q < g .processors → Held code g l (getD ws q (waiting 0)) (s .places q)
+  pub crew : (q : ℕ) → q < g .processors → Held code g l (getD ws q nobody) (s .places q)
 
 -- ---- a step
 

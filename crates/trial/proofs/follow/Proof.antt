@@ -1,3 +1,16 @@
+-- `trial::follow` meets its contract: after j bytes the run is that of the first j.
+use borrow.Author.Needs.{needs}
+use mathlib.Core.Path.{_≡_, refl, sym}
+use Prim.Native.Nat.{ℕ, _≤_, _<_, _-_}
+use native.Mathlib.Numerals.{add-one}
+use native.Mathlib.Omega.{arith}
+use lib.ListN.{length, getD, take, length-set}
+use lib.Seq.{take-length}
+use Rattle.rules.specs.Loop.{Loop}
+use Rattle.rules.specs.Steps.{State, steps}
+use Rattle.trial.specs.Standing.{dealt}
+use Rattle.trial.specs.Running.{Run}
+use Rattle.trial.proofs.Turns.{run-turn, run-stepped, steps-more}
 use Rattle.trial.proofs.follow.Statement.{statement}
 use Rattle.trial.proofs.follow.Tie as tie
 use Rattle.trial.proofs.follow.Reads as reads
@@ -5,70 +18,110 @@ use Rattle.trial.proofs.follow.Lts as lts
 use Rattle.trial.proofs.step.Reads as step-reads
 
 abbrev Inv-loop : tie.InvT-loop
-Inv-loop code setting schedule cells₀ w₀ ws₀ j₀ cells w ws j = ?
+Inv-loop code setting schedule cells₀ w₀ ws₀ j₀ cells w ws j =
+    (j ≤ length schedule)
+    × (length cells ≡ length cells₀)
+    × (length w ≡ length w₀)
+    × (length ws ≡ 8)
+    × ((l : Loop) (s : State) → Run code setting l cells₀ w₀ ws₀ s → Run code setting l cells w ws (steps l (dealt l (setting .processors)) (take j schedule) s))
 
 abbrev μ-loop : tie.MeasureT-loop
-μ-loop code setting schedule cells₀ w₀ ws₀ j₀ cells w ws j = ?
+μ-loop code setting schedule cells₀ w₀ ws₀ j₀ cells w ws j = length schedule - j
 
 -- src/lib.rt:150:5
 loop-holds : tie.Need-loop-holds Inv-loop μ-loop
-loop-holds c = ?
+unfolding steps
+loop-holds c = (omega arith, refl, refl, search needs, λ l s r. r)
 
 -- src/lib.rt:151:17
 shared-slice-read-q : tie.Need-shared-slice-read-q Inv-loop μ-loop
-shared-slice-read-q c = ?
+shared-slice-read-q c = search needs
 
 -- src/lib.rt:151:17
 cast-q : tie.Need-cast-q Inv-loop μ-loop
-cast-q c = ?
+cast-q c = omega (arith, c .shared-slice-known3 .given (c .before .before .loop .j))
 
 -- src/lib.rt:152:27
 cast-t17 : tie.Need-cast-t17 Inv-loop μ-loop
-cast-t17 c = ?
+cast-t17 c = omega (arith, c .shared-slice-known3 .given (c .before .before .loop .j))
 
 -- src/lib.rt:153:17
 mul-x : tie.Need-mul-x Inv-loop μ-loop
-mul-x c = ?
+mul-x c =
+    let a = c .before .before .before .before .before .before .args in
+    let (l, s, r, n) = c .before .before .before .before .before .before .pre in
+    omega (arith, n (c .before .before .loop .j) (c .before .loop-test .taken), r .running .standing .suits .most)
 
 -- src/lib.rt:153:17
 array-copy-out-x : tie.Need-array-copy-out-x Inv-loop μ-loop
-array-copy-out-x c = ?
+array-copy-out-x c =
+    let a = c .before .before .before .before .before .before .args in
+    let (l, s, r, n) = c .before .before .before .before .before .before .pre in
+    omega (arith, n (c .before .before .loop .j) (c .before .loop-test .taken), r .running .standing .suits .most)
 
 -- src/lib.rt:154:13
 step-requires : tie.Need-step-requires Inv-loop μ-loop
-step-requires c κs = ?
+step-requires c κs =
+    let a = c .before .before .before .before .before .before .before .before .before .args in
+    let (l, s, r, n) = c .before .before .before .before .before .before .before .before .before .pre in
+    let u = c .before .before .before .before .before .loop in
+    (l, steps l (dealt l (a .setting .processors)) (take (u .j) (a .schedule .now)) s, run-turn (a .code .now) (a .setting) l (u .cells) (u .w) (u .ws) _ (getD (a .schedule .now) (u .j) 0) (u .inv .4 l s r) (n (u .j) (c .before .before .before .before .loop-test .taken)))
 
 -- src/lib.rt:155:9
 mul-ws : tie.Need-mul-ws Inv-loop μ-loop
-mul-ws c = ?
+mul-ws c =
+    let (l, s, r, n) = c .before .before .before .before .before .before .before .before .before .before .before .before .before .pre in
+    omega (arith, n (c .before .before .before .before .before .before .before .before .before .loop .j) (c .before .before .before .before .before .before .before .before .loop-test .taken), r .running .standing .suits .most)
 
 -- src/lib.rt:155:9
 array-set-from-ws : tie.Need-array-set-from-ws Inv-loop μ-loop
-array-set-from-ws c = ?
+array-set-from-ws c =
+    let (l, s, r, n) = c .before .before .before .before .before .before .before .before .before .before .before .before .before .pre in
+    omega (arith, n (c .before .before .before .before .before .before .before .before .before .loop .j) (c .before .before .before .before .before .before .before .before .loop-test .taken), r .running .standing .suits .most)
 
 -- src/lib.rt:156:9
 add-j : tie.Need-add-j Inv-loop μ-loop
-add-j c = ?
+add-j c = search needs
 
 -- src/lib.rt:150:5
 loop-less : tie.Need-loop-less Inv-loop μ-loop
-loop-less c = ?
+loop-less c = search needs
 
 -- src/lib.rt:150:5
 loop-again : tie.Need-loop-again Inv-loop μ-loop
-loop-again c = ?
+loop-again c =
+    let a = c .before .before .before .before .before .before .before .before .before .before .before .before .before .args in
+    let (l₀, s₀, r₀, n) = c .before .before .before .before .before .before .before .before .before .before .before .before .before .pre in
+    let u = c .before .before .before .before .before .before .before .before .before .loop in
+    let lt = c .before .before .before .before .before .before .before .before .loop-test .taken in
+    let b = n (u .j) lt in
+    let h : getD (a .schedule .now) (u .j) 0 < length (u .ws) = omega (arith, b, r₀ .running .standing .suits .most, u .inv .3) in
+    (
+      omega arith,
+      search needs,
+      search needs,
+      simp length-set (u .inv .3),
+      λ l s r.
+        rw (add-one, steps-more (a .code .now) (a .setting) l (a .schedule .now) (u .j) s lt)
+        (run-stepped (a .code .now) (a .setting) l (u .cells) (u .w) (u .ws) _ (getD (a .schedule .now) (u .j) 0) (u .inv .4 l s r) h _ _ _
+        (c .before .before .before .step .ensures l _ (run-turn (a .code .now) (a .setting) l (u .cells) (u .w) (u .ws) _ (getD (a .schedule .now) (u .j) 0) (u .inv .4 l s r) b))),
+    )
 
 -- src/lib.rt:137:1
 same-length : tie.Need-same-length Inv-loop μ-loop
-same-length c = ?
+same-length c = search needs
 
 -- src/lib.rt:137:1
 same-length-2 : tie.Need-same-length-2 Inv-loop μ-loop
-same-length-2 c = ?
+same-length-2 c = search needs
 
 -- src/lib.rt:137:1
 returns : tie.Need-returns Inv-loop μ-loop
-returns c = ?
+returns c =
+    let a = c .before .before .before .before .before .args in
+    let u = c .before .loop in
+    let e : u .j ≡ length (a .schedule .now) = omega (arith, u .inv .0, c .loop-test .left) in
+    λ l s r. rw (e, take-length) at (u .inv .4 l s r)
 
 pub follow-spec : {M : Type 1} → statement M
 follow-spec =
