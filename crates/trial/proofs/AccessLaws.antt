@@ -100,8 +100,8 @@ module _ (k : ℕ) (l : Loop) (M : List ℤ) (W : List ℕ) (s : State) (p i c :
   access-seen =
       let t = a .standing in
       let own : value (pick (getD W (own-at row p + 1) 0) (i + 1) (getD W (own-at row p) 0) (getD W row 0)) ≡ latest l c (only (δ .group) i (s .log)) =
-          subst (λ (q : ℕ). value (pick (getD W (own-at row q + 1) 0) (i + 1) (getD W (own-at row q) 0) (getD W row 0)) ≡ latest l c (only (δ .group) i (s .log))) (here .owned)
-          (logged-own l δ (s .log) W (t .words) shows c (a .inside) i (λ j e b. t .orderly .ahead p j (e ∙ here .owned) (omega (arith, a .at, b))) owner-low) in
+      subst (λ (q : ℕ). value (pick (getD W (own-at row q + 1) 0) (i + 1) (getD W (own-at row q) 0) (getD W row 0)) ≡ latest l c (only (δ .group) i (s .log))) (here .owned)
+      (logged-own l δ (s .log) W (t .words) shows c (a .inside) i (λ j e b. t .orderly .ahead p j (e ∙ here .owned) (omega (arith, a .at, b))) owner-low) in
       ap (λ (n : ℕ). pick n 0 (cellOf M c) (value (pick (getD W (own-at row p + 1) 0) (i + 1) (getD W (own-at row p) 0) (getD W row 0)))) (logged-class l δ (s .log) W (t .words) c (a .inside))
       ∙ seen-by l δ s i c (l .class c) (cellOf M c) (ap (λ (m : List ℤ). cellOf m c) (t .cells) ∙ cell-listed (l .size) (s .cells) c (a .inside)) _ own
 

@@ -2,3 +2,5 @@
 pub mod Standing
 pub mod Running
 pub mod Accesses
+pub mod Start
+pub mod View

@@ -10,14 +10,7 @@ use rules::Iteration;
 use rules::Processor;
 
 // What an iteration sees of a cell: a shared one as it stands, another as the iteration wrote it, else as at entry.
-fn seen(
-    cells: &[i32],
-    w: &[u32],
-    cell: usize,
-    row: usize,
-    own: usize,
-    iteration: u32,
-) -> i32
+fn seen(cells: &[i32], w: &[u32], cell: usize, row: usize, own: usize, iteration: u32) -> i32
     requires { ⌜ (cell < length (now cells)) × (row + 4 ≤ own) × (own + 5 ≤ length (now w)) × (iteration < 4294967295) ⌝ }
     ensures { λ r. ⌜ r ≡ pick (getD (now (w .entry)) (row + 3) 0 / 4) 0 (cellOf (now (cells .entry)) cell) (value (pick (getD (now (w .entry)) (own + 1) 0) (iteration + 1) (getD (now (w .entry)) own 0) (getD (now (w .entry)) row 0))) ⌝ }
 {

@@ -1,13 +1,16 @@
 // The trial of a loop (document 01, Steps): each processor's record, its step over the code, the steps of a schedule and the run to the end; the shadow
 // tables in the workspace are kept on the way. What records, cells and words stand for is in specs/Standing.antt, the step rule in crates/rules.
 ghost use mathlib.Core.Path.{_≡_};
-ghost use Prim.Native.Nat.{_+_, _<_, _≤_};
+ghost use Prim.Native.Nat.{_+_, _*_, _<_, _≤_};
 ghost use lib.ListN.{length};
 ghost use lib.IntN.{pos, _+ℤ_};
 ghost use mir.Syntax.{w32};
 ghost use mir.Val.{SFits};
 ghost use Rattle.trial.specs.Accesses.{CanStep, Steps};
-ghost use Rattle.trial.specs.Running.{HasTurn, TakesTurn, CanFollow, Follows};
+ghost use Rattle.trial.specs.Running.{waiting, HasTurn, TakesTurn, CanFollow, Follows};
+ghost use Rattle.trial.specs.Start.{Entry, Enters, Crew, CanBegin, Begins};
+ghost use Rattle.trial.specs.View.{Stands, Shown};
+ghost use Rattle.rules.specs.Loop.{Loop};
 use machine::Move;
 use rules::Iteration;
 use rules::Processor;
@@ -72,22 +75,52 @@ fn go_on(
         Move::Read { cell } => {
             let x = access::read_cell(processors, p, i, cells, w, cell);
             let d = machine::push(pending, depth, x);
-            Point { depth: d, place: place, iteration: i, fault: 0, line: 0 }
+            Point {
+                depth: d,
+                place: place,
+                iteration: i,
+                fault: 0,
+                line: 0,
+            }
         }
         Move::Write { cell, value } => {
             access::write_cell(processors, p, i, cells, w, cell, value);
-            Point { depth: depth, place: place, iteration: i, fault: 0, line: 0 }
+            Point {
+                depth: depth,
+                place: place,
+                iteration: i,
+                fault: 0,
+                line: 0,
+            }
         }
         Move::Update { cell, value } => {
             access::update_cell(processors, p, i, cells, w, cell, value);
-            Point { depth: depth, place: place, iteration: i, fault: 0, line: 0 }
+            Point {
+                depth: depth,
+                place: place,
+                iteration: i,
+                fault: 0,
+                line: 0,
+            }
         }
         Move::Fault { number, line } => {
-            Point { depth: depth, place: place, iteration: i, fault: number, line: line }
+            Point {
+                depth: depth,
+                place: place,
+                iteration: i,
+                fault: number,
+                line: line,
+            }
         }
         Move::End => {
             let next = Iteration(i.0 + 1);
-            Point { depth: 0, place: 0, iteration: next, fault: 0, line: 0 }
+            Point {
+                depth: 0,
+                place: 0,
+                iteration: next,
+                fault: 0,
+                line: 0,
+            }
         }
     }
 }
@@ -156,4 +189,75 @@ pub fn follow(
         j += 1;
     }
     ws
+}
+
+// The tables of no access: the entry value and the class of each cell, 0 shared, 1 lastprivate, 2 reduction.
+fn enter(processors: usize, cells: &[i32], classes: &[u32], w: &mut [u32])
+    requires { ⌜ ((l : Loop) × Entry processors l (now cells) (now classes) (length (now w))) ⌝ }
+    ensures { λ _. ⌜ Enters processors (now (cells .entry)) (now (classes .entry)) (length (now (w .entry))) (now (w .exit)) ⌝ }
+{
+    tables::clear(w);
+    let mut c = 0;
+    while c < cells.len() {
+        let row = tables::row_of(c, processors);
+        tables::set_entry(w, row, cells[c], classes[c]);
+        c += 1;
+    }
+}
+
+// A record at the start of an iteration.
+fn record_at(i: Iteration) -> Worker
+    ensures { λ r. ⌜ r ≡ waiting (i .0) ⌝ }
+{
+    let pending = [0; 32];
+    Worker {
+        pending: pending,
+        depth: 0,
+        place: 0,
+        iteration: i,
+        fault: 0,
+        line: 0,
+    }
+}
+
+// Each processor at the start of its block.
+fn crew(setting: Setting) -> [Worker; 8]
+    requires { ⌜ (setting .iterations ≤ 65535) × ((0 < setting .processors) × (setting .processors ≤ 8)) ⌝ }
+    ensures { λ r. ⌜ Crew setting r ⌝ }
+{
+    let none = Iteration(0);
+    let first = record_at(none);
+    let mut ws = [first; 8];
+    let mut q: u32 = 0;
+    while q < setting.processors {
+        let p = Processor(q);
+        let i = rules::block_start(setting.iterations, setting.processors, p);
+        let x = record_at(i);
+        ws[q as usize] = x;
+        q += 1;
+    }
+    ws
+}
+
+// The start of a run: the workspace made ready and the processors' records. The cells stay as they are.
+pub fn begin(setting: Setting, classes: &[u32], cells: &[i32], w: &mut [u32]) -> [Worker; 8]
+    requires { ⌜ CanBegin setting (now cells) (now classes) (length (now w)) ⌝ }
+    ensures { λ r. ⌜ Begins setting (now (cells .entry)) (now (classes .entry)) (length (now (w .entry))) (now (w .exit)) r ⌝ }
+{
+    enter(setting.processors as usize, cells, classes, w);
+    crew(setting)
+}
+
+// What Look shows: for each cell the word of its shared value, and its marks.
+pub fn show(processors: usize, cells: &[i32], w: &[u32], view: &mut [u32])
+    requires { ⌜ Stands processors (now cells) (now w) × (length (now view) ≡ 2 * length (now cells)) ⌝ }
+    ensures { λ _. ⌜ Shown processors (now (cells .entry)) (now (w .entry)) (now (view .exit)) ⌝ }
+{
+    let mut c = 0;
+    while c < cells.len() {
+        let row = tables::row_of(c, processors);
+        view[2 * c] = int32::to_word(cells[c]);
+        view[2 * c + 1] = tables::marks_of(w, row);
+        c += 1;
+    }
 }

@@ -95,16 +95,15 @@ loop-again c =
     let u = c .before .before .before .before .before .before .before .before .before .loop in
     let lt = c .before .before .before .before .before .before .before .before .loop-test .taken in
     let b = n (u .j) lt in
-    let h : getD (a .schedule .now) (u .j) 0 < length (u .ws) = omega (arith, b, r₀ .running .standing .suits .most, u .inv .3) in
-    (
+    let h : getD (a .schedule .now) (u .j) 0 < length (u .ws) = omega (arith, b, r₀ .running .standing .suits .most, u .inv .3) in (
       omega arith,
       search needs,
       search needs,
       simp length-set (u .inv .3),
       λ l s r.
-        rw (add-one, steps-more (a .code .now) (a .setting) l (a .schedule .now) (u .j) s lt)
-        (run-stepped (a .code .now) (a .setting) l (u .cells) (u .w) (u .ws) _ (getD (a .schedule .now) (u .j) 0) (u .inv .4 l s r) h _ _ _
-        (c .before .before .before .step .ensures l _ (run-turn (a .code .now) (a .setting) l (u .cells) (u .w) (u .ws) _ (getD (a .schedule .now) (u .j) 0) (u .inv .4 l s r) b))),
+          rw (add-one, steps-more (a .code .now) (a .setting) l (a .schedule .now) (u .j) s lt)
+          (run-stepped (a .code .now) (a .setting) l (u .cells) (u .w) (u .ws) _ (getD (a .schedule .now) (u .j) 0) (u .inv .4 l s r) h _ _ _
+          (c .before .before .before .step .ensures l _ (run-turn (a .code .now) (a .setting) l (u .cells) (u .w) (u .ws) _ (getD (a .schedule .now) (u .j) 0) (u .inv .4 l s r) b))),
     )
 
 -- src/lib.rt:137:1

@@ -53,11 +53,11 @@ same-length c = search needs
 returns : tie.Need-returns
 returns c =
     λ l s x.
-      let a = c .before .before .before .before .before .before .before .before .before .args in
-      let e : toZ w32 (ofZ w32 (c .before .before .before .before .seen .result)) ≡ c .before .before .before .before .seen .result = search needs in
-      let v : c .before .before .before .before .seen .result ≡ given l (dealt l (a .processors)) (l .class (a .cell)) s (a .i .0) (a .cell) =
-          c .before .before .before .before .seen .ensures ∙ rw (c .before .before .before .before .before .before .own-of .ensures, c .before .before .before .before .before .before .before .row-of .ensures) (access-seen (a .processors) l (a .cells .now) (a .w .now) s (a .p .0) (a .i .0) (a .cell) x) in
-      (e ∙ v, rw (e, c .before .before .note-read .ensures, c .before .before .before .before .before .before .own-of .ensures, c .before .before .before .before .before .before .before .row-of .ensures) (access-reads (a .processors) l (a .cells .now) (a .w .now) s (a .p .0) (a .i .0) (a .cell) x (c .before .before .before .before .seen .result)))
+    let a = c .before .before .before .before .before .before .before .before .before .args in
+    let e : toZ w32 (ofZ w32 (c .before .before .before .before .seen .result)) ≡ c .before .before .before .before .seen .result = search needs in
+    let v : c .before .before .before .before .seen .result ≡ given l (dealt l (a .processors)) (l .class (a .cell)) s (a .i .0) (a .cell) =
+    c .before .before .before .before .seen .ensures ∙ rw (c .before .before .before .before .before .before .own-of .ensures, c .before .before .before .before .before .before .before .row-of .ensures) (access-seen (a .processors) l (a .cells .now) (a .w .now) s (a .p .0) (a .i .0) (a .cell) x) in
+    (e ∙ v, rw (e, c .before .before .note-read .ensures, c .before .before .before .before .before .before .own-of .ensures, c .before .before .before .before .before .before .before .row-of .ensures) (access-reads (a .processors) l (a .cells .now) (a .w .now) s (a .p .0) (a .i .0) (a .cell) x (c .before .before .before .before .seen .result)))
 
 pub read-cell-spec : {M : Type 1} → statement M
 read-cell-spec =

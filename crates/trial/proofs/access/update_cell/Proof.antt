@@ -40,9 +40,9 @@ same-length c = search needs
 returns : tie.Need-returns
 returns c =
     λ l s x.
-      let a = c .before .before .before .before .before .before .before .args in
-      let e : toZ w32 (ofZ w32 (a .value)) ≡ a .value = search needs in
-      rw (c .before .before .note-update .ensures, c .before .before .before .before .own-of .ensures, c .before .before .before .before .before .row-of .ensures, e) (access-updates (a .processors) l (a .cells .now) (a .w .now) s (a .p .0) (a .i .0) (a .cell) x (a .value))
+    let a = c .before .before .before .before .before .before .before .args in
+    let e : toZ w32 (ofZ w32 (a .value)) ≡ a .value = search needs in
+    rw (c .before .before .note-update .ensures, c .before .before .before .before .own-of .ensures, c .before .before .before .before .before .row-of .ensures, e) (access-updates (a .processors) l (a .cells .now) (a .w .now) s (a .p .0) (a .i .0) (a .cell) x (a .value))
 
 pub update-cell-spec : {M : Type 1} → statement M
 update-cell-spec =

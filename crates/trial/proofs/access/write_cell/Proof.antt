@@ -62,11 +62,11 @@ same-length-2 c = search needs
 returns : tie.Need-returns
 returns c =
     λ l s x.
-      let a = c .before .before .before .before .before .before .before .before .before .before .before .before .args in
-      let e : toZ w32 (ofZ w32 (a .value)) ≡ a .value = search needs in (
-        rw (c .before .before .before .before .before .store .ensures, e, c .before .before .before .before .before .before .before .class-of .ensures, c .before .before .before .before .before .before .before .before .before .before .row-of .ensures) (access-stored (a .processors) l (a .cells .now) (a .w .now) s (a .p .0) (a .i .0) (a .cell) x (a .value)),
-        rw (c .before .before .note-write .ensures, c .before .before .before .before .before .before .before .before .before .own-of .ensures, c .before .before .before .before .before .before .before .before .before .before .row-of .ensures, e) (access-writes (a .processors) l (a .cells .now) (a .w .now) s (a .p .0) (a .i .0) (a .cell) x (a .value) (c .before .before .before .before .before .before .before .before .before .before .before .before .fits .value)),
-      )
+    let a = c .before .before .before .before .before .before .before .before .before .before .before .before .args in
+    let e : toZ w32 (ofZ w32 (a .value)) ≡ a .value = search needs in (
+      rw (c .before .before .before .before .before .store .ensures, e, c .before .before .before .before .before .before .before .class-of .ensures, c .before .before .before .before .before .before .before .before .before .before .row-of .ensures) (access-stored (a .processors) l (a .cells .now) (a .w .now) s (a .p .0) (a .i .0) (a .cell) x (a .value)),
+      rw (c .before .before .note-write .ensures, c .before .before .before .before .before .before .before .before .before .own-of .ensures, c .before .before .before .before .before .before .before .before .before .before .row-of .ensures, e) (access-writes (a .processors) l (a .cells .now) (a .w .now) s (a .p .0) (a .i .0) (a .cell) x (a .value) (c .before .before .before .before .before .before .before .before .before .before .before .before .fits .value)),
+    )
 
 pub write-cell-spec : {M : Type 1} → statement M
 write-cell-spec =

@@ -1,0 +1,99 @@
+-- How a run begins.
+use mathlib.Core.Path.{_≡_, refl, sym, _∙_, ap, subst}
+use mathlib.Core.List.{List, []}
+use Prim.Native.Nat.{ℕ, zero, suc, _+_, _*_, _≤_, _<_}
+use native.Mathlib.Decide.{ℕ-discrete}
+use native.Mathlib.Omega.{arith}
+use lib.ListN.{length, getD, set, replicate}
+use lib.Seq.{getD-set-same, getD-set-other}
+use lib.IntN.{ℤ, pos, _+ℤ_}
+use mir.Syntax.{w32}
+use mir.Val.{SFits}
+use Rattle.rules.specs.ChooseLaws.{pick-same}
+use Rattle.rules.specs.Cells.{cellOf, listed}
+use Rattle.rules.proofs.CellsLaws.{listed-length, cell-listed}
+use Rattle.rules.specs.Loop.{fault, Class, shared, lastprivate, reduction, Loop, Partition, bound}
+use Rattle.rules.specs.Blocks.{blockStart, singles}
+use Rattle.rules.specs.Steps.{State, opening, start}
+use Rattle.shadow.proofs.Orderly.{start-orderly}
+use Rattle.tables.specs.Layout.{row-at, class-number}
+use Rattle.tables.specs.Changes.{entered}
+use Rattle.tables.proofs.Held.{rows-apart}
+use Rattle.tables.proofs.Start.{Begun, begun-clear, begun-more}
+use Rattle.tables.proofs.Logged.{Logged, logged-nil}
+use Rattle.code.specs.Instr.{instructions, resume}
+use Rattle.machine.specs.Machine.{pendings}
+use Rattle.trial.specs.declared.Worker.{Worker}
+use Rattle.trial.specs.declared.Setting.{Setting}
+use Rattle.trial.specs.Standing.{dealt, Coded, left-of}
+use Rattle.trial.specs.Running.{Held, waiting, nobody, Run}
+use Rattle.trial.specs.Start.{Entry, Starts, Crew}
+use Rattle.trial.proofs.Turns.{bound-is}
+
+-- ---- the tables
+
+class-most : (k : Class) → class-number k ≤ 2
+class-most shared = omega arith
+class-most lastprivate = omega arith
+class-most reduction = omega arith
+
+module _ (k : ℕ) (l : Loop) (M : List ℤ) (C : List ℕ) (n : ℕ) (h : Entry k l M C n) where
+  -- how many cells there are
+  pub entry-size : length M ≡ l .size
+  entry-size = ap length (h .cells) ∙ listed-length (l .size) (l .entry)
+
+  pub entry-low : (c : ℕ) → c < length M → (c ≤ 4096) × (k ≤ 8)
+  entry-low c b = let u = h .suits in (omega (arith, entry-size, u .cells-most), u .most)
+
+  pub entry-class : (c : ℕ) → c < length M → (c < length C) × (getD C c 0 ≤ 2)
+  entry-class c b =
+      let x : c < l .size = omega (arith, entry-size) in
+      (omega (arith, h .number), omega (arith, h .classes c x, class-most (l .class c)))
+
+  pub entry-room : (c : ℕ) → c < length M → row-at k c + 4 ≤ n
+  entry-room c b = omega (arith, h .room, rows-apart k c (l .size) (omega (arith, entry-size)))
+
+  pub entry-clear : Begun (l .size) k (l .class) (l .entry) 0 (replicate n 0)
+  entry-clear = begun-clear (l .size) k (l .class) (l .entry) n (h .room)
+
+  -- one cell more
+  pub entry-more : (c : ℕ) (W : List ℕ) → c < length M → SFits w32 (cellOf M c) → Begun (l .size) k (l .class) (l .entry) c W → Begun (l .size) k (l .class) (l .entry) (suc c) (entered W (row-at k c) (cellOf M c) (getD C c 0))
+  entry-more c W b f x =
+      let lt : c < l .size = omega (arith, entry-size) in
+      let e : cellOf M c ≡ l .entry c = ap (λ (m : List ℤ). cellOf m c) (h .cells) ∙ cell-listed (l .size) (l .entry) c lt in
+      rw (e, h .classes c lt) (begun-more (l .size) k (l .class) (l .entry) c W x lt (subst (SFits w32) e f))
+
+  pub entry-all : (c : ℕ) (W : List ℕ) → c ≡ length M → Begun (l .size) k (l .class) (l .entry) c W → Logged l (dealt l k) [] W
+  unfolding singles
+  entry-all c W e x = logged-nil l (dealt l k) (h .suits .plus) (h .suits .nought) W (subst (λ (d : ℕ). Begun (l .size) k (l .class) (l .entry) d W) (e ∙ entry-size) x)
+
+-- ---- the records
+
+-- one record more
+pub crew-more : (ws : List Worker) (q : ℕ) (f : ℕ → Worker) → q < length ws → ((j : ℕ) → j < q → getD ws j nobody ≡ f j) → (j : ℕ) → j < suc q → getD (set ws q (f q)) j nobody ≡ f j
+crew-more ws q f b h j c = elim (ℕ-discrete j q) [
+  | yes e ↦ rw e (getD-set-same ws q (f q) nobody b)
+  | no n ↦ getD-set-other ws q j (f q) nobody n ∙ h j (omega arith)
+]
+
+pub starts-run : (code : List ℕ) (g : Setting) (l : Loop) (M : List ℤ) (C : List ℕ) (n : ℕ) → Starts code g l M C n → (W : List ℕ) (ws : List Worker) → Logged l (dealt l (g .processors)) [] W → Crew g ws → Run code g l M W ws (start l (dealt l (g .processors)))
+unfolding left-of pendings
+starts-run code g l M C n h W ws t r = record {
+  running = record {
+    coded = h .coded;
+    iterations = h .iterations;
+    standing = record {
+      suits = h .entry .suits;
+      orderly = start-orderly l (dealt l (g .processors)) (h .entry .suits .proper);
+      cells = h .entry .cells;
+      words = t;
+    };
+  };
+  crew = λ q b. let e : bound (dealt l (g .processors)) q ≡ blockStart (g .iterations) (g .processors) q =
+      bound-is l (g .processors) q (h .entry .suits .some) (omega arith) ∙ ap (λ (m : ℕ). blockStart m (g .processors) q) (h .iterations) in
+      rw (r q b) (record {
+        holding = record { size = refl; most = omega arith };
+        at = e;
+        act = λ lt. h .coded .body (bound (dealt l (g .processors)) q) lt ∙ sym (pick-same {i = 0} refl _ _);
+      });
+}

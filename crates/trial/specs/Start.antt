@@ -1,0 +1,44 @@
+-- How a run begins, and what its functions promise.
+use mathlib.Core.Path.{_≡_}
+use mathlib.Core.List.{List, []}
+use Prim.Native.Nat.{ℕ, _≤_, _<_}
+use lib.ListN.{length, getD}
+use lib.IntN.{ℤ}
+use Rattle.rules.specs.Cells.{listed}
+use Rattle.rules.specs.Loop.{Loop}
+use Rattle.rules.specs.Blocks.{blockStart}
+use Rattle.rules.specs.Steps.{start}
+use Rattle.tables.specs.Layout.{row-at, class-number}
+use Rattle.tables.proofs.Logged.{Logged}
+use Rattle.trial.specs.declared.Worker.{Worker}
+use Rattle.trial.specs.declared.Setting.{Setting}
+use Rattle.trial.specs.Standing.{dealt, Suits, Coded}
+use Rattle.trial.specs.Running.{waiting, nobody, Run}
+
+-- the cells as lent are those at entry, the numbers C say their classes, and n words are enough
+pub record Entry (k : ℕ) (l : Loop) (M : List ℤ) (C : List ℕ) (n : ℕ) : Type 0 where
+  pub suits : Suits k l
+  pub cells : M ≡ listed (l .size) (l .entry)
+  pub number : l .size ≤ length C
+  pub classes : (c : ℕ) → c < l .size → getD C c 0 ≡ class-number (l .class c)
+  pub room : row-at k (l .size) ≤ n
+
+-- and the code and the setting are the loop's
+pub record Starts (code : List ℕ) (g : Setting) (l : Loop) (M : List ℤ) (C : List ℕ) (n : ℕ) : Type 0 where
+  pub coded : Coded code (g .from) l
+  pub iterations : l .iterations ≡ g .iterations
+  pub entry : Entry (g .processors) l M C n
+
+-- the tables of no access
+abbrev pub Enters : ℕ → List ℤ → List ℕ → ℕ → List ℕ → Type 0
+Enters k M C n W′ = (l : Loop) → Entry k l M C n → Logged l (dealt l k) [] W′
+
+-- each processor at the start of its block
+abbrev pub Crew : Setting → List Worker → Type 0
+Crew g ws = (q : ℕ) → q < g .processors → getD ws q nobody ≡ waiting (blockStart (g .iterations) (g .processors) q)
+
+abbrev pub CanBegin : Setting → List ℤ → List ℕ → ℕ → Type 0
+CanBegin g M C n = (code : List ℕ) × (l : Loop) × Starts code g l M C n
+
+abbrev pub Begins : Setting → List ℤ → List ℕ → ℕ → List ℕ → List Worker → Type 0
+Begins g M C n W′ ws = (code : List ℕ) (l : Loop) → Starts code g l M C n → Run code g l M W′ ws (start l (dealt l (g .processors)))
