@@ -1,7 +1,9 @@
--- What the functions cite: an access, the faults of code, a step, turns of processors, the start, the view.
+-- What the functions cite: an access, the faults of code, a step, that steps end, turns of processors, the run to the end, the start, the view.
 mod AccessLaws
 mod Faults
 mod Stepping
+mod Nearing
 mod Turns
+mod RunningOut
 mod Starting
 mod Viewing

@@ -218,11 +218,13 @@ module _ (code : List ℕ) (m : ℤ) (k : ℕ) (l : Loop) (M : List ℤ) (W : Li
   comes-update c x W′ e g = after-update code m k l M W s p a t o c x (on (pendings b (r .depth))) W′ b (reached (r .depth)) (came (Update c x) e) (g l s (can-update c x e)) refl refl
       (record { size = f .size; most = omega (arith, space (Update c x) e) }) refl
 
+  pub fault-some : (n d : ℕ) → r .done ≡ Fault n d → 0 < n
+  unfolding left
+  fault-some n d e = resume-fault (instructions code) (t .place) (pendings a (t .depth)) (m +ℤ pos (t .iteration .0)) n d (sym (open-act code m k l M W s p a t o) ∙ came (Fault n d) e)
+
   pub comes-fault : (n d : ℕ) → r .done ≡ Fault n d → Comes M W b (record { depth = r .depth; place = r .place; iteration = t .iteration; fault = n; line = d })
   unfolding left
-  comes-fault n d e = after-fault code m k l M W s p a t o n d b _ (came (Fault n d) e)
-      (resume-fault (instructions code) (t .place) (pendings a (t .depth)) (m +ℤ pos (t .iteration .0)) n d (sym (open-act code m k l M W s p a t o) ∙ came (Fault n d) e))
-      refl refl refl (record { size = f .size; most = omega (arith, space (Fault n d) e) })
+  comes-fault n d e = after-fault code m k l M W s p a t o n d b _ (came (Fault n d) e) (fault-some n d e) refl refl refl (record { size = f .size; most = omega (arith, space (Fault n d) e) })
 
   pub comes-end : (t′ : Point) → r .done ≡ End → t′ .iteration .0 ≡ t .iteration .0 + 1 → t′ .fault ≡ 0 → t′ .place ≡ 0 → t′ .depth ≡ 0 → Comes M W b t′
   unfolding left

@@ -1,8 +1,10 @@
 -- What one access of a processor does, and one step.
 use mathlib.Core.Path.{_≡_}
 use mathlib.Core.List.{List, _∷_}
-use Prim.Native.Nat.{ℕ, suc, _<_}
+use Prim.Native.Nat.{ℕ, suc, _+_, _-_, _*_, _/_, _<_}
+use lib.ListN.{length}
 use lib.IntN.{ℤ}
+use Rattle.rules.specs.Choose.{pick}
 use Rattle.rules.specs.Cells.{listed}
 use Rattle.rules.specs.Loop.{Loop, bound}
 use Rattle.rules.specs.Log.{reads, writes, updates, access}
@@ -45,3 +47,11 @@ CanStep code m k M W p a t = (l : Loop) × (s : State) × Open code m k l M W s 
 abbrev pub Steps : List ℕ → ℤ → ℕ → List ℤ → List ℕ → ℕ → List ℤ → Point → List ℤ → List ℕ → List ℤ → Point → Type 0
 Steps code m k M W p a t M′ W′ a′ t′ =
     (l : Loop) (s : State) → Open code m k l M W s p a t → Standing k l M′ W′ (step l (dealt l k) p s) × Placed code m l a′ t′ (step l (dealt l k) p s .places p)
+
+-- a number that falls with each step of a processor whose block ends at e, with n instructions
+unfoldable pub togo : ℕ → ℕ → Point → ℕ
+togo n e t = pick (t .fault) 0 (1 + ((e - t .iteration .0) * (n + 2) + (n - t .place))) 0
+
+-- it falls
+abbrev pub Nearer : List ℕ → Point → Point → Type 0
+Nearer code t t′ = (e : ℕ) → t .iteration .0 < e → togo (length code / 2) e t′ < togo (length code / 2) e t

@@ -6,7 +6,7 @@ ghost use lib.ListN.{length};
 ghost use lib.IntN.{pos, _+ℤ_};
 ghost use mir.Syntax.{w32};
 ghost use mir.Val.{SFits};
-ghost use Rattle.trial.specs.Accesses.{CanStep, Steps};
+ghost use Rattle.trial.specs.Accesses.{CanStep, Steps, Nearer};
 ghost use Rattle.trial.specs.Running.{waiting, HasTurn, TakesTurn, CanFollow, Follows};
 ghost use Rattle.trial.specs.Start.{Entry, Enters, Crew, CanBegin, Begins};
 ghost use Rattle.trial.specs.View.{Stands, Shown};
@@ -63,6 +63,7 @@ fn go_on(
 ) -> Point
     requires { ⌜ CanStep (now code) (setting .from) (setting .processors) (now cells) (now w) (p .0) (now pending) t ⌝ }
     ensures { λ r. ⌜ Steps (now (code .entry)) (setting .from) (setting .processors) (now (cells .entry)) (now (w .entry)) (p .0) (now (pending .entry)) t (now (cells .exit)) (now (w .exit)) (now (pending .exit)) r ⌝ }
+    ensures { λ r. ⌜ Nearer (now (code .entry)) t r ⌝ }
 {
     let i = t.iteration;
     let v = value_at(setting.from, i);
