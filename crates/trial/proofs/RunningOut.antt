@@ -2,11 +2,25 @@
 use mathlib.Core.Path.{_≡_, refl, sym, _∙_, ap}
 use mathlib.Core.Logic.{_≢_}
 use Prim.Native.Nat.{ℕ, zero, suc, _-_, _≤_, _<_}
+use native.Mathlib.Decide.{decLt}
 use native.Mathlib.Omega.{arith}
+use mathlib.Core.Logic.{_⊎_, inl, inr}
+use mathlib.Core.Bool.{Bool, true, false, _&&_}
+use mathlib.Core.List.{List}
+use lib.Dec.{eqb, ltb}
+use borrow.Author.Tests.{eqb-true, eqb-false, ltb-true, ltb-false}
+use lib.IntN.{ℤ}
 use Rattle.rules.specs.ChooseLaws.{put-same}
 use Rattle.rules.specs.Loop.{Act, read, write, update, fault, done, Loop, Partition, bound}
 use Rattle.rules.specs.Steps.{Place, State, opening, moved, given, stored, go-on, step, through, through-all, run-out}
+use Rattle.rules.specs.Blocks.{blockStart}
+use Rattle.trial.specs.declared.Point.{Point}
+use Rattle.trial.specs.declared.Worker.{Worker}
+use Rattle.trial.specs.declared.Setting.{Setting}
+use Rattle.trial.specs.Standing.{dealt, Standing}
+use Rattle.trial.specs.Running.{Held, Turn, opened}
 use Rattle.trial.proofs.Stepping.{step-is, step-other}
+use Rattle.trial.proofs.Turns.{turn-end, turn-fault, turn-stepped}
 
 module _ (l : Loop) (δ : Partition) (p : ℕ) where
   -- a processor that is finished, or stopped
@@ -82,3 +96,48 @@ module _ (l : Loop) (δ : Partition) (p : ℕ) where
     pub run-out-other : (s : State) → run-out l δ p s .places q ≡ s .places q
     unfolding run-out
     run-out-other s = all-other (bound δ (suc p) - s .places p .at) s
+
+-- ---- by the record
+
+opened-cases : (a b : Bool) → (a && b ≡ true → (a ≡ true) × (b ≡ true)) × (a && b ≡ false → (a ≡ false) ⊎ (b ≡ false))
+opened-cases true b = (λ e. (refl, e), λ e. inr e)
+opened-cases false b = (λ (e : false ≡ true). let z : _≡_ {A = ℕ} 0 1 = cc in absurd (omega arith), λ e. inl refl)
+
+pub opened-yes : (t : Point) (e : ℕ) → opened t e ≡ true → (t .fault ≡ 0) × (t .iteration .0 < e)
+unfolding opened
+opened-yes t e h = let x = opened-cases (eqb (t .fault) 0) (ltb (t .iteration .0) e) .0 h in (eqb-true (t .fault) 0 (x .0), ltb-true (t .iteration .0) e (x .1))
+
+pub opened-no : (t : Point) (e : ℕ) → opened t e ≡ false → (t .fault ≢ 0) ⊎ (e ≤ t .iteration .0)
+unfolding opened
+opened-no t e h = by (opened-cases (eqb (t .fault) 0) (ltb (t .iteration .0) e) .1 h)
+  where
+    by : (eqb (t .fault) 0 ≡ false) ⊎ (ltb (t .iteration .0) e ≡ false) → (t .fault ≢ 0) ⊎ (e ≤ t .iteration .0)
+    by (inl x) = inl (eqb-false (t .fault) 0 x)
+    by (inr x) = inr (ltb-false (t .iteration .0) e x)
+
+-- a processor that is neither has come to its end
+pub turn-over : (code : List ℕ) (g : Setting) (l : Loop) (M : List ℤ) (W : List ℕ) (s : State) (p : ℕ) (x : Worker) → Turn code g l M W s p x → (x .fault ≢ 0) ⊎ (blockStart (g .iterations) (g .processors) (suc p) ≤ x .iteration .0)
+    → run-out l (dealt l (g .processors)) p s ≡ s
+turn-over code g l M W s p x t (inr h) = run-out-finished l (dealt l (g .processors)) p s (omega (arith, turn-end code g l M W s p x t, t .held .at))
+turn-over code g l M W s p x t (inl n) = elim (decLt (s .places p .at) (bound (dealt l (g .processors)) (suc p))) [
+  | yes y ↦ run-out-stopped l (dealt l (g .processors)) p s (x .fault) (x .line) (turn-fault code g l M W s p x t n y)
+  | no y ↦ run-out-finished l (dealt l (g .processors)) p s (omega arith)
+]
+
+-- what a run to the end, begun in s, has come to
+abbrev pub Nears : List ℕ → Setting → Loop → List ℤ → List ℕ → State → ℕ → Worker → Type 0
+Nears code g l M W s p x = (u : State) × Turn code g l M W u p x × (run-out l (dealt l (g .processors)) p s ≡ run-out l (dealt l (g .processors)) p u)
+
+module _ (code : List ℕ) (g : Setting) (l : Loop) (M : List ℤ) (W : List ℕ) (s : State) (p : ℕ) (x : Worker) (n : Nears code g l M W s p x) where
+  -- one step more
+  pub nears-on : x .iteration .0 < blockStart (g .iterations) (g .processors) (suc p) → (M′ : List ℤ) (W′ : List ℕ) (x′ : Worker)
+      → Standing (g .processors) l M′ W′ (step l (dealt l (g .processors)) p (n .0)) × Held code g l x′ (step l (dealt l (g .processors)) p (n .0) .places p) → Nears code g l M′ W′ s p x′
+  nears-on b M′ W′ x′ h =
+      let (u, t, e) = n in
+      (step l (dealt l (g .processors)) p u, turn-stepped code g l M W u p x t M′ W′ x′ h, e ∙ run-out-step l (dealt l (g .processors)) p u (omega (arith, turn-end code g l M W u p x t, t .held .at)))
+
+  -- the end
+  pub nears-over : (x .fault ≢ 0) ⊎ (blockStart (g .iterations) (g .processors) (suc p) ≤ x .iteration .0) → Turn code g l M W (run-out l (dealt l (g .processors)) p s) p x
+  nears-over h =
+      let (u, t, e) = n in
+      rw (e ∙ turn-over code g l M W u p x t h) t

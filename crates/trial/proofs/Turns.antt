@@ -53,10 +53,14 @@ module _ (code : List ℕ) (g : Setting) (l : Loop) where
     pub turn-finished : blockStart (g .iterations) k (suc p) ≤ i → Turn code g l M W (step l δ p s) p x
     turn-finished h = idle (step-finished l δ p s (omega (arith, turn-end, t .held .at)))
 
-    pub turn-stopped : x .fault ≢ 0 → Turn code g l M W (step l δ p s) p x
+    -- what a stopped processor has left
+    pub turn-fault : x .fault ≢ 0 → s .places p .at < bound δ (suc p) → s .places p .act ≡ fault (x .fault) (x .line)
     unfolding left-of
+    turn-fault n y = t .held .act (home l δ (t .running .standing .suits .proper) p (s .places p .at) (t .running .standing .orderly .placed p) y .inside) ∙ pick-other n _ _
+
+    pub turn-stopped : x .fault ≢ 0 → Turn code g l M W (step l δ p s) p x
     turn-stopped n = idle (elim (decLt (s .places p .at) (bound δ (suc p))) [
-      | yes y ↦ step-stopped l δ p s (x .fault) (x .line) (t .held .act (home l δ (t .running .standing .suits .proper) p (s .places p .at) (t .running .standing .orderly .placed p) y .inside) ∙ pick-other n _ _)
+      | yes y ↦ step-stopped l δ p s (x .fault) (x .line) (turn-fault n y)
       | no y ↦ step-finished l δ p s (omega arith)
     ])
 
@@ -78,14 +82,18 @@ module _ (code : List ℕ) (g : Setting) (l : Loop) where
   pub run-turn : (M : List ℤ) (W : List ℕ) (ws : List Worker) (s : State) (p : ℕ) → Run code g l M W ws s → p < k → Turn code g l M W s p (getD ws p nobody)
   run-turn M W ws s p r b = record { running = r .running; low = b; held = r .crew p b }
 
-  pub run-stepped : (M : List ℤ) (W : List ℕ) (ws : List Worker) (s : State) (p : ℕ) → Run code g l M W ws s → p < length ws → (M′ : List ℤ) (W′ : List ℕ) (x′ : Worker) → Turn code g l M′ W′ (step l δ p s) p x′ → Run code g l M′ W′ (set ws p x′) (step l δ p s)
-  run-stepped M W ws s p r b M′ W′ x′ t = record {
+  -- processor p comes to another state with its record, and the others stay
+  pub run-moved : (M : List ℤ) (W : List ℕ) (ws : List Worker) (s u : State) (p : ℕ) → Run code g l M W ws s → p < length ws → ((q : ℕ) → p ≢ q → u .places q ≡ s .places q) → (M′ : List ℤ) (W′ : List ℕ) (x′ : Worker) → Turn code g l M′ W′ u p x′ → Run code g l M′ W′ (set ws p x′) u
+  run-moved M W ws s u p r b o M′ W′ x′ t = record {
     running = t .running;
     crew = λ q c. elim (ℕ-discrete p q) [
-      | yes e ↦ subst (λ (j : ℕ). Held code g l (getD (set ws p x′) j nobody) (step l δ p s .places j)) e (rw (getD-set-same ws p x′ nobody b) (t .held))
-      | no n ↦ rw (getD-set-other ws p q x′ nobody (λ (e : q ≡ p). n (sym e)), step-other l δ p s q n) (r .crew q c)
+      | yes e ↦ subst (λ (j : ℕ). Held code g l (getD (set ws p x′) j nobody) (u .places j)) e (rw (getD-set-same ws p x′ nobody b) (t .held))
+      | no n ↦ rw (getD-set-other ws p q x′ nobody (λ (e : q ≡ p). n (sym e)), o q n) (r .crew q c)
     ];
   }
+
+  pub run-stepped : (M : List ℤ) (W : List ℕ) (ws : List Worker) (s : State) (p : ℕ) → Run code g l M W ws s → p < length ws → (M′ : List ℤ) (W′ : List ℕ) (x′ : Worker) → Turn code g l M′ W′ (step l δ p s) p x′ → Run code g l M′ W′ (set ws p x′) (step l δ p s)
+  run-stepped M W ws s p r b = run-moved M W ws s (step l δ p s) p r b (λ q n. step-other l δ p s q n)
 
   -- one byte more of a schedule
   pub steps-more : (ps : List ℕ) (j : ℕ) (s : State) → j < length ps → steps l δ (take (suc j) ps) s ≡ step l δ (getD ps j 0) (steps l δ (take j ps) s)

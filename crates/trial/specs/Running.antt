@@ -1,11 +1,14 @@
 -- A run with its processors' records: what its state is, and what a step and a schedule do to it.
 use mathlib.Core.Path.{_≡_}
+use mathlib.Core.Bool.{Bool, _&&_}
 use mathlib.Core.List.{List, []}
+
 use Prim.Native.Nat.{ℕ, _<_}
+use lib.Dec.{eqb, ltb}
 use lib.ListN.{length, getD, replicate}
 use lib.IntN.{ℤ, pos}
 use Rattle.rules.specs.Loop.{Loop}
-use Rattle.rules.specs.Steps.{Place, State, step, steps}
+use Rattle.rules.specs.Steps.{Place, State, step, steps, run-out, run-on}
 use Rattle.trial.specs.declared.Point.{Point}
 use Rattle.trial.specs.declared.Worker.{Worker}
 use Rattle.trial.specs.declared.Setting.{Setting}
@@ -20,6 +23,10 @@ pub record Running (code : List ℕ) (g : Setting) (l : Loop) (M : List ℤ) (W 
 -- where a processor is, by its record
 abbrev pub point-of : Worker → Point
 point-of x = record { depth = x .depth; place = x .place; iteration = x .iteration; fault = x .fault; line = x .line }
+
+-- a record of pending values and a point
+abbrev pub joined : List ℤ → Point → Worker
+joined a t = record { pending = a; depth = t .depth; place = t .place; iteration = t .iteration; fault = t .fault; line = t .line }
 
 -- a processor's record stands for its place
 abbrev pub Held : List ℕ → Setting → Loop → Worker → Place → Type 0
@@ -65,3 +72,20 @@ CanFollow code g M W ws ps = (l : Loop) × (s : State) × Run code g l M W ws s 
 -- "In order, each names the processor that takes one step"
 abbrev pub Follows : List ℕ → Setting → List ℤ → List ℕ → List Worker → List ℕ → List ℤ → List ℕ → List Worker → Type 0
 Follows code g M W ws ps M′ W′ ws′ = (l : Loop) (s : State) → Run code g l M W ws s → Run code g l M′ W′ ws′ (steps l (dealt l (g .processors)) ps s)
+
+-- ---- the run to the end
+
+-- a processor whose block ends at e is neither stopped nor finished
+unfoldable pub opened : Point → ℕ → Bool
+opened t e = eqb (t .fault) 0 && ltb (t .iteration .0) e
+
+-- a processor "to its end"
+abbrev pub RunsOut : List ℕ → Setting → List ℤ → List ℕ → ℕ → Worker → List ℤ → List ℕ → Worker → Type 0
+RunsOut code g M W p x M′ W′ x′ = (l : Loop) (s : State) → Turn code g l M W s p x → Turn code g l M′ W′ (run-out l (dealt l (g .processors)) p s) p x′
+
+abbrev pub CanRun : List ℕ → Setting → List ℤ → List ℕ → List Worker → Type 0
+CanRun code g M W ws = (l : Loop) × (s : State) × Run code g l M W ws s
+
+-- "After the list, processors run to their end in number order"
+abbrev pub RunsOn : List ℕ → Setting → List ℤ → List ℕ → List Worker → List ℤ → List ℕ → List Worker → Type 0
+RunsOn code g M W ws M′ W′ ws′ = (l : Loop) (s : State) → Run code g l M W ws s → Run code g l M′ W′ ws′ (run-on l (dealt l (g .processors)) (g .processors) s)

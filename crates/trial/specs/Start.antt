@@ -7,13 +7,13 @@ use lib.IntN.{ℤ}
 use Rattle.rules.specs.Cells.{listed}
 use Rattle.rules.specs.Loop.{Loop}
 use Rattle.rules.specs.Blocks.{blockStart}
-use Rattle.rules.specs.Steps.{start}
+use Rattle.rules.specs.Steps.{start, trial}
 use Rattle.tables.specs.Layout.{row-at, class-number}
 use Rattle.tables.proofs.Logged.{Logged}
 use Rattle.trial.specs.declared.Worker.{Worker}
 use Rattle.trial.specs.declared.Setting.{Setting}
 use Rattle.trial.specs.Standing.{dealt, Suits, Coded}
-use Rattle.trial.specs.Running.{waiting, nobody, Run}
+use Rattle.trial.specs.Running.{waiting, nobody, Names, Run}
 
 -- the cells as lent are those at entry, the numbers C say their classes, and n words are enough
 pub record Entry (k : ℕ) (l : Loop) (M : List ℤ) (C : List ℕ) (n : ℕ) : Type 0 where
@@ -42,3 +42,12 @@ CanBegin g M C n = (code : List ℕ) × (l : Loop) × Starts code g l M C n
 
 abbrev pub Begins : Setting → List ℤ → List ℕ → ℕ → List ℕ → List Worker → Type 0
 Begins g M C n W′ ws = (code : List ℕ) (l : Loop) → Starts code g l M C n → Run code g l M W′ ws (start l (dealt l (g .processors)))
+
+-- ---- the trial
+
+abbrev pub CanTry : List ℕ → Setting → List ℤ → List ℕ → List ℕ → ℕ → Type 0
+CanTry code g M C ps n = (l : Loop) × Starts code g l M C n × Names g ps
+
+-- it takes the schedule's bytes and runs on to the end
+abbrev pub Tries : List ℕ → Setting → List ℤ → List ℕ → List ℕ → ℕ → List ℤ → List ℕ → List Worker → Type 0
+Tries code g M C ps n M′ W′ ws = (l : Loop) → Starts code g l M C n → Run code g l M′ W′ ws (trial l (dealt l (g .processors)) ps)

@@ -7,8 +7,8 @@ ghost use lib.IntN.{pos, _+ℤ_};
 ghost use mir.Syntax.{w32};
 ghost use mir.Val.{SFits};
 ghost use Rattle.trial.specs.Accesses.{CanStep, Steps, Nearer};
-ghost use Rattle.trial.specs.Running.{waiting, HasTurn, TakesTurn, CanFollow, Follows};
-ghost use Rattle.trial.specs.Start.{Entry, Enters, Crew, CanBegin, Begins};
+ghost use Rattle.trial.specs.Running.{waiting, HasTurn, TakesTurn, CanFollow, Follows, opened, RunsOut, CanRun, RunsOn};
+ghost use Rattle.trial.specs.Start.{Entry, Enters, Crew, CanBegin, Begins, CanTry, Tries};
 ghost use Rattle.trial.specs.View.{Stands, Shown};
 ghost use Rattle.rules.specs.Loop.{Loop};
 use machine::Move;
@@ -192,6 +192,73 @@ pub fn follow(
     ws
 }
 
+// Whether a processor whose block ends at an iteration is neither stopped nor finished.
+fn is_open(t: Point, end: Iteration) -> bool
+    ensures { λ r. ⌜ r ≡ opened t (end .0) ⌝ }
+{
+    if t.fault == 0 { t.iteration.0 < end.0 } else { false }
+}
+
+// A processor to its end. Its record is taken apart once.
+pub fn run_out(
+    code: &[u32],
+    setting: Setting,
+    p: Processor,
+    cells: &mut [i32],
+    w: &mut [u32],
+    worker: Worker,
+) -> Worker
+    requires { ⌜ HasTurn (now code) setting (now cells) (now w) (p .0) worker ⌝ }
+    ensures { λ r. ⌜ RunsOut (now (code .entry)) setting (now (cells .entry)) (now (w .entry)) (p .0) worker (now (cells .exit)) (now (w .exit)) r ⌝ }
+{
+    let after = Processor(p.0 + 1);
+    let end = rules::block_start(setting.iterations, setting.processors, after);
+    let i = worker.iteration;
+    let mut pending = worker.pending;
+    let mut t = Point {
+        depth: worker.depth,
+        place: worker.place,
+        iteration: i,
+        fault: worker.fault,
+        line: worker.line,
+    };
+    while is_open(t, end) {
+        t = go_on(code, setting, p, cells, w, &mut pending, t);
+    }
+    let j = t.iteration;
+    Worker {
+        pending: pending,
+        depth: t.depth,
+        place: t.place,
+        iteration: j,
+        fault: t.fault,
+        line: t.line,
+    }
+}
+
+// All processors to their end, in number order.
+pub fn run_on(
+    code: &[u32],
+    setting: Setting,
+    cells: &mut [i32],
+    w: &mut [u32],
+    workers: [Worker; 8],
+) -> [Worker; 8]
+    requires { ⌜ CanRun (now code) setting (now cells) (now w) workers ⌝ }
+    ensures { λ r. ⌜ RunsOn (now (code .entry)) setting (now (cells .entry)) (now (w .entry)) workers (now (cells .exit)) (now (w .exit)) r ⌝ }
+{
+    let mut ws = workers;
+    let mut q: u32 = 0;
+    while q < setting.processors {
+        let p = Processor(q);
+        let x = ws[q as usize];
+        let y = run_out(code, setting, p, cells, w, x);
+        ws[q as usize] = y;
+        q += 1;
+    }
+    ws
+}
+
 // The tables of no access: the entry value and the class of each cell, 0 shared, 1 lastprivate, 2 reduction.
 fn enter(processors: usize, cells: &[i32], classes: &[u32], w: &mut [u32])
     requires { ⌜ ((l : Loop) × Entry processors l (now cells) (now classes) (length (now w))) ⌝ }
@@ -247,6 +314,23 @@ pub fn begin(setting: Setting, classes: &[u32], cells: &[i32], w: &mut [u32]) ->
 {
     enter(setting.processors as usize, cells, classes, w);
     crew(setting)
+}
+
+// The trial of a loop: the schedule's steps, and then all processors to their end. The answer is the processors' records.
+pub fn trial(
+    code: &[u32],
+    setting: Setting,
+    classes: &[u32],
+    schedule: &[u8],
+    cells: &mut [i32],
+    w: &mut [u32],
+) -> [Worker; 8]
+    requires { ⌜ CanTry (now code) setting (now cells) (now classes) (now schedule) (length (now w)) ⌝ }
+    ensures { λ r. ⌜ Tries (now (code .entry)) setting (now (cells .entry)) (now (classes .entry)) (now (schedule .entry)) (length (now (w .entry))) (now (cells .exit)) (now (w .exit)) r ⌝ }
+{
+    let first = begin(setting, classes, cells, w);
+    let then = follow(code, setting, schedule, cells, w, first);
+    run_on(code, setting, cells, w, then)
 }
 
 // What Look shows: for each cell the word of its shared value, and its marks.

@@ -1,0 +1,140 @@
+-- `trial::run_on` meets its contract: the processors below q have run to their end.
+use borrow.Author.Needs.{needs}
+use mathlib.Core.Path.{_≡_, refl, sym}
+use Prim.Native.Nat.{ℕ, _≤_, _<_, _-_}
+use native.Mathlib.Numerals.{add-one}
+use native.Mathlib.Omega.{arith}
+use lib.ListN.{length, length-set}
+use Rattle.rules.specs.Loop.{Loop}
+use Rattle.rules.specs.Steps.{State, run-out, run-on}
+use Rattle.trial.specs.Standing.{dealt}
+use Rattle.trial.specs.Running.{Run}
+use Rattle.trial.proofs.Turns.{run-turn, run-moved}
+use Rattle.trial.proofs.RunningOut.{run-out-other}
+use Rattle.trial.proofs.run_on.Statement.{statement}
+use Rattle.trial.proofs.run_on.Tie as tie
+use Rattle.trial.proofs.run_on.Reads as reads
+use Rattle.trial.proofs.run_on.Lts as lts
+use Rattle.trial.proofs.run_out.Reads as run-out-reads
+
+abbrev Inv-loop : tie.InvT-loop
+Inv-loop code setting cells₀ w₀ ws₀ q₀ cells w ws q =
+    (q ≤ setting .processors)
+    × (length cells ≡ length cells₀)
+    × (length w ≡ length w₀)
+    × (length ws ≡ 8)
+    × ((l : Loop) (s : State) → Run code setting l cells₀ w₀ ws₀ s → Run code setting l cells w ws (run-on l (dealt l (setting .processors)) q s))
+
+abbrev μ-loop : tie.MeasureT-loop
+μ-loop code setting cells₀ w₀ ws₀ q₀ cells w ws q = setting .processors - q
+
+-- src/lib.rt:252:5
+loop-holds : tie.Need-loop-holds Inv-loop μ-loop
+unfolding run-on
+loop-holds c = (omega arith, refl, refl, search needs, λ l s r. r)
+
+-- src/lib.rt:254:20
+cast-x : tie.Need-cast-x Inv-loop μ-loop
+cast-x c = search needs
+
+-- src/lib.rt:254:17
+mul-x : tie.Need-mul-x Inv-loop μ-loop
+mul-x c =
+    let (l, s, r) = c .before .before .before .before .before .pre in
+    omega (arith, c .if1 .taken, r .running .standing .suits .most)
+
+-- src/lib.rt:254:17
+array-copy-out-x : tie.Need-array-copy-out-x Inv-loop μ-loop
+array-copy-out-x c =
+    let (l, s, r) = c .before .before .before .before .before .pre in
+    omega (arith, c .if1 .taken, r .running .standing .suits .most)
+
+-- src/lib.rt:255:13
+run-out-requires : tie.Need-run-out-requires Inv-loop μ-loop
+run-out-requires c κs =
+    let a = c .before .before .before .before .before .before .before .before .args in
+    let (l, s, r) = c .before .before .before .before .before .before .before .before .pre in
+    let u = c .before .before .before .before .before .loop in
+    (l, run-on l (dealt l (a .setting .processors)) (u .q) s, run-turn (a .code .now) (a .setting) l (u .cells) (u .w) (u .ws) (run-on l (dealt l (a .setting .processors)) (u .q) s) (u .q) (u .inv .4 l s r) (c .before .before .before .if1 .taken))
+
+-- src/lib.rt:256:12
+cast-ws : tie.Need-cast-ws Inv-loop μ-loop
+cast-ws c = search needs
+
+-- src/lib.rt:256:9
+mul-ws : tie.Need-mul-ws Inv-loop μ-loop
+mul-ws c =
+    let (l, s, r) = c .before .before .before .before .before .before .before .before .before .before .before .before .pre in
+    omega (arith, c .before .before .before .before .before .before .before .if1 .taken, r .running .standing .suits .most)
+
+-- src/lib.rt:256:9
+array-set-from-ws : tie.Need-array-set-from-ws Inv-loop μ-loop
+array-set-from-ws c =
+    let (l, s, r) = c .before .before .before .before .before .before .before .before .before .before .before .before .pre in
+    omega (arith, c .before .before .before .before .before .before .before .if1 .taken, r .running .standing .suits .most)
+
+-- src/lib.rt:257:9
+add-q : tie.Need-add-q Inv-loop μ-loop
+add-q c = search needs
+
+-- src/lib.rt:252:5
+loop-less : tie.Need-loop-less Inv-loop μ-loop
+loop-less c = search needs
+
+-- src/lib.rt:252:5
+loop-again : tie.Need-loop-again Inv-loop μ-loop
+unfolding run-on
+loop-again c =
+    let a = c .before .before .before .before .before .before .before .before .before .before .before .before .args in
+    let (l₀, s₀, r₀) = c .before .before .before .before .before .before .before .before .before .before .before .before .pre in
+    let u = c .before .before .before .before .before .before .before .before .before .loop in
+    let lt = c .before .before .before .before .before .before .before .if1 .taken in
+    let h : u .q < length (u .ws) = omega (arith, lt, r₀ .running .standing .suits .most, u .inv .3) in
+    (
+      omega (arith, lt),
+      search needs,
+      search needs,
+      simp length-set (u .inv .3),
+      λ l s r.
+        let v = run-on l (dealt l (a .setting .processors)) (u .q) s in
+        rw add-one
+        (run-moved (a .code .now) (a .setting) l (u .cells) (u .w) (u .ws) v (run-out l (dealt l (a .setting .processors)) (u .q) v) (u .q) (u .inv .4 l s r) h (λ j n. run-out-other l (dealt l (a .setting .processors)) (u .q) j n v) _ _ _
+        (c .before .before .before .run-out .ensures l v (run-turn (a .code .now) (a .setting) l (u .cells) (u .w) (u .ws) v (u .q) (u .inv .4 l s r) lt))),
+    )
+
+-- src/lib.rt:240:1
+same-length : tie.Need-same-length Inv-loop μ-loop
+same-length c = search needs
+
+-- src/lib.rt:240:1
+same-length-2 : tie.Need-same-length-2 Inv-loop μ-loop
+same-length-2 c = search needs
+
+-- src/lib.rt:240:1
+returns : tie.Need-returns Inv-loop μ-loop
+returns c =
+    let a = c .before .before .before .before .before .args in
+    let u = c .before .before .loop in
+    let e : u .q ≡ a .setting .processors = omega (arith, u .inv .0, c .if1 .left) in
+    λ l s r. rw e at (u .inv .4 l s r)
+
+pub run-on-spec : {M : Type 1} → statement M
+run-on-spec =
+    tie.close
+    (tie.spec
+    Inv-loop
+    μ-loop
+    loop-holds
+    cast-x
+    mul-x
+    array-copy-out-x
+    run-out-requires
+    cast-ws
+    mul-ws
+    array-set-from-ws
+    add-q
+    loop-less
+    loop-again
+    same-length
+    same-length-2
+    returns)
