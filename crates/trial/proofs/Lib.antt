@@ -1,4 +1,4 @@
--- What the functions cite: an access, the faults of code, a step, that steps end, turns of processors, the run to the end, the start, the view.
+-- What the functions cite: an access, the faults of code, a step, that steps end, turns of processors, the run to the end, the start, the view, what is read off.
 mod AccessLaws
 mod Faults
 mod Stepping
@@ -7,3 +7,4 @@ mod Turns
 mod RunningOut
 mod Starting
 mod Viewing
+mod ReadingOff

@@ -2,13 +2,15 @@
 use mathlib.Core.Path.{_≡_, refl, sym, _∙_, ap}
 use mathlib.Core.Logic.{_≢_}
 use Prim.Native.Nat.{ℕ, zero, suc, _-_, _≤_, _<_}
-use native.Mathlib.Decide.{decLt}
+use native.Mathlib.Decide.{ℕ-discrete, decLt}
 use native.Mathlib.Omega.{arith}
 use mathlib.Core.Logic.{_⊎_, inl, inr}
 use mathlib.Core.Bool.{Bool, true, false, _&&_}
 use mathlib.Core.List.{List}
 use lib.Dec.{eqb, ltb}
 use borrow.Author.Tests.{eqb-true, eqb-false, ltb-true, ltb-false}
+use lib.ListN.{length, getD, set}
+use lib.Seq.{getD-set-same, getD-set-other}
 use lib.IntN.{ℤ}
 use Rattle.rules.specs.ChooseLaws.{put-same}
 use Rattle.rules.specs.Loop.{Act, read, write, update, fault, done, Loop, Partition, bound}
@@ -18,7 +20,7 @@ use Rattle.trial.specs.declared.Point.{Point}
 use Rattle.trial.specs.declared.Worker.{Worker}
 use Rattle.trial.specs.declared.Setting.{Setting}
 use Rattle.trial.specs.Standing.{dealt, Standing}
-use Rattle.trial.specs.Running.{Held, Turn, opened}
+use Rattle.trial.specs.Running.{Held, nobody, Turn, opened, Over}
 use Rattle.trial.proofs.Stepping.{step-is, step-other}
 use Rattle.trial.proofs.Turns.{turn-end, turn-fault, turn-stepped}
 
@@ -115,6 +117,11 @@ opened-no t e h = by (opened-cases (eqb (t .fault) 0) (ltb (t .iteration .0) e) 
     by (inl x) = inl (eqb-false (t .fault) 0 x)
     by (inr x) = inr (ltb-false (t .iteration .0) e x)
 
+-- a number other than 0 is above it
+pub over-by : {n : ℕ} {A : Type 0} → (n ≢ 0) ⊎ A → (0 < n) ⊎ A
+over-by (inl h) = inl (omega arith)
+over-by (inr a) = inr a
+
 -- a processor that is neither has come to its end
 pub turn-over : (code : List ℕ) (g : Setting) (l : Loop) (M : List ℤ) (W : List ℕ) (s : State) (p : ℕ) (x : Worker) → Turn code g l M W s p x → (x .fault ≢ 0) ⊎ (blockStart (g .iterations) (g .processors) (suc p) ≤ x .iteration .0)
     → run-out l (dealt l (g .processors)) p s ≡ s
@@ -131,13 +138,20 @@ Nears code g l M W s p x = (u : State) × Turn code g l M W u p x × (run-out l 
 module _ (code : List ℕ) (g : Setting) (l : Loop) (M : List ℤ) (W : List ℕ) (s : State) (p : ℕ) (x : Worker) (n : Nears code g l M W s p x) where
   -- one step more
   pub nears-on : x .iteration .0 < blockStart (g .iterations) (g .processors) (suc p) → (M′ : List ℤ) (W′ : List ℕ) (x′ : Worker)
-      → Standing (g .processors) l M′ W′ (step l (dealt l (g .processors)) p (n .0)) × Held code g l x′ (step l (dealt l (g .processors)) p (n .0) .places p) → Nears code g l M′ W′ s p x′
-  nears-on b M′ W′ x′ h =
+      → Standing (g .processors) l M′ W′ (step l (dealt l (g .processors)) p (n .0)) × Held code g l x′ (step l (dealt l (g .processors)) p (n .0) .places p) → (0 < x′ .fault → x′ .iteration .0 ≡ x .iteration .0) → Nears code g l M′ W′ s p x′
+  nears-on b M′ W′ x′ h f =
       let (u, t, e) = n in
-      (step l (dealt l (g .processors)) p u, turn-stepped code g l M W u p x t M′ W′ x′ h, e ∙ run-out-step l (dealt l (g .processors)) p u (omega (arith, turn-end code g l M W u p x t, t .held .at)))
+      (step l (dealt l (g .processors)) p u, turn-stepped code g l M W u p x t M′ W′ x′ h f b, e ∙ run-out-step l (dealt l (g .processors)) p u (omega (arith, turn-end code g l M W u p x t, t .held .at)))
 
   -- the end
   pub nears-over : (x .fault ≢ 0) ⊎ (blockStart (g .iterations) (g .processors) (suc p) ≤ x .iteration .0) → Turn code g l M W (run-out l (dealt l (g .processors)) p s) p x
   nears-over h =
       let (u, t, e) = n in
       rw (e ∙ turn-over code g l M W u p x t h) t
+
+-- one processor more is over
+pub over-more : (g : Setting) (ws : List Worker) (q : ℕ) (x : Worker) → q < length ws → ((j : ℕ) → j < q → Over g j (getD ws j nobody)) → Over g q x → (j : ℕ) → j < suc q → Over g j (getD (set ws q x) j nobody)
+over-more g ws q x b h o j c = elim (ℕ-discrete j q) [
+  | yes e ↦ rw (e, getD-set-same ws q x nobody b) o
+  | no n ↦ rw (getD-set-other ws q j x nobody n) (h j (omega arith))
+]

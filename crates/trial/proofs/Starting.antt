@@ -96,4 +96,5 @@ starts-run code g l M C n h W ws t r = record {
         at = e;
         act = λ lt. h .coded .body (bound (dealt l (g .processors)) q) lt ∙ sym (pick-same {i = 0} refl _ _);
       });
+  halted = λ q b x. absurd (omega (arith, x, ap (λ (y : Worker). y .fault) (r q b)));
 }

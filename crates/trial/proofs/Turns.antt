@@ -74,13 +74,18 @@ module _ (code : List ℕ) (g : Setting) (l : Loop) where
       unstopped = f;
     }
 
-    pub turn-stepped : (M′ : List ℤ) (W′ : List ℕ) (x′ : Worker) → Standing k l M′ W′ (step l δ p s) × Held code g l x′ (step l δ p s .places p) → Turn code g l M′ W′ (step l δ p s) p x′
-    turn-stepped M′ W′ x′ (a, b) = record { running = record { coded = t .running .coded; iterations = t .running .iterations; standing = a }; low = t .low; held = b }
+    pub turn-stepped : (M′ : List ℤ) (W′ : List ℕ) (x′ : Worker) → Standing k l M′ W′ (step l δ p s) × Held code g l x′ (step l δ p s .places p) → (0 < x′ .fault → x′ .iteration .0 ≡ i) → i < blockStart (g .iterations) k (suc p) → Turn code g l M′ W′ (step l δ p s) p x′
+    turn-stepped M′ W′ x′ (a, b) f h = record {
+      running = record { coded = t .running .coded; iterations = t .running .iterations; standing = a };
+      low = t .low;
+      held = b;
+      halted = λ y. omega (arith, b .at, f y, turn-end);
+    }
 
   -- ---- all of them
 
   pub run-turn : (M : List ℤ) (W : List ℕ) (ws : List Worker) (s : State) (p : ℕ) → Run code g l M W ws s → p < k → Turn code g l M W s p (getD ws p nobody)
-  run-turn M W ws s p r b = record { running = r .running; low = b; held = r .crew p b }
+  run-turn M W ws s p r b = record { running = r .running; low = b; held = r .crew p b; halted = r .halted p b }
 
   -- processor p comes to another state with its record, and the others stay
   pub run-moved : (M : List ℤ) (W : List ℕ) (ws : List Worker) (s u : State) (p : ℕ) → Run code g l M W ws s → p < length ws → ((q : ℕ) → p ≢ q → u .places q ≡ s .places q) → (M′ : List ℤ) (W′ : List ℕ) (x′ : Worker) → Turn code g l M′ W′ u p x′ → Run code g l M′ W′ (set ws p x′) u
@@ -89,6 +94,10 @@ module _ (code : List ℕ) (g : Setting) (l : Loop) where
     crew = λ q c. elim (ℕ-discrete p q) [
       | yes e ↦ subst (λ (j : ℕ). Held code g l (getD (set ws p x′) j nobody) (u .places j)) e (rw (getD-set-same ws p x′ nobody b) (t .held))
       | no n ↦ rw (getD-set-other ws p q x′ nobody (λ (e : q ≡ p). n (sym e)), o q n) (r .crew q c)
+    ];
+    halted = λ q c. elim (ℕ-discrete p q) [
+      | yes e ↦ subst (λ (j : ℕ). 0 < getD (set ws p x′) j nobody .fault → u .places j .at < bound δ (suc j)) e (rw (getD-set-same ws p x′ nobody b) (t .halted))
+      | no n ↦ rw (getD-set-other ws p q x′ nobody (λ (e : q ≡ p). n (sym e)), o q n) (r .halted q c)
     ];
   }
 

@@ -52,6 +52,10 @@ Steps code m k M W p a t M′ W′ a′ t′ =
 unfoldable pub togo : ℕ → ℕ → Point → ℕ
 togo n e t = pick (t .fault) 0 (1 + ((e - t .iteration .0) * (n + 2) + (n - t .place))) 0
 
+-- it stops in its iteration
+abbrev pub Halts : Point → Point → Type 0
+Halts t t′ = 0 < t′ .fault → t′ .iteration .0 ≡ t .iteration .0
+
 -- it falls
 abbrev pub Nearer : List ℕ → Point → Point → Type 0
 Nearer code t t′ = (e : ℕ) → t .iteration .0 < e → togo (length code / 2) e t′ < togo (length code / 2) e t

@@ -4,3 +4,4 @@ pub mod Running
 pub mod Accesses
 pub mod Start
 pub mod View
+pub mod ReadOff

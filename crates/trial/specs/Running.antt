@@ -1,13 +1,15 @@
 -- A run with its processors' records: what its state is, and what a step and a schedule do to it.
 use mathlib.Core.Path.{_≡_}
+use mathlib.Core.Logic.{_⊎_}
 use mathlib.Core.Bool.{Bool, _&&_}
 use mathlib.Core.List.{List, []}
 
-use Prim.Native.Nat.{ℕ, _<_}
+use Prim.Native.Nat.{ℕ, suc, _≤_, _<_}
 use lib.Dec.{eqb, ltb}
 use lib.ListN.{length, getD, replicate}
 use lib.IntN.{ℤ, pos}
-use Rattle.rules.specs.Loop.{Loop}
+use Rattle.rules.specs.Loop.{Loop, bound}
+use Rattle.rules.specs.Blocks.{blockStart}
 use Rattle.rules.specs.Steps.{Place, State, step, steps, run-out, run-on}
 use Rattle.trial.specs.declared.Point.{Point}
 use Rattle.trial.specs.declared.Worker.{Worker}
@@ -44,6 +46,8 @@ nobody = record { pending = []; depth = 0; place = 0; iteration = record { 0 = 0
 pub record Run (code : List ℕ) (g : Setting) (l : Loop) (M : List ℤ) (W : List ℕ) (ws : List Worker) (s : State) : Type 0 where
   pub running : Running code g l M W s
   pub crew : (q : ℕ) → q < g .processors → Held code g l (getD ws q nobody) (s .places q)
+  -- a stopped processor is in its block
+  pub halted : (q : ℕ) → q < g .processors → 0 < getD ws q nobody .fault → s .places q .at < bound (dealt l (g .processors)) (suc q)
 
 -- ---- a step
 
@@ -52,6 +56,7 @@ pub record Turn (code : List ℕ) (g : Setting) (l : Loop) (M : List ℤ) (W : L
   pub running : Running code g l M W s
   pub low : p < g .processors
   pub held : Held code g l x (s .places p)
+  pub halted : 0 < x .fault → s .places p .at < bound (dealt l (g .processors)) (suc p)
 
 abbrev pub HasTurn : List ℕ → Setting → List ℤ → List ℕ → ℕ → Worker → Type 0
 HasTurn code g M W p x = (l : Loop) × (s : State) × Turn code g l M W s p x
@@ -82,6 +87,14 @@ opened t e = eqb (t .fault) 0 && ltb (t .iteration .0) e
 -- a processor "to its end"
 abbrev pub RunsOut : List ℕ → Setting → List ℤ → List ℕ → ℕ → Worker → List ℤ → List ℕ → Worker → Type 0
 RunsOut code g M W p x M′ W′ x′ = (l : Loop) (s : State) → Turn code g l M W s p x → Turn code g l M′ W′ (run-out l (dealt l (g .processors)) p s) p x′
+
+-- it was stopped, or its block is done
+abbrev pub Over : Setting → ℕ → Worker → Type 0
+Over g p x = (0 < x .fault) ⊎ (blockStart (g .iterations) (g .processors) (suc p) ≤ x .iteration .0)
+
+-- of all of them
+abbrev pub AllOver : Setting → List Worker → Type 0
+AllOver g ws = (q : ℕ) → q < g .processors → Over g q (getD ws q nobody)
 
 abbrev pub CanRun : List ℕ → Setting → List ℤ → List ℕ → List Worker → Type 0
 CanRun code g M W ws = (l : Loop) × (s : State) × Run code g l M W ws s

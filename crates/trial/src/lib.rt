@@ -6,8 +6,8 @@ ghost use lib.ListN.{length};
 ghost use lib.IntN.{pos, _+ℤ_};
 ghost use mir.Syntax.{w32};
 ghost use mir.Val.{SFits};
-ghost use Rattle.trial.specs.Accesses.{CanStep, Steps, Nearer};
-ghost use Rattle.trial.specs.Running.{waiting, HasTurn, TakesTurn, CanFollow, Follows, opened, RunsOut, CanRun, RunsOn};
+ghost use Rattle.trial.specs.Accesses.{CanStep, Steps, Nearer, Halts};
+ghost use Rattle.trial.specs.Running.{waiting, HasTurn, TakesTurn, CanFollow, Follows, opened, RunsOut, Over, AllOver, CanRun, RunsOn};
 ghost use Rattle.trial.specs.Start.{Entry, Enters, Crew, CanBegin, Begins, CanTry, Tries};
 ghost use Rattle.trial.specs.View.{Stands, Shown};
 ghost use Rattle.rules.specs.Loop.{Loop};
@@ -16,6 +16,7 @@ use rules::Iteration;
 use rules::Processor;
 
 mod access;
+pub mod result;
 
 // Where a processor is: how many values are pending, its place in the code and its iteration; 0 or the number of the fault that stopped it, and that fault's line.
 pub struct Point {
@@ -64,6 +65,7 @@ fn go_on(
     requires { ⌜ CanStep (now code) (setting .from) (setting .processors) (now cells) (now w) (p .0) (now pending) t ⌝ }
     ensures { λ r. ⌜ Steps (now (code .entry)) (setting .from) (setting .processors) (now (cells .entry)) (now (w .entry)) (p .0) (now (pending .entry)) t (now (cells .exit)) (now (w .exit)) (now (pending .exit)) r ⌝ }
     ensures { λ r. ⌜ Nearer (now (code .entry)) t r ⌝ }
+    ensures { λ r. ⌜ Halts t r ⌝ }
 {
     let i = t.iteration;
     let v = value_at(setting.from, i);
@@ -210,6 +212,7 @@ pub fn run_out(
 ) -> Worker
     requires { ⌜ HasTurn (now code) setting (now cells) (now w) (p .0) worker ⌝ }
     ensures { λ r. ⌜ RunsOut (now (code .entry)) setting (now (cells .entry)) (now (w .entry)) (p .0) worker (now (cells .exit)) (now (w .exit)) r ⌝ }
+    ensures { λ r. ⌜ Over setting (p .0) r ⌝ }
 {
     let after = Processor(p.0 + 1);
     let end = rules::block_start(setting.iterations, setting.processors, after);
@@ -246,6 +249,7 @@ pub fn run_on(
 ) -> [Worker; 8]
     requires { ⌜ CanRun (now code) setting (now cells) (now w) workers ⌝ }
     ensures { λ r. ⌜ RunsOn (now (code .entry)) setting (now (cells .entry)) (now (w .entry)) workers (now (cells .exit)) (now (w .exit)) r ⌝ }
+    ensures { λ r. ⌜ AllOver setting r ⌝ }
 {
     let mut ws = workers;
     let mut q: u32 = 0;
@@ -327,6 +331,7 @@ pub fn trial(
 ) -> [Worker; 8]
     requires { ⌜ CanTry (now code) setting (now cells) (now classes) (now schedule) (length (now w)) ⌝ }
     ensures { λ r. ⌜ Tries (now (code .entry)) setting (now (cells .entry)) (now (classes .entry)) (now (schedule .entry)) (length (now (w .entry))) (now (cells .exit)) (now (w .exit)) r ⌝ }
+    ensures { λ r. ⌜ AllOver setting r ⌝ }
 {
     let first = begin(setting, classes, cells, w);
     let then = follow(code, setting, schedule, cells, w, first);

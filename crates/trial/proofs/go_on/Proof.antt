@@ -130,7 +130,7 @@ returns c =
     let r = c .before .before .before .before .read-cell in
     (
       λ l s o. comes-read (a .code .now) (a .setting .from) (a .setting .processors) l (a .cells .now) (a .w .now) s (a .p .0) (a .pending .now) (a .t) o (toZ w32 (ofZ w32 (x .result))) (d .last .1 .1 .1 .0) (d .result) (d .ensures) v (g .0) (r .result) _ _ (c .push .result) m (r .ensures) (rw y at (c .push .ensures)),
-      nearer-access (a .code .now) (a .t) (a .pending .now) (toZ w32 (ofZ w32 (x .result))) (d .last .1 .1 .1 .0) (d .result) (d .ensures) (Read (g .0)) m (omega arith) (o₀ .unstopped) _ refl refl refl,
+      (nearer-access (a .code .now) (a .t) (a .pending .now) (toZ w32 (ofZ w32 (x .result))) (d .last .1 .1 .1 .0) (d .result) (d .ensures) (Read (g .0)) m (omega arith) (o₀ .unstopped) _ refl refl refl, λ z. refl),
     )
 
 same-length-3 : tie.Need-same-length-3
@@ -153,7 +153,7 @@ returns-2 c =
     let m : d .result .done ≡ Write (g .0) (g .1 .0) = cc in
     (
       λ l s o. comes-write (a .code .now) (a .setting .from) (a .setting .processors) l (a .cells .now) (a .w .now) s (a .p .0) (a .pending .now) (a .t) o (toZ w32 (ofZ w32 (x .result))) (d .last .1 .1 .1 .0) (d .result) (d .ensures) v (g .0) (g .1 .0) _ _ m (rw y at (c .before .before .before .write-cell .ensures)),
-      nearer-access (a .code .now) (a .t) (a .pending .now) (toZ w32 (ofZ w32 (x .result))) (d .last .1 .1 .1 .0) (d .result) (d .ensures) (Write (g .0) (g .1 .0)) m (omega arith) (o₀ .unstopped) _ refl refl refl,
+      (nearer-access (a .code .now) (a .t) (a .pending .now) (toZ w32 (ofZ w32 (x .result))) (d .last .1 .1 .1 .0) (d .result) (d .ensures) (Write (g .0) (g .1 .0)) m (omega arith) (o₀ .unstopped) _ refl refl refl, λ z. refl),
     )
 
 same-length-5 : tie.Need-same-length-5
@@ -176,7 +176,7 @@ returns-3 c =
     let m : d .result .done ≡ Update (g .0) (g .1 .0) = cc in
     (
       λ l s o. comes-update (a .code .now) (a .setting .from) (a .setting .processors) l (a .cells .now) (a .w .now) s (a .p .0) (a .pending .now) (a .t) o (toZ w32 (ofZ w32 (x .result))) (d .last .1 .1 .1 .0) (d .result) (d .ensures) v (g .0) (g .1 .0) _ m (rw y at (c .before .before .update-cell .ensures)),
-      nearer-access (a .code .now) (a .t) (a .pending .now) (toZ w32 (ofZ w32 (x .result))) (d .last .1 .1 .1 .0) (d .result) (d .ensures) (Update (g .0) (g .1 .0)) m (omega arith) (o₀ .unstopped) _ refl refl refl,
+      (nearer-access (a .code .now) (a .t) (a .pending .now) (toZ w32 (ofZ w32 (x .result))) (d .last .1 .1 .1 .0) (d .result) (d .ensures) (Update (g .0) (g .1 .0)) m (omega arith) (o₀ .unstopped) _ refl refl refl, λ z. refl),
     )
 
 returns-4 : tie.Need-returns-4
@@ -192,7 +192,7 @@ returns-4 c =
     let m : d .result .done ≡ Fault (g .0) (g .1 .0) = cc in
     (
       λ l s o. comes-fault (a .code .now) (a .setting .from) (a .setting .processors) l (a .cells .now) (a .w .now) s (a .p .0) (a .pending .now) (a .t) o (toZ w32 (ofZ w32 (x .result))) (d .last .1 .1 .1 .0) (d .result) (d .ensures) v (g .0) (g .1 .0) m,
-      λ n _. nearer-fault (length (a .code .now) / 2) n (a .t) _ (o₀ .unstopped) (fault-some (a .code .now) (a .setting .from) (a .setting .processors) l₀ (a .cells .now) (a .w .now) s₀ (a .p .0) (a .pending .now) (a .t) o₀ (toZ w32 (ofZ w32 (x .result))) (d .last .1 .1 .1 .0) (d .result) (d .ensures) v (g .0) (g .1 .0) m),
+      (λ n _. nearer-fault (length (a .code .now) / 2) n (a .t) _ (o₀ .unstopped) (fault-some (a .code .now) (a .setting .from) (a .setting .processors) l₀ (a .cells .now) (a .w .now) s₀ (a .p .0) (a .pending .now) (a .t) o₀ (toZ w32 (ofZ w32 (x .result))) (d .last .1 .1 .1 .0) (d .result) (d .ensures) v (g .0) (g .1 .0) m), λ z. refl),
     )
 
 returns-5 : tie.Need-returns-5
@@ -207,7 +207,7 @@ returns-5 c =
     let m : d .result .done ≡ End = cc in
     (
       λ l s o. comes-end (a .code .now) (a .setting .from) (a .setting .processors) l (a .cells .now) (a .w .now) s (a .p .0) (a .pending .now) (a .t) o (toZ w32 (ofZ w32 (x .result))) (d .last .1 .1 .1 .0) (d .result) (d .ensures) v _ m refl refl refl refl,
-      λ n b. nearer-end (length (a .code .now) / 2) n (a .t) _ (o₀ .unstopped) refl refl b,
+      (λ n b. nearer-end (length (a .code .now) / 2) n (a .t) _ (o₀ .unstopped) refl refl b, λ z. absurd (omega (arith, z))),
     )
 
 pub go-on-spec : {M : Type 1} → statement M

@@ -4,13 +4,13 @@ use mathlib.Core.Path.{_≡_, refl, sym}
 use Prim.Native.Nat.{ℕ, _≤_, _<_, _-_}
 use native.Mathlib.Numerals.{add-one}
 use native.Mathlib.Omega.{arith}
-use lib.ListN.{length, length-set}
+use lib.ListN.{length, getD, length-set}
 use Rattle.rules.specs.Loop.{Loop}
 use Rattle.rules.specs.Steps.{State, run-out, run-on}
 use Rattle.trial.specs.Standing.{dealt}
-use Rattle.trial.specs.Running.{Run}
+use Rattle.trial.specs.Running.{nobody, Run, Over}
 use Rattle.trial.proofs.Turns.{run-turn, run-moved}
-use Rattle.trial.proofs.RunningOut.{run-out-other}
+use Rattle.trial.proofs.RunningOut.{run-out-other, over-more}
 use Rattle.trial.proofs.run_on.Statement.{statement}
 use Rattle.trial.proofs.run_on.Tie as tie
 use Rattle.trial.proofs.run_on.Reads as reads
@@ -24,6 +24,7 @@ Inv-loop code setting cells₀ w₀ ws₀ q₀ cells w ws q =
     × (length w ≡ length w₀)
     × (length ws ≡ 8)
     × ((l : Loop) (s : State) → Run code setting l cells₀ w₀ ws₀ s → Run code setting l cells w ws (run-on l (dealt l (setting .processors)) q s))
+    × ((j : ℕ) → j < q → Over setting j (getD ws j nobody))
 
 abbrev μ-loop : tie.MeasureT-loop
 μ-loop code setting cells₀ w₀ ws₀ q₀ cells w ws q = setting .processors - q
@@ -31,7 +32,7 @@ abbrev μ-loop : tie.MeasureT-loop
 -- src/lib.rt:252:5
 loop-holds : tie.Need-loop-holds Inv-loop μ-loop
 unfolding run-on
-loop-holds c = (omega arith, refl, refl, search needs, λ l s r. r)
+loop-holds c = (omega arith, refl, refl, search needs, λ l s r. r, λ j b. absurd (omega (arith, b)))
 
 -- src/lib.rt:254:20
 cast-x : tie.Need-cast-x Inv-loop μ-loop
@@ -99,7 +100,8 @@ loop-again c =
         let v = run-on l (dealt l (a .setting .processors)) (u .q) s in
         rw add-one
         (run-moved (a .code .now) (a .setting) l (u .cells) (u .w) (u .ws) v (run-out l (dealt l (a .setting .processors)) (u .q) v) (u .q) (u .inv .4 l s r) h (λ j n. run-out-other l (dealt l (a .setting .processors)) (u .q) j n v) _ _ _
-        (c .before .before .before .run-out .ensures l v (run-turn (a .code .now) (a .setting) l (u .cells) (u .w) (u .ws) v (u .q) (u .inv .4 l s r) lt))),
+        (c .before .before .before .run-out .ensures .0 l v (run-turn (a .code .now) (a .setting) l (u .cells) (u .w) (u .ws) v (u .q) (u .inv .4 l s r) lt))),
+      rw add-one (over-more (a .setting) (u .ws) (u .q) _ h (u .inv .5) (c .before .before .before .run-out .ensures .1)),
     )
 
 -- src/lib.rt:240:1
@@ -116,7 +118,7 @@ returns c =
     let a = c .before .before .before .before .before .args in
     let u = c .before .before .loop in
     let e : u .q ≡ a .setting .processors = omega (arith, u .inv .0, c .if1 .left) in
-    λ l s r. rw e at (u .inv .4 l s r)
+    (λ l s r. rw e at (u .inv .4 l s r), rw e at (u .inv .5))
 
 pub run-on-spec : {M : Type 1} → statement M
 run-on-spec =

@@ -12,7 +12,7 @@ use Rattle.rules.specs.Steps.{State}
 use Rattle.trial.specs.Accesses.{togo}
 use Rattle.trial.specs.Running.{Turn, joined}
 use Rattle.trial.proofs.Turns.{turn-open}
-use Rattle.trial.proofs.RunningOut.{opened-yes, opened-no, Nears, nears-on, nears-over}
+use Rattle.trial.proofs.RunningOut.{opened-yes, opened-no, over-by, Nears, nears-on, nears-over}
 use Rattle.trial.proofs.run_out.Statement.{statement}
 use Rattle.trial.proofs.run_out.Tie as tie
 use Rattle.trial.proofs.run_out.Reads as reads
@@ -62,7 +62,7 @@ go-on-requires c κs =
 loop-less : tie.Need-loop-less Inv-loop μ-loop
 loop-less c =
     let u = c .before .before .before .before .before .before .before .before .before .loop in
-    c .before .before .before .go-on .ensures .1 _ (opened-yes (u .t) _ (sym (c .before .before .before .before .before .before .before .before .is-open .ensures) ∙ c .before .before .before .before .before .before .before .if1 .taken) .1)
+    c .before .before .before .go-on .ensures .1 .0 _ (opened-yes (u .t) _ (sym (c .before .before .before .before .before .before .before .before .is-open .ensures) ∙ c .before .before .before .before .before .before .before .if1 .taken) .1)
 
 -- src/lib.rt:225:5
 loop-again : tie.Need-loop-again Inv-loop μ-loop
@@ -78,7 +78,7 @@ loop-again c =
       search needs,
       search needs,
       c .before .before .before .go-on .ensures .0 l₀ (n₀ .0) (turn-open (a .code .now) (a .setting) l₀ (u .cells) (u .w) (n₀ .0) (a .p .0) (joined (u .pending) (u .t)) (n₀ .1) (o .0) b) .1 .holding .size,
-      λ l s t. let n = u .inv .3 l s t in nears-on (a .code .now) (a .setting) l (u .cells) (u .w) s (a .p .0) (joined (u .pending) (u .t)) n b _ _ _ (c .before .before .before .go-on .ensures .0 l (n .0) (turn-open (a .code .now) (a .setting) l (u .cells) (u .w) (n .0) (a .p .0) (joined (u .pending) (u .t)) (n .1) (o .0) b)),
+      λ l s t. let n = u .inv .3 l s t in nears-on (a .code .now) (a .setting) l (u .cells) (u .w) s (a .p .0) (joined (u .pending) (u .t)) n b _ _ _ (c .before .before .before .go-on .ensures .0 l (n .0) (turn-open (a .code .now) (a .setting) l (u .cells) (u .w) (n .0) (a .p .0) (joined (u .pending) (u .t)) (n .1) (o .0) b)) (c .before .before .before .go-on .ensures .1 .1),
     )
 
 -- src/lib.rt:203:1
@@ -96,7 +96,7 @@ returns c =
     let u = c .before .before .before .loop in
     let e : c .before .before .before .before .before .before .block-start .result .0 ≡ blockStart (a .setting .iterations) (a .setting .processors) (suc (a .p .0)) = c .before .before .before .before .before .before .block-start .ensures ∙ ap (λ (n : ℕ). blockStart (a .setting .iterations) (a .setting .processors) n) (add-one (a .p .0)) in
     let o = rw e at (opened-no (u .t) (c .before .before .before .before .before .before .block-start .result .0) (sym (c .before .before .is-open .ensures) ∙ c .before .if1 .left)) in
-    λ l s t. nears-over (a .code .now) (a .setting) l (u .cells) (u .w) s (a .p .0) (joined (u .pending) (u .t)) (u .inv .3 l s t) o
+    (λ l s t. nears-over (a .code .now) (a .setting) l (u .cells) (u .w) s (a .p .0) (joined (u .pending) (u .t)) (u .inv .3 l s t) o, over-by o)
 
 pub run-out-spec : {M : Type 1} → statement M
 run-out-spec =

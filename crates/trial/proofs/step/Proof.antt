@@ -55,7 +55,7 @@ returns-3 : tie.Need-returns-3
 returns-3 c =
     let a = c .before .before .before .before .before .before .before .before .before .before .before .before .before .before .before .before .before .before .before .args in
     let e : c .before .before .before .before .before .before .before .before .before .before .before .before .before .before .before .block-start .result .0 ≡ blockStart (a .setting .iterations) (a .setting .processors) (suc (a .p .0)) = c .before .before .before .before .before .before .before .before .before .before .before .before .before .before .before .block-start .ensures ∙ ap (λ (n : ℕ). blockStart (a .setting .iterations) (a .setting .processors) n) (add-one (a .p .0)) in
-    λ l s t. turn-stepped (a .code .now) (a .setting) l (a .cells .now) (a .w .now) s (a .p .0) (a .worker) t _ _ _ (c .before .before .before .before .go-on .ensures .0 l s (turn-open (a .code .now) (a .setting) l (a .cells .now) (a .w .now) s (a .p .0) (a .worker) t (c .before .before .before .before .before .before .before .before .before .before .before .before .if1 .left) (omega (arith, e, c .before .before .before .before .before .before .before .before .before .if2 .left))))
+    λ l s t. turn-stepped (a .code .now) (a .setting) l (a .cells .now) (a .w .now) s (a .p .0) (a .worker) t _ _ _ (c .before .before .before .before .go-on .ensures .0 l s (turn-open (a .code .now) (a .setting) l (a .cells .now) (a .w .now) s (a .p .0) (a .worker) t (c .before .before .before .before .before .before .before .before .before .before .before .before .if1 .left) (omega (arith, e, c .before .before .before .before .before .before .before .before .before .if2 .left)))) (c .before .before .before .before .go-on .ensures .1 .1) (omega (arith, e, c .before .before .before .before .before .before .before .before .before .if2 .left))
 
 pub step-spec : {M : Type 1} → statement M
 step-spec =
