@@ -6,7 +6,7 @@ use mathlib.Core.List.{List, [], _∷_}
 use Prim.Native.Nat.{ℕ, zero, suc, _+_, _*_, _≤_, _<_}
 use native.Mathlib.Decide.{ℕ-discrete, decLt}
 use native.Mathlib.Omega.{arith}
-use lib.ListN.{length, getD, set}
+use lib.ListN.{length, getD, set, length-set}
 use lib.Seq.{getD-set-same, getD-set-other}
 use lib.IntN.{ℤ, pos}
 use Rattle.int32.specs.Integers.{value}
@@ -16,6 +16,7 @@ use Rattle.rules.specs.Cells.{cellOf, listed}
 use Rattle.rules.proofs.CellsLaws.{listed-length, cell-listed, listed-same, listed-cells}
 use Rattle.rules.specs.Loop.{Act, fault, Loop, Partition, bound}
 use Rattle.rules.specs.Blocks.{singles}
+use Rattle.rules.specs.Log.{only}
 use Rattle.rules.specs.Obstacles.{ObstacleAt, Obstructed}
 use Rattle.rules.specs.Merge.{pairs, written-cells}
 use Rattle.rules.specs.Steps.{State, Faulty, IsFault}
@@ -60,6 +61,10 @@ set-all f M₀ c M h e g k =
 
 -- ---- by what they stand for
 
+-- whether a cell has an obstacle, by its row
+abbrev pub blocked-at : List ℕ → ℕ → ℕ → Bool
+blocked-at W k c = blocked (getD W (row-at k c + 1) 0) (getD W (row-at k c + 2) 0) (getD W (row-at k c + 3) 0)
+
 module _ (k : ℕ) (l : Loop) (M : List ℤ) (W : List ℕ) (s : State) (h : Standing k l M W s) where
   abbrev δ : Partition
   δ = dealt l k
@@ -75,17 +80,14 @@ module _ (k : ℕ) (l : Loop) (M : List ℤ) (W : List ℕ) (s : State) (h : Sta
   standing-cells = logged-cells l δ (s .log) W (h .words) shows
 
   -- a cell's obstacle
-  abbrev blocked-at : ℕ → Bool
-  blocked-at c = blocked (getD W (row-at k c + 1) 0) (getD W (row-at k c + 2) 0) (getD W (row-at k c + 3) 0)
-
-  pub standing-obstacle : (c : ℕ) → c < length M → ObstacleAt (l .class c) (λ i. only (δ .group) i (s .log)) c ↔ (blocked-at c ≡ true)
+  pub standing-obstacle : (c : ℕ) → c < length M → ObstacleAt (l .class c) (λ i. only (δ .group) i (s .log)) c ↔ (blocked-at W k c ≡ true)
   unfolding singles
   standing-obstacle c b = logged-obstacle l δ (s .log) W (h .words) shows c (omega (arith, standing-size k l M W s h))
 
-  pub standing-obstructed : (c : ℕ) → c < length M → blocked-at c ≡ true → Obstructed l (δ .group) (s .log)
+  pub standing-obstructed : (c : ℕ) → c < length M → blocked-at W k c ≡ true → Obstructed l (δ .group) (s .log)
   standing-obstructed c b e = (c, standing-obstacle c b .1 e)
 
-  pub standing-free : ((c : ℕ) → c < length M → blocked-at c ≡ false) → Obstructed l (δ .group) (s .log) → ⊥
+  pub standing-free : ((c : ℕ) → c < length M → blocked-at W k c ≡ false) → Obstructed l (δ .group) (s .log) → ⊥
   standing-free f o =
       let x = obstructed-right l δ (s .log) (table l δ (s .log)) (h .orderly .inside) shows in
       let (c, b, y) = x .0 o in

@@ -198,7 +198,11 @@ pub fn follow(
 fn is_open(t: Point, end: Iteration) -> bool
     ensures { λ r. ⌜ r ≡ opened t (end .0) ⌝ }
 {
-    if t.fault == 0 { t.iteration.0 < end.0 } else { false }
+    if t.fault == 0 {
+        t.iteration.0 < end.0
+    } else {
+        false
+    }
 }
 
 // A processor to its end. Its record is taken apart once.

@@ -127,8 +127,7 @@ returns c =
     let v : toZ w32 (ofZ w32 (x .result)) ≡ a .setting .from +ℤ pos (a .t .iteration .0) = f ∙ x .ensures ∙ ap (λ (z : ℤ). z +ℤ pos (a .t .iteration .0)) e in
     let g = c .before .before .before .before .before .before .before .before .done .given .0 in
     let m : d .result .done ≡ Read (g .0) = cc in
-    let r = c .before .before .before .before .read-cell in
-    (
+    let r = c .before .before .before .before .read-cell in (
       λ l s o. comes-read (a .code .now) (a .setting .from) (a .setting .processors) l (a .cells .now) (a .w .now) s (a .p .0) (a .pending .now) (a .t) o (toZ w32 (ofZ w32 (x .result))) (d .last .1 .1 .1 .0) (d .result) (d .ensures) v (g .0) (r .result) _ _ (c .push .result) m (r .ensures) (rw y at (c .push .ensures)),
       (nearer-access (a .code .now) (a .t) (a .pending .now) (toZ w32 (ofZ w32 (x .result))) (d .last .1 .1 .1 .0) (d .result) (d .ensures) (Read (g .0)) m (omega arith) (o₀ .unstopped) _ refl refl refl, λ z. refl),
     )
@@ -150,8 +149,7 @@ returns-2 c =
     let d = c .before .before .before .before .before .before .before .before .before .advance in
     let v : toZ w32 (ofZ w32 (x .result)) ≡ a .setting .from +ℤ pos (a .t .iteration .0) = f ∙ x .ensures ∙ ap (λ (z : ℤ). z +ℤ pos (a .t .iteration .0)) e in
     let g = c .before .before .before .before .before .before .before .done2 .given .0 in
-    let m : d .result .done ≡ Write (g .0) (g .1 .0) = cc in
-    (
+    let m : d .result .done ≡ Write (g .0) (g .1 .0) = cc in (
       λ l s o. comes-write (a .code .now) (a .setting .from) (a .setting .processors) l (a .cells .now) (a .w .now) s (a .p .0) (a .pending .now) (a .t) o (toZ w32 (ofZ w32 (x .result))) (d .last .1 .1 .1 .0) (d .result) (d .ensures) v (g .0) (g .1 .0) _ _ m (rw y at (c .before .before .before .write-cell .ensures)),
       (nearer-access (a .code .now) (a .t) (a .pending .now) (toZ w32 (ofZ w32 (x .result))) (d .last .1 .1 .1 .0) (d .result) (d .ensures) (Write (g .0) (g .1 .0)) m (omega arith) (o₀ .unstopped) _ refl refl refl, λ z. refl),
     )
@@ -173,8 +171,7 @@ returns-3 c =
     let d = c .before .before .before .before .before .before .before .before .advance in
     let v : toZ w32 (ofZ w32 (x .result)) ≡ a .setting .from +ℤ pos (a .t .iteration .0) = f ∙ x .ensures ∙ ap (λ (z : ℤ). z +ℤ pos (a .t .iteration .0)) e in
     let g = c .before .before .before .before .before .before .done3 .given .0 in
-    let m : d .result .done ≡ Update (g .0) (g .1 .0) = cc in
-    (
+    let m : d .result .done ≡ Update (g .0) (g .1 .0) = cc in (
       λ l s o. comes-update (a .code .now) (a .setting .from) (a .setting .processors) l (a .cells .now) (a .w .now) s (a .p .0) (a .pending .now) (a .t) o (toZ w32 (ofZ w32 (x .result))) (d .last .1 .1 .1 .0) (d .result) (d .ensures) v (g .0) (g .1 .0) _ m (rw y at (c .before .before .update-cell .ensures)),
       (nearer-access (a .code .now) (a .t) (a .pending .now) (toZ w32 (ofZ w32 (x .result))) (d .last .1 .1 .1 .0) (d .result) (d .ensures) (Update (g .0) (g .1 .0)) m (omega arith) (o₀ .unstopped) _ refl refl refl, λ z. refl),
     )
@@ -189,8 +186,7 @@ returns-4 c =
     let d = c .before .before .before .advance in
     let v : toZ w32 (ofZ w32 (x .result)) ≡ a .setting .from +ℤ pos (a .t .iteration .0) = f ∙ x .ensures ∙ ap (λ (z : ℤ). z +ℤ pos (a .t .iteration .0)) e in
     let g = c .before .done4 .given .0 in
-    let m : d .result .done ≡ Fault (g .0) (g .1 .0) = cc in
-    (
+    let m : d .result .done ≡ Fault (g .0) (g .1 .0) = cc in (
       λ l s o. comes-fault (a .code .now) (a .setting .from) (a .setting .processors) l (a .cells .now) (a .w .now) s (a .p .0) (a .pending .now) (a .t) o (toZ w32 (ofZ w32 (x .result))) (d .last .1 .1 .1 .0) (d .result) (d .ensures) v (g .0) (g .1 .0) m,
       (λ n _. nearer-fault (length (a .code .now) / 2) n (a .t) _ (o₀ .unstopped) (fault-some (a .code .now) (a .setting .from) (a .setting .processors) l₀ (a .cells .now) (a .w .now) s₀ (a .p .0) (a .pending .now) (a .t) o₀ (toZ w32 (ofZ w32 (x .result))) (d .last .1 .1 .1 .0) (d .result) (d .ensures) v (g .0) (g .1 .0) m), λ z. refl),
     )
@@ -204,8 +200,7 @@ returns-5 c =
     let x = c .before .before .before .before .before .before .value-at in
     let d = c .before .before .before .advance in
     let v : toZ w32 (ofZ w32 (x .result)) ≡ a .setting .from +ℤ pos (a .t .iteration .0) = f ∙ x .ensures ∙ ap (λ (z : ℤ). z +ℤ pos (a .t .iteration .0)) e in
-    let m : d .result .done ≡ End = cc in
-    (
+    let m : d .result .done ≡ End = cc in (
       λ l s o. comes-end (a .code .now) (a .setting .from) (a .setting .processors) l (a .cells .now) (a .w .now) s (a .p .0) (a .pending .now) (a .t) o (toZ w32 (ofZ w32 (x .result))) (d .last .1 .1 .1 .0) (d .result) (d .ensures) v _ m refl refl refl refl,
       (λ n b. nearer-end (length (a .code .now) / 2) n (a .t) _ (o₀ .unstopped) refl refl b, λ z. absurd (omega (arith, z))),
     )

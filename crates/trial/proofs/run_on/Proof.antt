@@ -90,17 +90,16 @@ loop-again c =
     let (l₀, s₀, r₀) = c .before .before .before .before .before .before .before .before .before .before .before .before .pre in
     let u = c .before .before .before .before .before .before .before .before .before .loop in
     let lt = c .before .before .before .before .before .before .before .if1 .taken in
-    let h : u .q < length (u .ws) = omega (arith, lt, r₀ .running .standing .suits .most, u .inv .3) in
-    (
+    let h : u .q < length (u .ws) = omega (arith, lt, r₀ .running .standing .suits .most, u .inv .3) in (
       omega (arith, lt),
       search needs,
       search needs,
       simp length-set (u .inv .3),
       λ l s r.
-        let v = run-on l (dealt l (a .setting .processors)) (u .q) s in
-        rw add-one
-        (run-moved (a .code .now) (a .setting) l (u .cells) (u .w) (u .ws) v (run-out l (dealt l (a .setting .processors)) (u .q) v) (u .q) (u .inv .4 l s r) h (λ j n. run-out-other l (dealt l (a .setting .processors)) (u .q) j n v) _ _ _
-        (c .before .before .before .run-out .ensures .0 l v (run-turn (a .code .now) (a .setting) l (u .cells) (u .w) (u .ws) v (u .q) (u .inv .4 l s r) lt))),
+          let v = run-on l (dealt l (a .setting .processors)) (u .q) s in
+          rw add-one
+          (run-moved (a .code .now) (a .setting) l (u .cells) (u .w) (u .ws) v (run-out l (dealt l (a .setting .processors)) (u .q) v) (u .q) (u .inv .4 l s r) h (λ j n. run-out-other l (dealt l (a .setting .processors)) (u .q) j n v) _ _ _
+          (c .before .before .before .run-out .ensures .0 l v (run-turn (a .code .now) (a .setting) l (u .cells) (u .w) (u .ws) v (u .q) (u .inv .4 l s r) lt))),
       rw add-one (over-more (a .setting) (u .ws) (u .q) _ h (u .inv .5) (c .before .before .before .run-out .ensures .1)),
     )
 

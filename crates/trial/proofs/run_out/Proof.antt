@@ -73,8 +73,7 @@ loop-again c =
     let e : c .before .before .before .before .before .before .before .before .before .before .before .before .block-start .result .0 ≡ blockStart (a .setting .iterations) (a .setting .processors) (suc (a .p .0)) = c .before .before .before .before .before .before .before .before .before .before .before .before .block-start .ensures ∙ ap (λ (n : ℕ). blockStart (a .setting .iterations) (a .setting .processors) n) (add-one (a .p .0)) in
     let o = opened-yes (u .t) (c .before .before .before .before .before .before .before .before .before .before .before .before .block-start .result .0) (sym (c .before .before .before .before .before .before .before .before .is-open .ensures) ∙ c .before .before .before .before .before .before .before .if1 .taken) in
     let b : u .t .iteration .0 < blockStart (a .setting .iterations) (a .setting .processors) (suc (a .p .0)) = omega (arith, e, o .1) in
-    let n₀ = u .inv .3 l₀ s₀ t₀ in
-    (
+    let n₀ = u .inv .3 l₀ s₀ t₀ in (
       search needs,
       search needs,
       c .before .before .before .go-on .ensures .0 l₀ (n₀ .0) (turn-open (a .code .now) (a .setting) l₀ (u .cells) (u .w) (n₀ .0) (a .p .0) (joined (u .pending) (u .t)) (n₀ .1) (o .0) b) .1 .holding .size,

@@ -41,8 +41,7 @@ same-length-2 c = search needs
 returns : tie.Need-returns
 unfolding trial singles
 returns c =
-    let a = c .before .before .before .before .before .before .before .before .before .before .before .before .before .before .before .before .before .before .before .before .before .args in
-    (
+    let a = c .before .before .before .before .before .before .before .before .before .before .before .before .before .before .before .before .before .before .before .before .before .args in (
       λ l h. c .before .before .before .run-on .ensures .0 l (steps l (dealt l (a .setting .processors)) (a .schedule .now) (start l (dealt l (a .setting .processors)))) (c .before .before .before .before .before .before .before .before .before .follow .ensures l (start l (dealt l (a .setting .processors))) (c .before .before .before .before .before .before .before .before .before .before .before .before .before .before .begin .ensures (a .code .now) l h)),
       c .before .before .before .run-on .ensures .1,
     )

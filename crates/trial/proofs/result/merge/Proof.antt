@@ -1,3 +1,20 @@
+-- `trial::result::merge` meets its contract: the cells passed are merged.
+use borrow.Author.Needs.{needs}
+use mathlib.Core.Path.{_≡_, refl, sym, _∙_, ap}
+use Prim.Native.Nat.{ℕ, _≤_, _-_}
+use native.Mathlib.Numerals.{add-one}
+use native.Mathlib.Omega.{arith}
+use mir.Syntax.{w32}
+use mir.Val.{toZ, ofZ}
+use lib.IntN.{pos}
+use lib.ListN.{length, getD}
+use Rattle.rules.specs.Cells.{cellOf, listed}
+use Rattle.rules.specs.Merge.{merged}
+use Rattle.tables.specs.Layout.{row-at}
+use Rattle.trial.specs.Standing.{dealt}
+use Rattle.trial.proofs.Viewing.{standing-size, standing-low, standing-room}
+use Rattle.trial.proofs.ReadingOff.{Setting-to, set-none, set-more, set-all, standing-merged}
+use Rattle.tables.specs.Changes as changes
 use Rattle.trial.proofs.result.merge.Statement.{statement}
 use Rattle.trial.proofs.result.merge.Tie as tie
 use Rattle.trial.proofs.result.merge.Reads as reads
@@ -6,58 +23,82 @@ use Rattle.tables.proofs.merged_value.Reads as merged-value-reads
 use Rattle.tables.proofs.row_of.Reads as row-of-reads
 
 abbrev Inv-loop : tie.InvT-loop
-Inv-loop processors cells₀ w c₀ cells c = ?
+Inv-loop processors cells₀ w c₀ cells c = (c ≤ length cells₀) × Setting-to (λ j. changes.merged w (row-at processors j) processors (cellOf cells₀ j)) cells₀ c cells
 
 abbrev μ-loop : tie.MeasureT-loop
-μ-loop processors cells₀ w c₀ cells c = ?
+μ-loop processors cells₀ w c₀ cells c = length cells₀ - c
 
 -- src/result.rt:48:5
 loop-holds : tie.Need-loop-holds Inv-loop μ-loop
-loop-holds c = ?
+loop-holds c =
+    let a = c .before .args in
+    (omega arith, set-none (λ j. changes.merged (a .w .now) (row-at (a .processors) j) (a .processors) (cellOf (a .cells .now) j)) (a .cells .now))
 
 -- src/result.rt:49:13
 row-of-requires : tie.Need-row-of-requires Inv-loop μ-loop
-row-of-requires c κs = ?
+row-of-requires c κs =
+    let a = c .before .before .before .args in
+    let (l, s, h) = c .before .before .before .pre in
+    standing-low (a .processors) l (a .cells .now) (a .w .now) s h (c .before .loop .c) (omega (arith, c .before .loop .inv .1 .size, c .loop-test .taken))
 
 -- src/result.rt:50:49
 mul-merged-value : tie.Need-mul-merged-value Inv-loop μ-loop
-mul-merged-value c = ?
+mul-merged-value c = search needs
 
 -- src/result.rt:50:49
 slice-copy-out-merged-value : tie.Need-slice-copy-out-merged-value Inv-loop μ-loop
-slice-copy-out-merged-value c = ?
+slice-copy-out-merged-value c = search needs
 
 -- src/result.rt:50:20
 merged-value-requires : tie.Need-merged-value-requires Inv-loop μ-loop
-merged-value-requires c κs = ?
+merged-value-requires c κs =
+    let a = c .before .before .before .before .before .args in
+    let (l, s, h) = c .before .before .before .before .before .pre in
+    omega (arith, c .before .row-of .ensures, standing-room (a .processors) l (a .cells .now) (a .w .now) s h (c .before .before .before .loop .c) (omega (arith, c .before .before .before .loop .inv .1 .size, c .before .before .loop-test .taken)))
 
 -- src/result.rt:50:9
 mul-t11 : tie.Need-mul-t11 Inv-loop μ-loop
-mul-t11 c = ?
+mul-t11 c = search needs
 
 -- src/result.rt:50:9
 slice-set-from-cells : tie.Need-slice-set-from-cells Inv-loop μ-loop
-slice-set-from-cells c = ?
+slice-set-from-cells c = search needs
 
 -- src/result.rt:51:9
 add-c : tie.Need-add-c Inv-loop μ-loop
-add-c c = ?
+add-c c = search needs
 
 -- src/result.rt:48:5
 loop-less : tie.Need-loop-less Inv-loop μ-loop
-loop-less c = ?
+loop-less c = omega (arith, c .before .before .before .before .loop .inv .1 .size, c .before .before .before .loop-test .taken)
 
 -- src/result.rt:48:5
 loop-again : tie.Need-loop-again Inv-loop μ-loop
-loop-again c = ?
+unfolding cellOf
+loop-again c =
+    let a = c .before .before .before .before .before .before .args in
+    let u = c .before .before .before .before .loop in
+    let e : toZ w32 (ofZ w32 (getD (u .cells) (u .c) (pos 0))) ≡ getD (u .cells) (u .c) (pos 0) = search needs in
+    let f : toZ w32 (ofZ w32 (c .merged-value .result)) ≡ c .merged-value .result = search needs in
+    let r : c .merged-value .result ≡ changes.merged (a .w .now) (row-at (a .processors) (u .c)) (a .processors) (cellOf (a .cells .now) (u .c)) =
+    c .merged-value .ensures ∙ rw (e, c .before .before .row-of .ensures) (ap (changes.merged (a .w .now) (row-at (a .processors) (u .c)) (a .processors)) (u .inv .1 .rest (u .c) (omega arith))) in (
+      omega (arith, u .inv .1 .size, c .before .before .before .loop-test .taken),
+      rw (add-one, f, r) (set-more (λ j. changes.merged (a .w .now) (row-at (a .processors) j) (a .processors) (cellOf (a .cells .now) j)) (a .cells .now) (u .c) (u .cells) (u .inv .1) (c .before .before .before .loop-test .taken)),
+    )
 
 -- src/result.rt:43:1
 same-length : tie.Need-same-length Inv-loop μ-loop
-same-length c = ?
+same-length c = c .before .loop .inv .1 .size
 
 -- src/result.rt:43:1
 returns : tie.Need-returns Inv-loop μ-loop
-returns c = ?
+returns c =
+    let a = c .before .before .before .args in
+    let u = c .before .loop in
+    λ l s h.
+    set-all (λ j. changes.merged (a .w .now) (row-at (a .processors) j) (a .processors) (cellOf (a .cells .now) j)) (a .cells .now) (u .c) (u .cells) (u .inv .1) (omega (arith, u .inv .0, u .inv .1 .size, c .loop-test .left)) (merged l (dealt l (a .processors)) s)
+    (λ j b. standing-merged (a .processors) l (a .cells .now) (a .w .now) s h j b)
+    ∙ ap (λ (n : ℕ). listed n (merged l (dealt l (a .processors)) s)) (standing-size (a .processors) l (a .cells .now) (a .w .now) s h)
 
 pub merge-spec : {M : Type 1} → statement M
 merge-spec =

@@ -1,3 +1,17 @@
+-- `trial::result::restore` meets its contract: the cells passed are as at entry.
+use borrow.Author.Needs.{needs}
+use mathlib.Core.Path.{_≡_, refl, sym, _∙_, ap}
+use Prim.Native.Nat.{ℕ, _≤_, _-_}
+use native.Mathlib.Numerals.{add-one}
+use native.Mathlib.Omega.{arith}
+use mir.Syntax.{w32}
+use mir.Val.{toZ, ofZ}
+use lib.ListN.{length, getD}
+use Rattle.int32.specs.Integers.{value}
+use Rattle.rules.specs.Cells.{listed}
+use Rattle.tables.specs.Layout.{row-at}
+use Rattle.trial.proofs.Viewing.{standing-size, standing-low, standing-room}
+use Rattle.trial.proofs.ReadingOff.{Setting-to, set-none, set-more, set-all, standing-entry}
 use Rattle.trial.proofs.result.restore.Statement.{statement}
 use Rattle.trial.proofs.result.restore.Tie as tie
 use Rattle.trial.proofs.result.restore.Reads as reads
@@ -6,50 +20,70 @@ use Rattle.tables.proofs.entry_value.Reads as entry-value-reads
 use Rattle.tables.proofs.row_of.Reads as row-of-reads
 
 abbrev Inv-loop : tie.InvT-loop
-Inv-loop processors cells₀ w c₀ cells c = ?
+Inv-loop processors cells₀ w c₀ cells c = (c ≤ length cells₀) × Setting-to (λ j. value (getD w (row-at processors j) 0)) cells₀ c cells
 
 abbrev μ-loop : tie.MeasureT-loop
-μ-loop processors cells₀ w c₀ cells c = ?
+μ-loop processors cells₀ w c₀ cells c = length cells₀ - c
 
 -- src/result.rt:61:5
 loop-holds : tie.Need-loop-holds Inv-loop μ-loop
-loop-holds c = ?
+loop-holds c =
+    let a = c .before .args in
+    (omega arith, set-none (λ j. value (getD (a .w .now) (row-at (a .processors) j) 0)) (a .cells .now))
 
 -- src/result.rt:62:13
 row-of-requires : tie.Need-row-of-requires Inv-loop μ-loop
-row-of-requires c κs = ?
+row-of-requires c κs =
+    let a = c .before .before .before .args in
+    let (l, s, h) = c .before .before .before .pre in
+    standing-low (a .processors) l (a .cells .now) (a .w .now) s h (c .before .loop .c) (omega (arith, c .before .loop .inv .1 .size, c .loop-test .taken))
 
 -- src/result.rt:63:20
 entry-value-requires : tie.Need-entry-value-requires Inv-loop μ-loop
-entry-value-requires c κs = ?
+entry-value-requires c κs =
+    let a = c .before .before .before .before .args in
+    let (l, s, h) = c .before .before .before .before .pre in
+    omega (arith, c .row-of .ensures, standing-room (a .processors) l (a .cells .now) (a .w .now) s h (c .before .before .loop .c) (omega (arith, c .before .before .loop .inv .1 .size, c .before .loop-test .taken)))
 
 -- src/result.rt:63:9
 mul-t6 : tie.Need-mul-t6 Inv-loop μ-loop
-mul-t6 c = ?
+mul-t6 c = search needs
 
 -- src/result.rt:63:9
 slice-set-from-cells : tie.Need-slice-set-from-cells Inv-loop μ-loop
-slice-set-from-cells c = ?
+slice-set-from-cells c = search needs
 
 -- src/result.rt:64:9
 add-c : tie.Need-add-c Inv-loop μ-loop
-add-c c = ?
+add-c c = search needs
 
 -- src/result.rt:61:5
 loop-less : tie.Need-loop-less Inv-loop μ-loop
-loop-less c = ?
+loop-less c = omega (arith, c .before .before .before .loop .inv .1 .size, c .before .before .loop-test .taken)
 
 -- src/result.rt:61:5
 loop-again : tie.Need-loop-again Inv-loop μ-loop
-loop-again c = ?
+loop-again c =
+    let a = c .before .before .before .before .before .args in
+    let u = c .before .before .before .loop in
+    let f : toZ w32 (ofZ w32 (c .entry-value .result)) ≡ c .entry-value .result = search needs in (
+      omega (arith, u .inv .1 .size, c .before .before .loop-test .taken),
+      rw (add-one, f, c .entry-value .ensures, c .before .row-of .ensures) (set-more (λ j. value (getD (a .w .now) (row-at (a .processors) j) 0)) (a .cells .now) (u .c) (u .cells) (u .inv .1) (c .before .before .loop-test .taken)),
+    )
 
 -- src/result.rt:56:1
 same-length : tie.Need-same-length Inv-loop μ-loop
-same-length c = ?
+same-length c = c .before .loop .inv .1 .size
 
 -- src/result.rt:56:1
 returns : tie.Need-returns Inv-loop μ-loop
-returns c = ?
+returns c =
+    let a = c .before .before .before .args in
+    let u = c .before .loop in
+    λ l s h.
+    set-all (λ j. value (getD (a .w .now) (row-at (a .processors) j) 0)) (a .cells .now) (u .c) (u .cells) (u .inv .1) (omega (arith, u .inv .0, u .inv .1 .size, c .loop-test .left)) (l .entry)
+    (λ j b. standing-entry (a .processors) l (a .cells .now) (a .w .now) s h j b)
+    ∙ ap (λ (n : ℕ). listed n (l .entry)) (standing-size (a .processors) l (a .cells .now) (a .w .now) s h)
 
 pub restore-spec : {M : Type 1} → statement M
 restore-spec =
