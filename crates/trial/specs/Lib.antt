@@ -5,3 +5,4 @@ pub mod Accesses
 pub mod Start
 pub mod View
 pub mod ReadOff
+pub mod Serving

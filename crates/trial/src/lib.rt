@@ -17,6 +17,7 @@ use rules::Processor;
 
 mod access;
 pub mod result;
+pub mod serial;
 
 // Where a processor is: how many values are pending, its place in the code and its iteration; 0 or the number of the fault that stopped it, and that fault's line.
 pub struct Point {

@@ -1,0 +1,68 @@
+-- `trial::serial::read_cell` meets its contract.
+use mathlib.Core.Path.{_≡_, refl, sym, _∙_}
+use native.Mathlib.Omega.{arith}
+use mir.Syntax.{w32}
+use mir.Val.{toZ, ofZ}
+use lib.IntN.{pos}
+use lib.ListN.{getD}
+use Rattle.rules.specs.Cells.{cellOf}
+use Rattle.trial.proofs.SerialAccesses.{serves-ready, serves-limits, serves-seen, serves-read}
+use borrow.Author.Needs.{needs}
+use Rattle.trial.proofs.serial.read_cell.Statement.{statement}
+use Rattle.trial.proofs.serial.read_cell.Tie as tie
+use Rattle.trial.proofs.serial.read_cell.Reads as reads
+use Rattle.trial.proofs.serial.read_cell.Lts as lts
+use Rattle.tables.proofs.note_read.Reads as note-read-reads
+use Rattle.tables.proofs.own_of.Reads as own-of-reads
+use Rattle.tables.proofs.row_of.Reads as row-of-reads
+
+-- src/serial.rt:17:9
+row-of-requires : tie.Need-row-of-requires
+row-of-requires c κs = search needs
+
+-- src/serial.rt:19:9
+own-of-requires : tie.Need-own-of-requires
+own-of-requires c κs = search needs
+
+-- src/serial.rt:20:5
+note-read-requires : tie.Need-note-read-requires
+note-read-requires c κs =
+    let a = c .before .before .before .before .args in
+    let (l, m, g, s) = c .before .before .before .before .pre in
+    let y = serves-limits l (a .i .0) (a .cell) (a .cells .now) (a .w .now) m g s in
+    (rw (c .before .own-of .ensures, c .before .before .row-of .ensures) (serves-ready l (a .i .0) (a .cell) (a .cells .now) (a .w .now) m g s), omega (arith, y .1))
+
+-- src/serial.rt:21:5
+mul-result : tie.Need-mul-result
+mul-result c = search needs
+
+-- src/serial.rt:21:5
+shared-slice-copy-out-result : tie.Need-shared-slice-copy-out-result
+shared-slice-copy-out-result c =
+    let a = c .before .before .before .before .before .before .before .args in
+    let (l, m, g, s) = c .before .before .before .before .before .before .before .pre in
+    serves-limits l (a .i .0) (a .cell) (a .cells .now) (a .w .now) m g s .2
+
+-- src/serial.rt:13:1
+same-length : tie.Need-same-length
+same-length c = search needs
+
+-- src/serial.rt:13:1
+returns : tie.Need-returns
+unfolding cellOf
+returns c =
+    let a = c .before .before .before .before .before .before .before .before .args in
+    let e : toZ w32 (ofZ w32 (getD (a .cells .now) (a .cell) (pos 0))) ≡ getD (a .cells .now) (a .cell) (pos 0) = search needs in
+    λ l m g s. (e ∙ serves-seen l (a .i .0) (a .cell) (a .cells .now) (a .w .now) m g s, rw (c .before .before .before .note-read .ensures, c .before .before .before .before .before .own-of .ensures, c .before .before .before .before .before .before .row-of .ensures) (serves-read l (a .i .0) (a .cell) (a .cells .now) (a .w .now) m g s _))
+
+pub read-cell-spec : {M : Type 1} → statement M
+read-cell-spec =
+    tie.close
+    (tie.spec
+    row-of-requires
+    own-of-requires
+    note-read-requires
+    mul-result
+    shared-slice-copy-out-result
+    same-length
+    returns)
