@@ -1,4 +1,4 @@
--- What the functions cite: an access, the faults of code, a step, that steps end, turns of processors, the run to the end, the start, the view, what is read off, the serial run.
+-- What the functions cite: an access, the faults of code, a step, that steps end, turns of processors, the run to the end, the start, the view, what is read off, what a run leaves, the serial run.
 mod AccessLaws
 mod Faults
 mod Stepping
@@ -8,5 +8,6 @@ mod RunningOut
 mod Starting
 mod Viewing
 mod ReadingOff
+mod Leaving
 mod SerialAccesses
 mod SerialSteps

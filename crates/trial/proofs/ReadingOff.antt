@@ -110,7 +110,7 @@ module _ (k : ℕ) (l : Loop) (M : List ℤ) (W : List ℕ) (s : State) (h : Sta
 
 -- ---- faults
 
-is-fault : (a : Act) (n t : ℕ) → a ≡ fault n t → IsFault a
+pub is-fault : (a : Act) (n t : ℕ) → a ≡ fault n t → IsFault a
 is-fault a n t e = rw e tt
 
 -- after the end, a fault in the records is a fault met

@@ -9,6 +9,7 @@ ghost use mir.Val.{SFits};
 ghost use Rattle.trial.specs.Accesses.{CanStep, Steps, Nearer, Halts};
 ghost use Rattle.trial.specs.Running.{waiting, HasTurn, TakesTurn, CanFollow, Follows, opened, RunsOut, Over, AllOver, CanRun, RunsOn};
 ghost use Rattle.trial.specs.Start.{Entry, Enters, Crew, CanBegin, Begins, CanTry, Tries};
+ghost use Rattle.trial.specs.Leaves.{LeavesTrial};
 ghost use Rattle.trial.specs.View.{Stands, Shown};
 ghost use Rattle.rules.specs.Loop.{Loop};
 use machine::Move;
@@ -337,6 +338,7 @@ pub fn trial(
     requires { ⌜ CanTry (now code) setting (now cells) (now classes) (now schedule) (length (now w)) ⌝ }
     ensures { λ r. ⌜ Tries (now (code .entry)) setting (now (cells .entry)) (now (classes .entry)) (now (schedule .entry)) (length (now (w .entry))) (now (cells .exit)) (now (w .exit)) r ⌝ }
     ensures { λ r. ⌜ AllOver setting r ⌝ }
+    ensures { λ r. ⌜ LeavesTrial (now (code .entry)) setting (now (cells .entry)) (now (classes .entry)) (now (schedule .entry)) (length (now (w .entry))) (now (cells .exit)) (now (w .exit)) r ⌝ }
 {
     let first = begin(setting, classes, cells, w);
     let then = follow(code, setting, schedule, cells, w, first);

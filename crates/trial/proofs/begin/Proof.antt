@@ -3,28 +3,19 @@ use Rattle.trial.proofs.Starting.{starts-run}
 use borrow.Author.Needs.{needs}
 use Rattle.trial.proofs.begin.Statement.{statement}
 use Rattle.trial.proofs.begin.Tie as tie
-use Rattle.trial.proofs.begin.Reads as reads
-use Rattle.trial.proofs.begin.Lts as lts
-use Rattle.trial.proofs.crew.Reads as crew-reads
-use Rattle.trial.proofs.enter.Reads as enter-reads
 
--- src/lib.rt:217:11
 cast-enter : tie.Need-cast-enter
 cast-enter c = search needs
 
--- src/lib.rt:217:5
 enter-requires : tie.Need-enter-requires
 enter-requires c κs = search needs
 
--- src/lib.rt:218:5
 crew-requires : tie.Need-crew-requires
 crew-requires c κs = search needs
 
--- src/lib.rt:213:1
 same-length : tie.Need-same-length
 same-length c = search needs
 
--- src/lib.rt:213:1
 returns : tie.Need-returns
 returns c =
     let a = c .before .before .before .before .before .before .before .before .args in

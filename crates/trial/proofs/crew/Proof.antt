@@ -10,10 +10,6 @@ use Rattle.trial.specs.Running.{waiting, nobody}
 use Rattle.trial.proofs.Starting.{crew-more}
 use Rattle.trial.proofs.crew.Statement.{statement}
 use Rattle.trial.proofs.crew.Tie as tie
-use Rattle.trial.proofs.crew.Reads as reads
-use Rattle.trial.proofs.crew.Lts as lts
-use Rattle.rules.proofs.block_start.Reads as block-start-reads
-use Rattle.trial.proofs.record_at.Reads as record-at-reads
 
 abbrev Inv-loop : tie.InvT-loop
 Inv-loop setting ws₀ q₀ ws q =
@@ -24,43 +20,33 @@ Inv-loop setting ws₀ q₀ ws q =
 abbrev μ-loop : tie.MeasureT-loop
 μ-loop setting ws₀ q₀ ws q = setting .processors - q
 
--- src/lib.rt:199:9
 record-at-requires : tie.Need-record-at-requires Inv-loop μ-loop
 record-at-requires c κs = search needs
 
--- src/lib.rt:202:5
 loop-holds : tie.Need-loop-holds Inv-loop μ-loop
 loop-holds c = (omega arith, search needs, λ j b. absurd (omega (arith, b)))
 
--- src/lib.rt:204:13
 block-start-requires : tie.Need-block-start-requires Inv-loop μ-loop
 block-start-requires c κs = search needs
 
--- src/lib.rt:205:13
 record-at-requires-2 : tie.Need-record-at-requires-2 Inv-loop μ-loop
 record-at-requires-2 c κs = search needs
 
--- src/lib.rt:206:12
 cast-ws : tie.Need-cast-ws Inv-loop μ-loop
 cast-ws c = search needs
 
--- src/lib.rt:206:9
 mul-ws : tie.Need-mul-ws Inv-loop μ-loop
 mul-ws c = search needs
 
--- src/lib.rt:206:9
 array-set-from-ws : tie.Need-array-set-from-ws Inv-loop μ-loop
 array-set-from-ws c = search needs
 
--- src/lib.rt:207:9
 add-q : tie.Need-add-q Inv-loop μ-loop
 add-q c = search needs
 
--- src/lib.rt:202:5
 loop-less : tie.Need-loop-less Inv-loop μ-loop
 loop-less c = search needs
 
--- src/lib.rt:202:5
 loop-again : tie.Need-loop-again Inv-loop μ-loop
 loop-again c =
     let a = c .before .before .before .before .before .before .args in
@@ -68,7 +54,6 @@ loop-again c =
     let e : c .record-at2 .result ≡ waiting (blockStart (a .setting .iterations) (a .setting .processors) (u .q)) = c .record-at2 .ensures ∙ ap waiting (c .before .block-start .ensures) in
     (omega arith, simp length-set (u .inv .1), rw (add-one, e) (crew-more (u .ws) (u .q) (λ j. waiting (blockStart (a .setting .iterations) (a .setting .processors) j)) (omega arith) (u .inv .2)))
 
--- src/lib.rt:194:1
 returns : tie.Need-returns Inv-loop μ-loop
 returns c =
     let u = c .before .before .loop in

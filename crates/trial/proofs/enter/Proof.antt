@@ -15,11 +15,6 @@ use Rattle.trial.specs.Start.{Entry}
 use Rattle.trial.proofs.Starting.{entry-low, entry-class, entry-room, entry-clear, entry-more, entry-all}
 use Rattle.trial.proofs.enter.Statement.{statement}
 use Rattle.trial.proofs.enter.Tie as tie
-use Rattle.trial.proofs.enter.Reads as reads
-use Rattle.trial.proofs.enter.Lts as lts
-use Rattle.tables.proofs.clear.Reads as clear-reads
-use Rattle.tables.proofs.row_of.Reads as row-of-reads
-use Rattle.tables.proofs.set_entry.Reads as set-entry-reads
 
 abbrev Inv-loop : tie.InvT-loop
 Inv-loop processors cells classes w₀ c₀ w c =
@@ -30,11 +25,9 @@ Inv-loop processors cells classes w₀ c₀ w c =
 abbrev μ-loop : tie.MeasureT-loop
 μ-loop processors cells classes w₀ c₀ w c = length cells - c
 
--- src/lib.rt:169:5
 clear-requires : tie.Need-clear-requires Inv-loop μ-loop
 clear-requires c κs = search needs
 
--- src/lib.rt:171:5
 loop-holds : tie.Need-loop-holds Inv-loop μ-loop
 loop-holds c =
     let a = c .before .before .before .before .before .before .args in
@@ -42,33 +35,27 @@ loop-holds c =
     let n : length (c .before .before .clear .last .0) ≡ length (a .w .now) = search needs in
     (omega arith, refl, λ l h. rw e (entry-clear (a .processors) l (a .cells .now) (a .classes .now) (length (a .w .now)) (rw n at h)))
 
--- src/lib.rt:172:13
 row-of-requires : tie.Need-row-of-requires Inv-loop μ-loop
 row-of-requires c κs =
     let a = c .before .before .before .before .before .before .before .before .args in
     let (l, h) = c .before .before .before .before .before .before .before .before .pre in
     entry-low (a .processors) l (a .cells .now) (a .classes .now) (length (a .w .now)) h (c .before .loop .c) (c .loop-test .taken)
 
--- src/lib.rt:173:35
 mul-set-entry : tie.Need-mul-set-entry Inv-loop μ-loop
 mul-set-entry c = search needs
 
--- src/lib.rt:173:35
 shared-slice-copy-out-set-entry : tie.Need-shared-slice-copy-out-set-entry Inv-loop μ-loop
 shared-slice-copy-out-set-entry c = search needs
 
--- src/lib.rt:173:45
 mul-set-entry-2 : tie.Need-mul-set-entry-2 Inv-loop μ-loop
 mul-set-entry-2 c = search needs
 
--- src/lib.rt:173:45
 shared-slice-read-set-entry : tie.Need-shared-slice-read-set-entry Inv-loop μ-loop
 shared-slice-read-set-entry c =
     let a = c .before .before .before .before .before .before .before .before .before .before .before .before .args in
     let (l, h) = c .before .before .before .before .before .before .before .before .before .before .before .before .pre in
     entry-class (a .processors) l (a .cells .now) (a .classes .now) (length (a .w .now)) h (c .before .before .before .before .before .loop .c) (c .before .before .before .before .loop-test .taken) .0
 
--- src/lib.rt:173:9
 set-entry-requires : tie.Need-set-entry-requires Inv-loop μ-loop
 set-entry-requires c κs =
     let a = c .before .before .before .before .before .before .before .before .before .before .before .before .args in
@@ -78,15 +65,12 @@ set-entry-requires c κs =
       entry-class (a .processors) l (a .cells .now) (a .classes .now) (length (a .w .now)) h (c .before .before .before .before .before .loop .c) (c .before .before .before .before .loop-test .taken) .1,
     )
 
--- src/lib.rt:174:9
 add-c : tie.Need-add-c Inv-loop μ-loop
 add-c c = search needs
 
--- src/lib.rt:171:5
 loop-less : tie.Need-loop-less Inv-loop μ-loop
 loop-less c = search needs
 
--- src/lib.rt:171:5
 loop-again : tie.Need-loop-again Inv-loop μ-loop
 unfolding cellOf
 loop-again c =
@@ -99,11 +83,9 @@ loop-again c =
       λ l h. rw (add-one, c .before .before .set-entry .ensures, c .before .before .before .before .before .before .row-of .ensures, e) (entry-more (a .processors) l (a .cells .now) (a .classes .now) _ h (u .c) (u .w) (c .before .before .before .before .before .before .before .loop-test .taken) (record { sfits = c .before .before .before .before .set-entry-arg2 .given }) (u .inv .2 l h)),
     )
 
--- src/lib.rt:165:1
 same-length : tie.Need-same-length Inv-loop μ-loop
 same-length c = search needs
 
--- src/lib.rt:165:1
 returns : tie.Need-returns Inv-loop μ-loop
 returns c =
     let a = c .before .before .before .before .before .before .before .before .args in

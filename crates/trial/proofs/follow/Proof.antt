@@ -13,9 +13,6 @@ use Rattle.trial.specs.Running.{Run}
 use Rattle.trial.proofs.Turns.{run-turn, run-stepped, steps-more}
 use Rattle.trial.proofs.follow.Statement.{statement}
 use Rattle.trial.proofs.follow.Tie as tie
-use Rattle.trial.proofs.follow.Reads as reads
-use Rattle.trial.proofs.follow.Lts as lts
-use Rattle.trial.proofs.step.Reads as step-reads
 
 abbrev Inv-loop : tie.InvT-loop
 Inv-loop code setting schedule cells₀ w₀ ws₀ j₀ cells w ws j =
@@ -28,38 +25,31 @@ Inv-loop code setting schedule cells₀ w₀ ws₀ j₀ cells w ws j =
 abbrev μ-loop : tie.MeasureT-loop
 μ-loop code setting schedule cells₀ w₀ ws₀ j₀ cells w ws j = length schedule - j
 
--- src/lib.rt:150:5
 loop-holds : tie.Need-loop-holds Inv-loop μ-loop
 unfolding steps
 loop-holds c = (omega arith, refl, refl, search needs, λ l s r. r)
 
--- src/lib.rt:151:17
 shared-slice-read-q : tie.Need-shared-slice-read-q Inv-loop μ-loop
 shared-slice-read-q c = search needs
 
--- src/lib.rt:151:17
 cast-q : tie.Need-cast-q Inv-loop μ-loop
 cast-q c = omega (arith, c .shared-slice-known3 .given (c .before .before .loop .j))
 
--- src/lib.rt:152:27
 cast-t17 : tie.Need-cast-t17 Inv-loop μ-loop
 cast-t17 c = omega (arith, c .shared-slice-known3 .given (c .before .before .loop .j))
 
--- src/lib.rt:153:17
 mul-x : tie.Need-mul-x Inv-loop μ-loop
 mul-x c =
     let a = c .before .before .before .before .before .before .args in
     let (l, s, r, n) = c .before .before .before .before .before .before .pre in
     omega (arith, n (c .before .before .loop .j) (c .before .loop-test .taken), r .running .standing .suits .most)
 
--- src/lib.rt:153:17
 array-copy-out-x : tie.Need-array-copy-out-x Inv-loop μ-loop
 array-copy-out-x c =
     let a = c .before .before .before .before .before .before .args in
     let (l, s, r, n) = c .before .before .before .before .before .before .pre in
     omega (arith, n (c .before .before .loop .j) (c .before .loop-test .taken), r .running .standing .suits .most)
 
--- src/lib.rt:154:13
 step-requires : tie.Need-step-requires Inv-loop μ-loop
 step-requires c κs =
     let a = c .before .before .before .before .before .before .before .before .before .args in
@@ -67,27 +57,22 @@ step-requires c κs =
     let u = c .before .before .before .before .before .loop in
     (l, steps l (dealt l (a .setting .processors)) (take (u .j) (a .schedule .now)) s, run-turn (a .code .now) (a .setting) l (u .cells) (u .w) (u .ws) _ (getD (a .schedule .now) (u .j) 0) (u .inv .4 l s r) (n (u .j) (c .before .before .before .before .loop-test .taken)))
 
--- src/lib.rt:155:9
 mul-ws : tie.Need-mul-ws Inv-loop μ-loop
 mul-ws c =
     let (l, s, r, n) = c .before .before .before .before .before .before .before .before .before .before .before .before .before .pre in
     omega (arith, n (c .before .before .before .before .before .before .before .before .before .loop .j) (c .before .before .before .before .before .before .before .before .loop-test .taken), r .running .standing .suits .most)
 
--- src/lib.rt:155:9
 array-set-from-ws : tie.Need-array-set-from-ws Inv-loop μ-loop
 array-set-from-ws c =
     let (l, s, r, n) = c .before .before .before .before .before .before .before .before .before .before .before .before .before .pre in
     omega (arith, n (c .before .before .before .before .before .before .before .before .before .loop .j) (c .before .before .before .before .before .before .before .before .loop-test .taken), r .running .standing .suits .most)
 
--- src/lib.rt:156:9
 add-j : tie.Need-add-j Inv-loop μ-loop
 add-j c = search needs
 
--- src/lib.rt:150:5
 loop-less : tie.Need-loop-less Inv-loop μ-loop
 loop-less c = search needs
 
--- src/lib.rt:150:5
 loop-again : tie.Need-loop-again Inv-loop μ-loop
 loop-again c =
     let a = c .before .before .before .before .before .before .before .before .before .before .before .before .before .args in
@@ -106,15 +91,12 @@ loop-again c =
           (c .before .before .before .step .ensures l _ (run-turn (a .code .now) (a .setting) l (u .cells) (u .w) (u .ws) _ (getD (a .schedule .now) (u .j) 0) (u .inv .4 l s r) b))),
     )
 
--- src/lib.rt:137:1
 same-length : tie.Need-same-length Inv-loop μ-loop
 same-length c = search needs
 
--- src/lib.rt:137:1
 same-length-2 : tie.Need-same-length-2 Inv-loop μ-loop
 same-length-2 c = search needs
 
--- src/lib.rt:137:1
 returns : tie.Need-returns Inv-loop μ-loop
 returns c =
     let a = c .before .before .before .before .before .args in

@@ -12,14 +12,6 @@ use Rattle.machine.specs.declared.Move.the-variants.{Read, Write, Update, Fault
 use borrow.Author.Needs.{needs}
 use Rattle.trial.proofs.go_on.Statement.{statement}
 use Rattle.trial.proofs.go_on.Tie as tie
-use Rattle.trial.proofs.go_on.Reads as reads
-use Rattle.trial.proofs.go_on.Lts as lts
-use Rattle.machine.proofs.advance.Reads as advance-reads
-use Rattle.machine.proofs.push.Reads as push-reads
-use Rattle.trial.proofs.access.read_cell.Reads as read-cell-reads
-use Rattle.trial.proofs.access.update_cell.Reads as update-cell-reads
-use Rattle.trial.proofs.access.write_cell.Reads as write-cell-reads
-use Rattle.trial.proofs.value_at.Reads as value-at-reads
 
 value-at-requires : tie.Need-value-at-requires
 value-at-requires c κs =

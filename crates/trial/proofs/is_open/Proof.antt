@@ -5,15 +5,11 @@ use lib.Dec.{eqb}
 use Rattle.trial.specs.Running.{opened}
 use Rattle.trial.proofs.is_open.Statement.{statement}
 use Rattle.trial.proofs.is_open.Tie as tie
-use Rattle.trial.proofs.is_open.Reads as reads
-use Rattle.trial.proofs.is_open.Lts as lts
 
--- src/lib.rt:196:1
 returns : tie.Need-returns
 unfolding opened
 returns c = simp (eq-eqb _ 0 (c .before .before .if1 .taken))
 
--- src/lib.rt:196:1
 returns-2 : tie.Need-returns-2
 unfolding opened
 returns-2 c = simp (ne-eqb _ 0 (c .if1 .left))

@@ -13,9 +13,6 @@ use Rattle.trial.proofs.Turns.{run-turn, run-moved}
 use Rattle.trial.proofs.RunningOut.{run-out-other, over-more}
 use Rattle.trial.proofs.run_on.Statement.{statement}
 use Rattle.trial.proofs.run_on.Tie as tie
-use Rattle.trial.proofs.run_on.Reads as reads
-use Rattle.trial.proofs.run_on.Lts as lts
-use Rattle.trial.proofs.run_out.Reads as run-out-reads
 
 abbrev Inv-loop : tie.InvT-loop
 Inv-loop code setting cells₀ w₀ ws₀ q₀ cells w ws q =
@@ -29,28 +26,23 @@ Inv-loop code setting cells₀ w₀ ws₀ q₀ cells w ws q =
 abbrev μ-loop : tie.MeasureT-loop
 μ-loop code setting cells₀ w₀ ws₀ q₀ cells w ws q = setting .processors - q
 
--- src/lib.rt:252:5
 loop-holds : tie.Need-loop-holds Inv-loop μ-loop
 unfolding run-on
 loop-holds c = (omega arith, refl, refl, search needs, λ l s r. r, λ j b. absurd (omega (arith, b)))
 
--- src/lib.rt:254:20
 cast-x : tie.Need-cast-x Inv-loop μ-loop
 cast-x c = search needs
 
--- src/lib.rt:254:17
 mul-x : tie.Need-mul-x Inv-loop μ-loop
 mul-x c =
     let (l, s, r) = c .before .before .before .before .before .pre in
     omega (arith, c .if1 .taken, r .running .standing .suits .most)
 
--- src/lib.rt:254:17
 array-copy-out-x : tie.Need-array-copy-out-x Inv-loop μ-loop
 array-copy-out-x c =
     let (l, s, r) = c .before .before .before .before .before .pre in
     omega (arith, c .if1 .taken, r .running .standing .suits .most)
 
--- src/lib.rt:255:13
 run-out-requires : tie.Need-run-out-requires Inv-loop μ-loop
 run-out-requires c κs =
     let a = c .before .before .before .before .before .before .before .before .args in
@@ -58,31 +50,25 @@ run-out-requires c κs =
     let u = c .before .before .before .before .before .loop in
     (l, run-on l (dealt l (a .setting .processors)) (u .q) s, run-turn (a .code .now) (a .setting) l (u .cells) (u .w) (u .ws) (run-on l (dealt l (a .setting .processors)) (u .q) s) (u .q) (u .inv .4 l s r) (c .before .before .before .if1 .taken))
 
--- src/lib.rt:256:12
 cast-ws : tie.Need-cast-ws Inv-loop μ-loop
 cast-ws c = search needs
 
--- src/lib.rt:256:9
 mul-ws : tie.Need-mul-ws Inv-loop μ-loop
 mul-ws c =
     let (l, s, r) = c .before .before .before .before .before .before .before .before .before .before .before .before .pre in
     omega (arith, c .before .before .before .before .before .before .before .if1 .taken, r .running .standing .suits .most)
 
--- src/lib.rt:256:9
 array-set-from-ws : tie.Need-array-set-from-ws Inv-loop μ-loop
 array-set-from-ws c =
     let (l, s, r) = c .before .before .before .before .before .before .before .before .before .before .before .before .pre in
     omega (arith, c .before .before .before .before .before .before .before .if1 .taken, r .running .standing .suits .most)
 
--- src/lib.rt:257:9
 add-q : tie.Need-add-q Inv-loop μ-loop
 add-q c = search needs
 
--- src/lib.rt:252:5
 loop-less : tie.Need-loop-less Inv-loop μ-loop
 loop-less c = search needs
 
--- src/lib.rt:252:5
 loop-again : tie.Need-loop-again Inv-loop μ-loop
 unfolding run-on
 loop-again c =
@@ -103,15 +89,12 @@ loop-again c =
       rw add-one (over-more (a .setting) (u .ws) (u .q) _ h (u .inv .5) (c .before .before .before .run-out .ensures .1)),
     )
 
--- src/lib.rt:240:1
 same-length : tie.Need-same-length Inv-loop μ-loop
 same-length c = search needs
 
--- src/lib.rt:240:1
 same-length-2 : tie.Need-same-length-2 Inv-loop μ-loop
 same-length-2 c = search needs
 
--- src/lib.rt:240:1
 returns : tie.Need-returns Inv-loop μ-loop
 returns c =
     let a = c .before .before .before .before .before .args in

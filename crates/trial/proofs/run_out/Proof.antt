@@ -15,11 +15,6 @@ use Rattle.trial.proofs.Turns.{turn-open}
 use Rattle.trial.proofs.RunningOut.{opened-yes, opened-no, over-by, Nears, nears-on, nears-over}
 use Rattle.trial.proofs.run_out.Statement.{statement}
 use Rattle.trial.proofs.run_out.Tie as tie
-use Rattle.trial.proofs.run_out.Reads as reads
-use Rattle.trial.proofs.run_out.Lts as lts
-use Rattle.rules.proofs.block_start.Reads as block-start-reads
-use Rattle.trial.proofs.go_on.Reads as go-on-reads
-use Rattle.trial.proofs.is_open.Reads as is-open-reads
 
 abbrev Inv-loop : tie.InvT-loop
 Inv-loop code setting p cells₀ w₀ end pending₀ t₀ cells w pending t =
@@ -31,23 +26,18 @@ Inv-loop code setting p cells₀ w₀ end pending₀ t₀ cells w pending t =
 abbrev μ-loop : tie.MeasureT-loop
 μ-loop code setting p cells₀ w₀ end pending₀ t₀ cells w pending t = togo (length code / 2) (end .0) t
 
--- src/lib.rt:214:27
 add-t13 : tie.Need-add-t13 Inv-loop μ-loop
 add-t13 c = search needs
 
--- src/lib.rt:215:9
 block-start-requires : tie.Need-block-start-requires Inv-loop μ-loop
 block-start-requires c κs = search needs
 
--- src/lib.rt:225:5
 loop-holds : tie.Need-loop-holds Inv-loop μ-loop
 loop-holds c = (refl, refl, search needs, λ l s t. (s, t, refl))
 
--- src/lib.rt:225:11
 is-open-requires : tie.Need-is-open-requires Inv-loop μ-loop
 is-open-requires c κs = search needs
 
--- src/lib.rt:226:9
 go-on-requires : tie.Need-go-on-requires Inv-loop μ-loop
 go-on-requires c κs =
     let a = c .before .before .before .before .before .before .before .before .before .before .before .before .args in
@@ -58,13 +48,11 @@ go-on-requires c κs =
     let (v, x, _) = u .inv .3 l s t in
     (l, v, turn-open (a .code .now) (a .setting) l (u .cells) (u .w) v (a .p .0) (joined (u .pending) (u .t)) x (o .0) (omega (arith, e, o .1)))
 
--- src/lib.rt:225:5
 loop-less : tie.Need-loop-less Inv-loop μ-loop
 loop-less c =
     let u = c .before .before .before .before .before .before .before .before .before .loop in
     c .before .before .before .go-on .ensures .1 .0 _ (opened-yes (u .t) _ (sym (c .before .before .before .before .before .before .before .before .is-open .ensures) ∙ c .before .before .before .before .before .before .before .if1 .taken) .1)
 
--- src/lib.rt:225:5
 loop-again : tie.Need-loop-again Inv-loop μ-loop
 loop-again c =
     let a = c .before .before .before .before .before .before .before .before .before .before .before .before .before .before .before .before .args in
@@ -80,15 +68,12 @@ loop-again c =
       λ l s t. let n = u .inv .3 l s t in nears-on (a .code .now) (a .setting) l (u .cells) (u .w) s (a .p .0) (joined (u .pending) (u .t)) n b _ _ _ (c .before .before .before .go-on .ensures .0 l (n .0) (turn-open (a .code .now) (a .setting) l (u .cells) (u .w) (n .0) (a .p .0) (joined (u .pending) (u .t)) (n .1) (o .0) b)) (c .before .before .before .go-on .ensures .1 .1),
     )
 
--- src/lib.rt:203:1
 same-length : tie.Need-same-length Inv-loop μ-loop
 same-length c = search needs
 
--- src/lib.rt:203:1
 same-length-2 : tie.Need-same-length-2 Inv-loop μ-loop
 same-length-2 c = search needs
 
--- src/lib.rt:203:1
 returns : tie.Need-returns Inv-loop μ-loop
 returns c =
     let a = c .before .before .before .before .before .before .before .before .before .before .args in

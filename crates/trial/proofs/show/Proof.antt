@@ -13,11 +13,6 @@ use Rattle.rules.specs.Cells.{cellOf}
 use Rattle.trial.proofs.Viewing.{Showing, showing-more, marks-at, standing-low, standing-room, standing-shown}
 use Rattle.trial.proofs.show.Statement.{statement}
 use Rattle.trial.proofs.show.Tie as tie
-use Rattle.trial.proofs.show.Reads as reads
-use Rattle.trial.proofs.show.Lts as lts
-use Rattle.int32.proofs.to_word.Reads as to-word-reads
-use Rattle.tables.proofs.marks_of.Reads as marks-of-reads
-use Rattle.tables.proofs.row_of.Reads as row-of-reads
 
 abbrev Inv-loop : tie.InvT-loop
 Inv-loop processors cells w view₀ c₀ view c = (c ≤ length cells) × (length view ≡ length view₀) × Showing view c (λ j. word (cellOf cells j)) (marks-at w processors)
@@ -25,73 +20,57 @@ Inv-loop processors cells w view₀ c₀ view c = (c ≤ length cells) × (lengt
 abbrev μ-loop : tie.MeasureT-loop
 μ-loop processors cells w view₀ c₀ view c = length cells - c
 
--- src/lib.rt:227:5
 loop-holds : tie.Need-loop-holds Inv-loop μ-loop
 loop-holds c = (omega arith, refl, λ j b. absurd (omega (arith, b)))
 
--- src/lib.rt:228:13
 row-of-requires : tie.Need-row-of-requires Inv-loop μ-loop
 row-of-requires c κs =
     let a = c .before .before .before .before .args in
     let (l, s, h) = c .before .before .before .before .pre .0 in
     standing-low (a .processors) l (a .cells .now) (a .w .now) s h (c .before .loop .c) (c .loop-test .taken)
 
--- src/lib.rt:229:38
 mul-to-word : tie.Need-mul-to-word Inv-loop μ-loop
 mul-to-word c = search needs
 
--- src/lib.rt:229:38
 shared-slice-copy-out-to-word : tie.Need-shared-slice-copy-out-to-word Inv-loop μ-loop
 shared-slice-copy-out-to-word c = search needs
 
--- src/lib.rt:229:23
 to-word-requires : tie.Need-to-word-requires Inv-loop μ-loop
 to-word-requires c κs = search needs
 
--- src/lib.rt:229:14
 mul-view : tie.Need-mul-view Inv-loop μ-loop
 mul-view c = search needs
 
--- src/lib.rt:229:9
 mul-view-2 : tie.Need-mul-view-2 Inv-loop μ-loop
 mul-view-2 c = search needs
 
--- src/lib.rt:229:9
 slice-write-view : tie.Need-slice-write-view Inv-loop μ-loop
 slice-write-view c = search needs
 
--- src/lib.rt:230:27
 marks-of-requires : tie.Need-marks-of-requires Inv-loop μ-loop
 marks-of-requires c κs =
     let a = c .before .before .before .before .before .before .before .args in
     let (l, s, h) = c .before .before .before .before .before .before .before .pre .0 in
     omega (arith, c .before .before .row-of .ensures, standing-room (a .processors) l (a .cells .now) (a .w .now) s h (c .before .before .before .before .loop .c) (c .before .before .before .loop-test .taken))
 
--- src/lib.rt:230:14
 mul-view-3 : tie.Need-mul-view-3 Inv-loop μ-loop
 mul-view-3 c = search needs
 
--- src/lib.rt:230:14
 add-view : tie.Need-add-view Inv-loop μ-loop
 add-view c = search needs
 
--- src/lib.rt:230:9
 mul-view-4 : tie.Need-mul-view-4 Inv-loop μ-loop
 mul-view-4 c = search needs
 
--- src/lib.rt:230:9
 slice-write-view-2 : tie.Need-slice-write-view-2 Inv-loop μ-loop
 slice-write-view-2 c = simp length-set (omega (arith, c .before .before .before .before .before .before .before .before .pre .1, c .before .before .before .before .before .loop .inv .1, c .before .before .before .before .loop-test .taken))
 
--- src/lib.rt:231:9
 add-c : tie.Need-add-c Inv-loop μ-loop
 add-c c = search needs
 
--- src/lib.rt:227:5
 loop-less : tie.Need-loop-less Inv-loop μ-loop
 loop-less c = search needs
 
--- src/lib.rt:227:5
 loop-again : tie.Need-loop-again Inv-loop μ-loop
 unfolding cellOf
 loop-again c =
@@ -104,11 +83,9 @@ loop-again c =
           (showing-more (u .view) (u .c) (λ j. word (cellOf (a .cells .now) j)) (marks-at (a .w .now) (a .processors)) (omega (arith, c .before .before .before .before .before .before .before .before .pre .1, u .inv .1)) (u .inv .2)),
     )
 
--- src/lib.rt:222:1
 same-length : tie.Need-same-length Inv-loop μ-loop
 same-length c = search needs
 
--- src/lib.rt:222:1
 returns : tie.Need-returns Inv-loop μ-loop
 returns c =
     let a = c .before .before .before .before .args in

@@ -8,33 +8,24 @@ use Rattle.trial.proofs.Turns.{turn-finished, turn-stopped, turn-open, 
 use borrow.Author.Needs.{needs}
 use Rattle.trial.proofs.step.Statement.{statement}
 use Rattle.trial.proofs.step.Tie as tie
-use Rattle.trial.proofs.step.Reads as reads
-use Rattle.trial.proofs.step.Lts as lts
-use Rattle.rules.proofs.block_start.Reads as block-start-reads
-use Rattle.trial.proofs.go_on.Reads as go-on-reads
 
--- src/lib.rt:107:27
 add-t14 : tie.Need-add-t14
 add-t14 c = search needs
 
--- src/lib.rt:108:9
 block-start-requires : tie.Need-block-start-requires
 block-start-requires c κs = search needs
 
--- src/lib.rt:111:9
 returns : tie.Need-returns
 returns c =
     let a = c .before .before .before .before .before .before .before .args in
     λ l s t. turn-stopped (a .code .now) (a .setting) l (a .cells .now) (a .w .now) s (a .p .0) (a .worker) t (c .if1 .taken)
 
--- src/lib.rt:114:9
 returns-2 : tie.Need-returns-2
 returns-2 c =
     let a = c .before .before .before .before .before .before .before .before .before .before .args in
     let e : c .before .before .before .before .before .before .block-start .result .0 ≡ blockStart (a .setting .iterations) (a .setting .processors) (suc (a .p .0)) = c .before .before .before .before .before .before .block-start .ensures ∙ ap (λ (n : ℕ). blockStart (a .setting .iterations) (a .setting .processors) n) (add-one (a .p .0)) in
     λ l s t. turn-finished (a .code .now) (a .setting) l (a .cells .now) (a .w .now) s (a .p .0) (a .worker) t (omega (arith, e, c .if2 .taken))
 
--- src/lib.rt:124:9
 go-on-requires : tie.Need-go-on-requires
 go-on-requires c κs =
     let a = c .before .before .before .before .before .before .before .before .before .before .before .before .before .before .args in
@@ -42,15 +33,12 @@ go-on-requires c κs =
     let e : c .before .before .before .before .before .before .before .before .before .before .block-start .result .0 ≡ blockStart (a .setting .iterations) (a .setting .processors) (suc (a .p .0)) = c .before .before .before .before .before .before .before .before .before .before .block-start .ensures ∙ ap (λ (n : ℕ). blockStart (a .setting .iterations) (a .setting .processors) n) (add-one (a .p .0)) in
     (l, s, turn-open (a .code .now) (a .setting) l (a .cells .now) (a .w .now) s (a .p .0) (a .worker) t (c .before .before .before .before .before .before .before .if1 .left) (omega (arith, e, c .before .before .before .before .if2 .left)))
 
--- src/lib.rt:96:1
 same-length : tie.Need-same-length
 same-length c = search needs
 
--- src/lib.rt:96:1
 same-length-2 : tie.Need-same-length-2
 same-length-2 c = search needs
 
--- src/lib.rt:96:1
 returns-3 : tie.Need-returns-3
 returns-3 c =
     let a = c .before .before .before .before .before .before .before .before .before .before .before .before .before .before .before .before .before .before .before .args in

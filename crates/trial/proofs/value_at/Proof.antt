@@ -8,14 +8,10 @@ use mir.ValLaws.{toZ-pos, toZ-ofZ}
 use borrow.Author.Needs.{needs}
 use Rattle.trial.proofs.value_at.Statement.{statement}
 use Rattle.trial.proofs.value_at.Tie as tie
-use Rattle.trial.proofs.value_at.Reads as reads
-use Rattle.trial.proofs.value_at.Lts as lts
 
--- src/lib.rt:47:12
 cast-result : tie.Need-cast-result
 cast-result c = search needs
 
--- src/lib.rt:47:5
 add-result : tie.Need-add-result
 add-result c =
     let a = c .before .args in
@@ -23,7 +19,6 @@ add-result c =
     let q : toZ w32 (a .i .0) ≡ pos (a .i .0) = toZ-pos w32 (a .i .0) (omega (arith, c .before .pre .0)) in
     rw (e, q) (c .before .pre .1)
 
--- src/lib.rt:43:1
 returns : tie.Need-returns
 returns c =
     let a = c .before .args in

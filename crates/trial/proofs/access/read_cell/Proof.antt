@@ -10,25 +10,16 @@ use Rattle.trial.proofs.AccessLaws.{access-low, access-limits, access-r
 use borrow.Author.Needs.{needs}
 use Rattle.trial.proofs.access.read_cell.Statement.{statement}
 use Rattle.trial.proofs.access.read_cell.Tie as tie
-use Rattle.trial.proofs.access.read_cell.Reads as reads
-use Rattle.trial.proofs.access.read_cell.Lts as lts
-use Rattle.tables.proofs.note_read.Reads as note-read-reads
-use Rattle.tables.proofs.own_of.Reads as own-of-reads
-use Rattle.tables.proofs.row_of.Reads as row-of-reads
-use Rattle.trial.proofs.access.seen.Reads as seen-reads
 
--- src/access.rt:42:9
 row-of-requires : tie.Need-row-of-requires
 row-of-requires c κs = search needs
 
--- src/access.rt:43:9
 own-of-requires : tie.Need-own-of-requires
 own-of-requires c κs =
     let a = c .before .before .args in
     let (l, s, x) = c .before .before .pre in
     omega (arith, c .row-of .ensures, access-low (a .processors) l (a .cells .now) (a .w .now) s (a .p .0) (a .i .0) (a .cell) x)
 
--- src/access.rt:44:9
 seen-requires : tie.Need-seen-requires
 seen-requires c κs =
     let a = c .before .before .before .before .args in
@@ -37,7 +28,6 @@ seen-requires c κs =
     let r : Ready (a .w .now) (c .before .before .row-of .result) (c .before .own-of .result) = rw (c .before .own-of .ensures, c .before .before .row-of .ensures) (access-ready (a .processors) l (a .cells .now) (a .w .now) s (a .p .0) (a .i .0) (a .cell) x) in
     (y .4, r .placed .apart, r .placed .inside, omega (arith, y .2))
 
--- src/access.rt:45:5
 note-read-requires : tie.Need-note-read-requires
 note-read-requires c κs =
     let a = c .before .before .before .before .before .before .args in
@@ -45,11 +35,9 @@ note-read-requires c κs =
     let y = access-limits (a .processors) l (a .cells .now) (a .w .now) s (a .p .0) (a .i .0) (a .cell) x in
     (rw (c .before .before .before .own-of .ensures, c .before .before .before .before .row-of .ensures) (access-ready (a .processors) l (a .cells .now) (a .w .now) s (a .p .0) (a .i .0) (a .cell) x), omega (arith, y .2))
 
--- src/access.rt:31:1
 same-length : tie.Need-same-length
 same-length c = search needs
 
--- src/access.rt:31:1
 returns : tie.Need-returns
 returns c =
     λ l s x.

@@ -9,24 +9,16 @@ use Rattle.rules.specs.ChooseLaws.{pick-same, pick-other}
 use borrow.Author.Needs.{needs}
 use Rattle.trial.proofs.access.seen.Statement.{statement}
 use Rattle.trial.proofs.access.seen.Tie as tie
-use Rattle.trial.proofs.access.seen.Reads as reads
-use Rattle.trial.proofs.access.seen.Lts as lts
-use Rattle.tables.proofs.class_of.Reads as class-of-reads
-use Rattle.tables.proofs.own_value.Reads as own-value-reads
 
--- src/access.rt:24:8
 class-of-requires : tie.Need-class-of-requires
 class-of-requires c κs = search needs
 
--- src/access.rt:25:16
 mul-result : tie.Need-mul-result
 mul-result c = search needs
 
--- src/access.rt:25:16
 shared-slice-copy-out-result : tie.Need-shared-slice-copy-out-result
 shared-slice-copy-out-result c = search needs
 
--- src/access.rt:25:9
 returns : tie.Need-returns
 unfolding cellOf
 returns c =
@@ -34,11 +26,9 @@ returns c =
     let e : toZ w32 (ofZ w32 (getD (a .cells .now) (a .cell) (pos 0))) ≡ getD (a .cells .now) (a .cell) (pos 0) = search needs in
     e ∙ sym (pick-same (sym (c .before .before .class-of .ensures) ∙ c .before .if1 .taken) _ _)
 
--- src/access.rt:27:5
 own-value-requires : tie.Need-own-value-requires
 own-value-requires c κs = search needs
 
--- src/access.rt:13:1
 returns-2 : tie.Need-returns-2
 returns-2 c =
     let e : toZ w32 (ofZ w32 (c .own-value .result)) ≡ c .own-value .result = search needs in

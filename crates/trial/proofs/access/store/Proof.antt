@@ -6,29 +6,22 @@ use Rattle.rules.specs.ChooseLaws.{pick-same, pick-other}
 use borrow.Author.Needs.{needs}
 use Rattle.trial.proofs.access.store.Statement.{statement}
 use Rattle.trial.proofs.access.store.Tie as tie
-use Rattle.trial.proofs.access.store.Reads as reads
-use Rattle.trial.proofs.access.store.Lts as lts
 
--- src/access.rt:55:9
 mul-value : tie.Need-mul-value
 mul-value c = search needs
 
--- src/access.rt:55:9
 slice-set-from-value : tie.Need-slice-set-from-value
 slice-set-from-value c = search needs
 
--- src/access.rt:50:1
 same-length : tie.Need-same-length
 same-length c = search needs
 
--- src/access.rt:50:1
 returns : tie.Need-returns
 returns c =
     let a = c .before .args in
     let e : toZ w32 (ofZ w32 (a .value)) ≡ a .value = search needs in
     rw e (sym (pick-same (c .if1 .taken) _ _))
 
--- src/access.rt:50:1
 returns-2 : tie.Need-returns-2
 returns-2 c = sym (pick-other (c .if1 .left) _ _)
 

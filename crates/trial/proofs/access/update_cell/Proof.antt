@@ -7,24 +7,16 @@ use Rattle.trial.proofs.AccessLaws.{access-low, access-limits, access-r
 use borrow.Author.Needs.{needs}
 use Rattle.trial.proofs.access.update_cell.Statement.{statement}
 use Rattle.trial.proofs.access.update_cell.Tie as tie
-use Rattle.trial.proofs.access.update_cell.Reads as reads
-use Rattle.trial.proofs.access.update_cell.Lts as lts
-use Rattle.tables.proofs.note_update.Reads as note-update-reads
-use Rattle.tables.proofs.own_of.Reads as own-of-reads
-use Rattle.tables.proofs.row_of.Reads as row-of-reads
 
--- src/access.rt:92:9
 row-of-requires : tie.Need-row-of-requires
 row-of-requires c κs = search needs
 
--- src/access.rt:93:9
 own-of-requires : tie.Need-own-of-requires
 own-of-requires c κs =
     let a = c .before .before .args in
     let (l, s, x) = c .before .before .pre in
     omega (arith, c .row-of .ensures, access-low (a .processors) l (a .cells .now) (a .w .now) s (a .p .0) (a .i .0) (a .cell) x)
 
--- src/access.rt:94:5
 note-update-requires : tie.Need-note-update-requires
 note-update-requires c κs =
     let a = c .before .before .before .before .args in
@@ -32,11 +24,9 @@ note-update-requires c κs =
     let y = access-limits (a .processors) l (a .cells .now) (a .w .now) s (a .p .0) (a .i .0) (a .cell) x in
     (rw (c .before .own-of .ensures, c .before .before .row-of .ensures) (access-ready (a .processors) l (a .cells .now) (a .w .now) s (a .p .0) (a .i .0) (a .cell) x), omega (arith, y .2))
 
--- src/access.rt:80:1
 same-length : tie.Need-same-length
 same-length c = search needs
 
--- src/access.rt:80:1
 returns : tie.Need-returns
 returns c =
     λ l s x.

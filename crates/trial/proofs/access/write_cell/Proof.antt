@@ -8,26 +8,16 @@ use Rattle.trial.proofs.AccessLaws.{access-low, access-limits, access-r
 use borrow.Author.Needs.{needs}
 use Rattle.trial.proofs.access.write_cell.Statement.{statement}
 use Rattle.trial.proofs.access.write_cell.Tie as tie
-use Rattle.trial.proofs.access.write_cell.Reads as reads
-use Rattle.trial.proofs.access.write_cell.Lts as lts
-use Rattle.tables.proofs.class_of.Reads as class-of-reads
-use Rattle.tables.proofs.note_write.Reads as note-write-reads
-use Rattle.tables.proofs.own_of.Reads as own-of-reads
-use Rattle.tables.proofs.row_of.Reads as row-of-reads
-use Rattle.trial.proofs.access.store.Reads as store-reads
 
--- src/access.rt:72:9
 row-of-requires : tie.Need-row-of-requires
 row-of-requires c κs = search needs
 
--- src/access.rt:73:9
 own-of-requires : tie.Need-own-of-requires
 own-of-requires c κs =
     let a = c .before .before .args in
     let (l, s, x) = c .before .before .pre in
     omega (arith, c .row-of .ensures, access-low (a .processors) l (a .cells .now) (a .w .now) s (a .p .0) (a .i .0) (a .cell) x)
 
--- src/access.rt:74:9
 class-of-requires : tie.Need-class-of-requires
 class-of-requires c κs =
     let a = c .before .before .before .before .args in
@@ -35,14 +25,12 @@ class-of-requires c κs =
     let r : Ready (a .w .now) (c .before .before .row-of .result) (c .before .own-of .result) = rw (c .before .own-of .ensures, c .before .before .row-of .ensures) (access-ready (a .processors) l (a .cells .now) (a .w .now) s (a .p .0) (a .i .0) (a .cell) x) in
     omega (arith, r .placed .apart, r .placed .inside)
 
--- src/access.rt:75:5
 store-requires : tie.Need-store-requires
 store-requires c κs =
     let a = c .before .before .before .before .before .before .args in
     let (l, s, x) = c .before .before .before .before .before .before .pre in
     access-limits (a .processors) l (a .cells .now) (a .w .now) s (a .p .0) (a .i .0) (a .cell) x .4
 
--- src/access.rt:76:5
 note-write-requires : tie.Need-note-write-requires
 note-write-requires c κs =
     let a = c .before .before .before .before .before .before .before .before .before .args in
@@ -50,15 +38,12 @@ note-write-requires c κs =
     let y = access-limits (a .processors) l (a .cells .now) (a .w .now) s (a .p .0) (a .i .0) (a .cell) x in
     (rw (c .before .before .before .before .before .before .own-of .ensures, c .before .before .before .before .before .before .before .row-of .ensures) (access-ready (a .processors) l (a .cells .now) (a .w .now) s (a .p .0) (a .i .0) (a .cell) x), omega (arith, y .2), omega (arith, y .2))
 
--- src/access.rt:60:1
 same-length : tie.Need-same-length
 same-length c = search needs
 
--- src/access.rt:60:1
 same-length-2 : tie.Need-same-length-2
 same-length-2 c = search needs
 
--- src/access.rt:60:1
 returns : tie.Need-returns
 returns c =
     λ l s x.

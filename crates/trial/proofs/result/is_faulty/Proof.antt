@@ -9,8 +9,6 @@ use lib.ListN.{getD}
 use Rattle.trial.specs.Running.{nobody}
 use Rattle.trial.proofs.result.is_faulty.Statement.{statement}
 use Rattle.trial.proofs.result.is_faulty.Tie as tie
-use Rattle.trial.proofs.result.is_faulty.Reads as reads
-use Rattle.trial.proofs.result.is_faulty.Lts as lts
 
 abbrev Inv-loop : tie.InvT-loop
 Inv-loop processors ws q₀ q = (q ≤ processors) × ((j : ℕ) → j < q → getD ws j nobody .fault ≡ 0)
@@ -18,35 +16,27 @@ Inv-loop processors ws q₀ q = (q ≤ processors) × ((j : ℕ) → j < q → g
 abbrev μ-loop : tie.MeasureT-loop
 μ-loop processors ws q₀ q = processors - q
 
--- src/result.rt:16:5
 loop-holds : tie.Need-loop-holds Inv-loop μ-loop
 loop-holds c = (omega arith, λ j b. absurd (omega (arith, b)))
 
--- src/result.rt:17:17
 mul-x : tie.Need-mul-x Inv-loop μ-loop
 mul-x c = search needs
 
--- src/result.rt:17:17
 array-copy-out-x : tie.Need-array-copy-out-x Inv-loop μ-loop
 array-copy-out-x c = search needs
 
--- src/result.rt:19:13
 returns : tie.Need-returns Inv-loop μ-loop
 returns c = record { some = λ _. (c .before .before .before .before .loop .q, c .before .before .before .loop-test .taken, omega (arith, c .if1 .taken)); none = λ (e : true ≡ false). let z : _≡_ {A = ℕ} 0 1 = cc in absurd (omega arith) }
 
--- src/result.rt:21:9
 add-q : tie.Need-add-q Inv-loop μ-loop
 add-q c = search needs
 
--- src/result.rt:16:5
 loop-less : tie.Need-loop-less Inv-loop μ-loop
 loop-less c = search needs
 
--- src/result.rt:16:5
 loop-again : tie.Need-loop-again Inv-loop μ-loop
 loop-again c = (omega arith, below-more _ _ (c .before .before .before .before .loop .inv .1) (c .if1 .left))
 
--- src/result.rt:10:1
 returns-2 : tie.Need-returns-2 Inv-loop μ-loop
 returns-2 c = record { some = λ (e : false ≡ true). let z : _≡_ {A = ℕ} 0 1 = cc in absurd (omega arith); none = λ _ j b. c .before .loop .inv .1 j (omega (arith, b, c .loop-test .left)) }
 

@@ -10,10 +10,6 @@ use Rattle.trial.proofs.Viewing.{standing-low, standing-room}
 use Rattle.trial.proofs.ReadingOff.{blocked-at, standing-obstructed, standing-free}
 use Rattle.trial.proofs.result.is_obstructed.Statement.{statement}
 use Rattle.trial.proofs.result.is_obstructed.Tie as tie
-use Rattle.trial.proofs.result.is_obstructed.Reads as reads
-use Rattle.trial.proofs.result.is_obstructed.Lts as lts
-use Rattle.tables.proofs.is_blocked.Reads as is-blocked-reads
-use Rattle.tables.proofs.row_of.Reads as row-of-reads
 
 abbrev Inv-loop : tie.InvT-loop
 Inv-loop processors cells w c₀ c = (c ≤ length cells) × ((j : ℕ) → j < c → blocked-at w processors j ≡ false)
@@ -21,25 +17,21 @@ Inv-loop processors cells w c₀ c = (c ≤ length cells) × ((j : ℕ) → j < 
 abbrev μ-loop : tie.MeasureT-loop
 μ-loop processors cells w c₀ c = length cells - c
 
--- src/result.rt:32:5
 loop-holds : tie.Need-loop-holds Inv-loop μ-loop
 loop-holds c = (omega arith, λ j b. absurd (omega (arith, b)))
 
--- src/result.rt:33:13
 row-of-requires : tie.Need-row-of-requires Inv-loop μ-loop
 row-of-requires c κs =
     let a = c .before .before .before .args in
     let (l, s, h) = c .before .before .before .pre in
     standing-low (a .processors) l (a .cells .now) (a .w .now) s h (c .before .loop .c) (c .loop-test .taken)
 
--- src/result.rt:34:12
 is-blocked-requires : tie.Need-is-blocked-requires Inv-loop μ-loop
 is-blocked-requires c κs =
     let a = c .before .before .before .before .args in
     let (l, s, h) = c .before .before .before .before .pre in
     omega (arith, c .row-of .ensures, standing-room (a .processors) l (a .cells .now) (a .w .now) s h (c .before .before .loop .c) (c .before .loop-test .taken))
 
--- src/result.rt:35:13
 returns : tie.Need-returns Inv-loop μ-loop
 returns c =
     let a = c .before .before .before .before .before .before .args in
@@ -47,15 +39,12 @@ returns c =
     let e : blocked-at (a .w .now) (a .processors) (u .c) ≡ true = rw (c .before .before .row-of .ensures) at (sym (c .before .is-blocked .ensures) ∙ c .if1 .taken) in
     λ l s h. (λ _. refl, λ _. standing-obstructed (a .processors) l (a .cells .now) (a .w .now) s h (u .c) (c .before .before .before .loop-test .taken) e)
 
--- src/result.rt:37:9
 add-c : tie.Need-add-c Inv-loop μ-loop
 add-c c = search needs
 
--- src/result.rt:32:5
 loop-less : tie.Need-loop-less Inv-loop μ-loop
 loop-less c = search needs
 
--- src/result.rt:32:5
 loop-again : tie.Need-loop-again Inv-loop μ-loop
 loop-again c =
     let a = c .before .before .before .before .before .before .args in
@@ -63,7 +52,6 @@ loop-again c =
     let e : blocked-at (a .w .now) (a .processors) (u .c) ≡ false = rw (c .before .before .row-of .ensures) at (sym (c .before .is-blocked .ensures) ∙ c .if1 .left) in
     (omega arith, below-more _ _ (u .inv .1) e)
 
--- src/result.rt:27:1
 returns-2 : tie.Need-returns-2 Inv-loop μ-loop
 returns-2 c =
     let a = c .before .before .before .args in

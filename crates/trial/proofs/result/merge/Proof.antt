@@ -17,10 +17,6 @@ use Rattle.trial.proofs.ReadingOff.{Setting-to, set-none, set-more, set
 use Rattle.tables.specs.Changes as changes
 use Rattle.trial.proofs.result.merge.Statement.{statement}
 use Rattle.trial.proofs.result.merge.Tie as tie
-use Rattle.trial.proofs.result.merge.Reads as reads
-use Rattle.trial.proofs.result.merge.Lts as lts
-use Rattle.tables.proofs.merged_value.Reads as merged-value-reads
-use Rattle.tables.proofs.row_of.Reads as row-of-reads
 
 abbrev Inv-loop : tie.InvT-loop
 Inv-loop processors cells₀ w c₀ cells c = (c ≤ length cells₀) × Setting-to (λ j. changes.merged w (row-at processors j) processors (cellOf cells₀ j)) cells₀ c cells
@@ -28,51 +24,41 @@ Inv-loop processors cells₀ w c₀ cells c = (c ≤ length cells₀) × Setting
 abbrev μ-loop : tie.MeasureT-loop
 μ-loop processors cells₀ w c₀ cells c = length cells₀ - c
 
--- src/result.rt:48:5
 loop-holds : tie.Need-loop-holds Inv-loop μ-loop
 loop-holds c =
     let a = c .before .args in
     (omega arith, set-none (λ j. changes.merged (a .w .now) (row-at (a .processors) j) (a .processors) (cellOf (a .cells .now) j)) (a .cells .now))
 
--- src/result.rt:49:13
 row-of-requires : tie.Need-row-of-requires Inv-loop μ-loop
 row-of-requires c κs =
     let a = c .before .before .before .args in
     let (l, s, h) = c .before .before .before .pre in
     standing-low (a .processors) l (a .cells .now) (a .w .now) s h (c .before .loop .c) (omega (arith, c .before .loop .inv .1 .size, c .loop-test .taken))
 
--- src/result.rt:50:49
 mul-merged-value : tie.Need-mul-merged-value Inv-loop μ-loop
 mul-merged-value c = search needs
 
--- src/result.rt:50:49
 slice-copy-out-merged-value : tie.Need-slice-copy-out-merged-value Inv-loop μ-loop
 slice-copy-out-merged-value c = search needs
 
--- src/result.rt:50:20
 merged-value-requires : tie.Need-merged-value-requires Inv-loop μ-loop
 merged-value-requires c κs =
     let a = c .before .before .before .before .before .args in
     let (l, s, h) = c .before .before .before .before .before .pre in
     omega (arith, c .before .row-of .ensures, standing-room (a .processors) l (a .cells .now) (a .w .now) s h (c .before .before .before .loop .c) (omega (arith, c .before .before .before .loop .inv .1 .size, c .before .before .loop-test .taken)))
 
--- src/result.rt:50:9
 mul-t11 : tie.Need-mul-t11 Inv-loop μ-loop
 mul-t11 c = search needs
 
--- src/result.rt:50:9
 slice-set-from-cells : tie.Need-slice-set-from-cells Inv-loop μ-loop
 slice-set-from-cells c = search needs
 
--- src/result.rt:51:9
 add-c : tie.Need-add-c Inv-loop μ-loop
 add-c c = search needs
 
--- src/result.rt:48:5
 loop-less : tie.Need-loop-less Inv-loop μ-loop
 loop-less c = omega (arith, c .before .before .before .before .loop .inv .1 .size, c .before .before .before .loop-test .taken)
 
--- src/result.rt:48:5
 loop-again : tie.Need-loop-again Inv-loop μ-loop
 unfolding cellOf
 loop-again c =
@@ -86,11 +72,9 @@ loop-again c =
       rw (add-one, f, r) (set-more (λ j. changes.merged (a .w .now) (row-at (a .processors) j) (a .processors) (cellOf (a .cells .now) j)) (a .cells .now) (u .c) (u .cells) (u .inv .1) (c .before .before .before .loop-test .taken)),
     )
 
--- src/result.rt:43:1
 same-length : tie.Need-same-length Inv-loop μ-loop
 same-length c = c .before .loop .inv .1 .size
 
--- src/result.rt:43:1
 returns : tie.Need-returns Inv-loop μ-loop
 returns c =
     let a = c .before .before .before .args in

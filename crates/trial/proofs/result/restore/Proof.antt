@@ -14,10 +14,6 @@ use Rattle.trial.proofs.Viewing.{standing-size, standing-low, standing-
 use Rattle.trial.proofs.ReadingOff.{Setting-to, set-none, set-more, set-all, standing-entry}
 use Rattle.trial.proofs.result.restore.Statement.{statement}
 use Rattle.trial.proofs.result.restore.Tie as tie
-use Rattle.trial.proofs.result.restore.Reads as reads
-use Rattle.trial.proofs.result.restore.Lts as lts
-use Rattle.tables.proofs.entry_value.Reads as entry-value-reads
-use Rattle.tables.proofs.row_of.Reads as row-of-reads
 
 abbrev Inv-loop : tie.InvT-loop
 Inv-loop processors cells₀ w c₀ cells c = (c ≤ length cells₀) × Setting-to (λ j. value (getD w (row-at processors j) 0)) cells₀ c cells
@@ -25,43 +21,35 @@ Inv-loop processors cells₀ w c₀ cells c = (c ≤ length cells₀) × Setting
 abbrev μ-loop : tie.MeasureT-loop
 μ-loop processors cells₀ w c₀ cells c = length cells₀ - c
 
--- src/result.rt:61:5
 loop-holds : tie.Need-loop-holds Inv-loop μ-loop
 loop-holds c =
     let a = c .before .args in
     (omega arith, set-none (λ j. value (getD (a .w .now) (row-at (a .processors) j) 0)) (a .cells .now))
 
--- src/result.rt:62:13
 row-of-requires : tie.Need-row-of-requires Inv-loop μ-loop
 row-of-requires c κs =
     let a = c .before .before .before .args in
     let (l, s, h) = c .before .before .before .pre in
     standing-low (a .processors) l (a .cells .now) (a .w .now) s h (c .before .loop .c) (omega (arith, c .before .loop .inv .1 .size, c .loop-test .taken))
 
--- src/result.rt:63:20
 entry-value-requires : tie.Need-entry-value-requires Inv-loop μ-loop
 entry-value-requires c κs =
     let a = c .before .before .before .before .args in
     let (l, s, h) = c .before .before .before .before .pre in
     omega (arith, c .row-of .ensures, standing-room (a .processors) l (a .cells .now) (a .w .now) s h (c .before .before .loop .c) (omega (arith, c .before .before .loop .inv .1 .size, c .before .loop-test .taken)))
 
--- src/result.rt:63:9
 mul-t6 : tie.Need-mul-t6 Inv-loop μ-loop
 mul-t6 c = search needs
 
--- src/result.rt:63:9
 slice-set-from-cells : tie.Need-slice-set-from-cells Inv-loop μ-loop
 slice-set-from-cells c = search needs
 
--- src/result.rt:64:9
 add-c : tie.Need-add-c Inv-loop μ-loop
 add-c c = search needs
 
--- src/result.rt:61:5
 loop-less : tie.Need-loop-less Inv-loop μ-loop
 loop-less c = omega (arith, c .before .before .before .loop .inv .1 .size, c .before .before .loop-test .taken)
 
--- src/result.rt:61:5
 loop-again : tie.Need-loop-again Inv-loop μ-loop
 loop-again c =
     let a = c .before .before .before .before .before .args in
@@ -71,11 +59,9 @@ loop-again c =
       rw (add-one, f, c .entry-value .ensures, c .before .row-of .ensures) (set-more (λ j. value (getD (a .w .now) (row-at (a .processors) j) 0)) (a .cells .now) (u .c) (u .cells) (u .inv .1) (c .before .before .loop-test .taken)),
     )
 
--- src/result.rt:56:1
 same-length : tie.Need-same-length Inv-loop μ-loop
 same-length c = c .before .loop .inv .1 .size
 
--- src/result.rt:56:1
 returns : tie.Need-returns Inv-loop μ-loop
 returns c =
     let a = c .before .before .before .args in

@@ -12,16 +12,7 @@ use Rattle.trial.proofs.SerialSteps.{serves-at-read, serves-push, serve
 use borrow.Author.Needs.{needs}
 use Rattle.trial.proofs.serial.go_on.Statement.{statement}
 use Rattle.trial.proofs.serial.go_on.Tie as tie
-use Rattle.trial.proofs.serial.go_on.Reads as reads
-use Rattle.trial.proofs.serial.go_on.Lts as lts
-use Rattle.machine.proofs.advance.Reads as advance-reads
-use Rattle.machine.proofs.push.Reads as push-reads
-use Rattle.trial.proofs.serial.read_cell.Reads as read-cell-reads
-use Rattle.trial.proofs.serial.update_cell.Reads as update-cell-reads
-use Rattle.trial.proofs.serial.write_cell.Reads as write-cell-reads
-use Rattle.trial.proofs.value_at.Reads as value-at-reads
 
--- src/serial.rt:62:9
 value-at-requires : tie.Need-value-at-requires
 value-at-requires c κs =
     let a = c .before .before .before .args in
@@ -29,15 +20,12 @@ value-at-requires c κs =
     let (l, (m, g, s), f₀, low) = c .before .before .before .pre in
     rw e (omega (arith, low, s .stands .suits .iterations-most), s .coded .fits (a .t .iteration .0) low)
 
--- src/serial.rt:63:9
 advance-requires : tie.Need-advance-requires
 advance-requires c κs = search needs
 
--- src/serial.rt:68:22
 enum-known-done : tie.Need-enum-known-done
 enum-known-done c = search needs
 
--- src/serial.rt:69:17
 read-cell-requires : tie.Need-read-cell-requires
 read-cell-requires c κs =
     let a = c .before .before .before .before .before .before .before .before .before .before .before .args in
@@ -51,7 +39,6 @@ read-cell-requires c κs =
     let w : d .result .done ≡ Read (q .0) = cc in
     (l, m, g, serves-at-read (a .code .now) (a .from) l (a .cells .now) (a .w .now) (a .pending .now) (a .t) m g s f₀ low (toZ w32 (ofZ w32 (x .result))) (d .last .1 .1 .1 .0) (d .result) (d .ensures) v (q .0) w)
 
--- src/serial.rt:70:17
 push-requires : tie.Need-push-requires
 push-requires c κs =
     let a = c .before .before .before .before .before .before .before .before .before .before .before .before .before .before .before .args in
@@ -65,11 +52,9 @@ push-requires c κs =
     let w : d .result .done ≡ Read (q .0) = cc in
     (d .ensures .size, serves-push (a .code .now) (a .from) l (a .cells .now) (a .w .now) (a .pending .now) (a .t) m g s f₀ low (toZ w32 (ofZ w32 (x .result))) (d .last .1 .1 .1 .0) (d .result) (d .ensures) v (q .0) w)
 
--- src/serial.rt:79:23
 enum-known-done-2 : tie.Need-enum-known-done-2
 enum-known-done-2 c = search needs
 
--- src/serial.rt:80:13
 write-cell-requires : tie.Need-write-cell-requires
 write-cell-requires c κs =
     let a = c .before .before .before .before .before .before .before .before .before .before .before .args in
@@ -83,11 +68,9 @@ write-cell-requires c κs =
     let w : d .result .done ≡ Write (q .0) (q .1 .0) = cc in
     (l, m, g, serves-at-write (a .code .now) (a .from) l (a .cells .now) (a .w .now) (a .pending .now) (a .t) m g s f₀ low (toZ w32 (ofZ w32 (x .result))) (d .last .1 .1 .1 .0) (d .result) (d .ensures) v (q .0) (q .1 .0) w)
 
--- src/serial.rt:89:24
 enum-known-done-3 : tie.Need-enum-known-done-3
 enum-known-done-3 c = search needs
 
--- src/serial.rt:90:13
 update-cell-requires : tie.Need-update-cell-requires
 update-cell-requires c κs =
     let a = c .before .before .before .before .before .before .before .before .before .before .before .args in
@@ -101,27 +84,21 @@ update-cell-requires c κs =
     let w : d .result .done ≡ Update (q .0) (q .1 .0) = cc in
     (l, m, g, serves-at-update (a .code .now) (a .from) l (a .cells .now) (a .w .now) (a .pending .now) (a .t) m g s f₀ low (toZ w32 (ofZ w32 (x .result))) (d .last .1 .1 .1 .0) (d .result) (d .ensures) v (q .0) (q .1 .0) w)
 
--- src/serial.rt:99:23
 enum-known-done-4 : tie.Need-enum-known-done-4
 enum-known-done-4 c = search needs
 
--- src/serial.rt:107:34
 enum-told : tie.Need-enum-told
 enum-told c = search needs
 
--- src/serial.rt:107:34
 add-t40 : tie.Need-add-t40
 add-t40 c = search needs
 
--- src/serial.rt:49:1
 same-length : tie.Need-same-length
 same-length c = search needs
 
--- src/serial.rt:49:1
 same-length-2 : tie.Need-same-length-2
 same-length-2 c = search needs
 
--- src/serial.rt:49:1
 returns : tie.Need-returns
 returns c =
     let a = c .before .before .before .before .before .before .before .before .before .before .before .before .before .before .before .before .args in
@@ -139,15 +116,12 @@ returns c =
       nearer-access (a .code .now) (a .t) (a .pending .now) (toZ w32 (ofZ w32 (x .result))) (d .last .1 .1 .1 .0) (d .result) (d .ensures) (Read (q .0)) w (omega arith) f₀ _ refl refl refl,
     )
 
--- src/serial.rt:49:1
 same-length-3 : tie.Need-same-length-3
 same-length-3 c = search needs
 
--- src/serial.rt:49:1
 same-length-4 : tie.Need-same-length-4
 same-length-4 c = search needs
 
--- src/serial.rt:49:1
 returns-2 : tie.Need-returns-2
 returns-2 c =
     let a = c .before .before .before .before .before .before .before .before .before .before .before .before .before .before .before .args in
@@ -164,15 +138,12 @@ returns-2 c =
       nearer-access (a .code .now) (a .t) (a .pending .now) (toZ w32 (ofZ w32 (x .result))) (d .last .1 .1 .1 .0) (d .result) (d .ensures) (Write (q .0) (q .1 .0)) w (omega arith) f₀ _ refl refl refl,
     )
 
--- src/serial.rt:49:1
 same-length-5 : tie.Need-same-length-5
 same-length-5 c = search needs
 
--- src/serial.rt:49:1
 same-length-6 : tie.Need-same-length-6
 same-length-6 c = search needs
 
--- src/serial.rt:49:1
 returns-3 : tie.Need-returns-3
 returns-3 c =
     let a = c .before .before .before .before .before .before .before .before .before .before .before .before .before .before .before .args in
@@ -189,7 +160,6 @@ returns-3 c =
       nearer-access (a .code .now) (a .t) (a .pending .now) (toZ w32 (ofZ w32 (x .result))) (d .last .1 .1 .1 .0) (d .result) (d .ensures) (Update (q .0) (q .1 .0)) w (omega arith) f₀ _ refl refl refl,
     )
 
--- src/serial.rt:49:1
 returns-4 : tie.Need-returns-4
 returns-4 c =
     let a = c .before .before .before .before .before .before .before .before .before .args in
@@ -205,7 +175,6 @@ returns-4 c =
       λ n _. nearer-fault (length (a .code .now) / 2) n (a .t) _ f₀ (serves-fault (a .code .now) (a .from) l₀ (a .cells .now) (a .w .now) (a .pending .now) (a .t) m₀ g₀ s₀ f₀ low₀ (toZ w32 (ofZ w32 (x .result))) (d .last .1 .1 .1 .0) (d .result) (d .ensures) v (q .0) (q .1 .0) w),
     )
 
--- src/serial.rt:49:1
 returns-5 : tie.Need-returns-5
 returns-5 c =
     let a = c .before .before .before .before .before .before .before .before .before .args in

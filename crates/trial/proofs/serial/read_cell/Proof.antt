@@ -10,21 +10,13 @@ use Rattle.trial.proofs.SerialAccesses.{serves-ready, serves-limits, se
 use borrow.Author.Needs.{needs}
 use Rattle.trial.proofs.serial.read_cell.Statement.{statement}
 use Rattle.trial.proofs.serial.read_cell.Tie as tie
-use Rattle.trial.proofs.serial.read_cell.Reads as reads
-use Rattle.trial.proofs.serial.read_cell.Lts as lts
-use Rattle.tables.proofs.note_read.Reads as note-read-reads
-use Rattle.tables.proofs.own_of.Reads as own-of-reads
-use Rattle.tables.proofs.row_of.Reads as row-of-reads
 
--- src/serial.rt:17:9
 row-of-requires : tie.Need-row-of-requires
 row-of-requires c κs = search needs
 
--- src/serial.rt:19:9
 own-of-requires : tie.Need-own-of-requires
 own-of-requires c κs = search needs
 
--- src/serial.rt:20:5
 note-read-requires : tie.Need-note-read-requires
 note-read-requires c κs =
     let a = c .before .before .before .before .args in
@@ -32,22 +24,18 @@ note-read-requires c κs =
     let y = serves-limits l (a .i .0) (a .cell) (a .cells .now) (a .w .now) m g s in
     (rw (c .before .own-of .ensures, c .before .before .row-of .ensures) (serves-ready l (a .i .0) (a .cell) (a .cells .now) (a .w .now) m g s), omega (arith, y .1))
 
--- src/serial.rt:21:5
 mul-result : tie.Need-mul-result
 mul-result c = search needs
 
--- src/serial.rt:21:5
 shared-slice-copy-out-result : tie.Need-shared-slice-copy-out-result
 shared-slice-copy-out-result c =
     let a = c .before .before .before .before .before .before .before .args in
     let (l, m, g, s) = c .before .before .before .before .before .before .before .pre in
     serves-limits l (a .i .0) (a .cell) (a .cells .now) (a .w .now) m g s .2
 
--- src/serial.rt:13:1
 same-length : tie.Need-same-length
 same-length c = search needs
 
--- src/serial.rt:13:1
 returns : tie.Need-returns
 unfolding cellOf
 returns c =

@@ -13,11 +13,6 @@ use Rattle.trial.proofs.RunningOut.{opened-yes, opened-no}
 use Rattle.trial.proofs.SerialSteps.{serial-start, serial-end}
 use Rattle.trial.proofs.serial.run.Statement.{statement}
 use Rattle.trial.proofs.serial.run.Tie as tie
-use Rattle.trial.proofs.serial.run.Reads as reads
-use Rattle.trial.proofs.serial.run.Lts as lts
-use Rattle.trial.proofs.enter.Reads as enter-reads
-use Rattle.trial.proofs.is_open.Reads as is-open-reads
-use Rattle.trial.proofs.serial.go_on.Reads as go-on-reads
 
 abbrev Inv-loop : tie.InvT-loop
 Inv-loop code setting classes cells₀ w₀ pending₀ end t₀ cells w pending t =
@@ -29,13 +24,11 @@ Inv-loop code setting classes cells₀ w₀ pending₀ end t₀ cells w pending 
 abbrev μ-loop : tie.MeasureT-loop
 μ-loop code setting classes cells₀ w₀ pending₀ end t₀ cells w pending t = togo (length code / 2) (end .0) t
 
--- src/serial.rt:124:5
 enter-requires : tie.Need-enter-requires Inv-loop μ-loop
 enter-requires c κs =
     let (l, h) = c .before .before .before .before .before .pre in
     (l, h .entry)
 
--- src/serial.rt:135:5
 loop-holds : tie.Need-loop-holds Inv-loop μ-loop
 loop-holds c =
     let a = c .before .before .before .before .before .before .before .before .args in
@@ -46,11 +39,9 @@ loop-holds c =
       λ l h. serial-start (a .code .now) (a .setting) l (a .cells .now) (a .classes .now) (length (a .w .now)) (rw n at h) _ (c .before .before .enter .ensures l (rw n at h .entry)) _ _ (record { size = search needs; most = omega arith }) refl refl refl refl,
     )
 
--- src/serial.rt:135:11
 is-open-requires : tie.Need-is-open-requires Inv-loop μ-loop
 is-open-requires c κs = search needs
 
--- src/serial.rt:136:9
 go-on-requires : tie.Need-go-on-requires Inv-loop μ-loop
 go-on-requires c κs =
     let a = c .before .before .before .before .before .before .before .before .before .before .before .before .before .before .before .args in
@@ -61,14 +52,12 @@ go-on-requires c κs =
     let o = opened-yes (u .t) (a .setting .iterations) (sym (c .before .before .before .before .before .is-open .ensures) ∙ c .before .before .before .before .if1 .taken) in
     rw e (l, u .inv .3 l (rw n h), o .0, omega (arith, o .1, h .iterations))
 
--- src/serial.rt:135:5
 loop-less : tie.Need-loop-less Inv-loop μ-loop
 loop-less c =
     let a = c .before .before .before .before .before .before .before .before .before .before .before .before .before .before .before .before .before .before .before .args in
     let u = c .before .before .before .before .before .before .before .before .before .before .loop in
     c .before .before .before .go-on .ensures .1 (a .setting .iterations) (opened-yes (u .t) (a .setting .iterations) (sym (c .before .before .before .before .before .before .before .before .before .is-open .ensures) ∙ c .before .before .before .before .before .before .before .before .if1 .taken) .1)
 
--- src/serial.rt:135:5
 loop-again : tie.Need-loop-again Inv-loop μ-loop
 loop-again c =
     let a = c .before .before .before .before .before .before .before .before .before .before .before .before .before .before .before .before .before .before .before .args in
@@ -84,15 +73,12 @@ loop-again c =
       λ l h. r l (u .inv .3 l h) (omega (arith, o .1, h .iterations)),
     )
 
--- src/serial.rt:120:1
 same-length : tie.Need-same-length Inv-loop μ-loop
 same-length c = search needs
 
--- src/serial.rt:120:1
 same-length-2 : tie.Need-same-length-2 Inv-loop μ-loop
 same-length-2 c = search needs
 
--- src/serial.rt:120:1
 returns : tie.Need-returns Inv-loop μ-loop
 returns c =
     let a = c .before .before .before .before .before .before .before .before .before .before .before .args in

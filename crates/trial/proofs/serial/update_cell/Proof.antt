@@ -10,48 +10,34 @@ use Rattle.trial.proofs.SerialAccesses.{serves-ready, serves-limits, se
 use borrow.Author.Needs.{needs}
 use Rattle.trial.proofs.serial.update_cell.Statement.{statement}
 use Rattle.trial.proofs.serial.update_cell.Tie as tie
-use Rattle.trial.proofs.serial.update_cell.Reads as reads
-use Rattle.trial.proofs.serial.update_cell.Lts as lts
-use Rattle.int32.proofs.add.Reads as add-reads
-use Rattle.tables.proofs.note_update.Reads as note-update-reads
-use Rattle.tables.proofs.own_of.Reads as own-of-reads
-use Rattle.tables.proofs.row_of.Reads as row-of-reads
 
--- src/serial.rt:41:9
 row-of-requires : tie.Need-row-of-requires
 row-of-requires c κs = search needs
 
--- src/serial.rt:43:9
 own-of-requires : tie.Need-own-of-requires
 own-of-requires c κs = search needs
 
--- src/serial.rt:44:30
 mul-add : tie.Need-mul-add
 mul-add c = search needs
 
--- src/serial.rt:44:30
 slice-copy-out-add : tie.Need-slice-copy-out-add
 slice-copy-out-add c =
     let a = c .before .before .before .args in
     let (l, m, g, s) = c .before .before .before .pre in
     serves-limits l (a .i .0) (a .cell) (a .cells .now) (a .w .now) m g s .2
 
--- src/serial.rt:44:19
 add-requires : tie.Need-add-requires
 add-requires c κs = search needs
 
--- src/serial.rt:44:5
 mul-t13 : tie.Need-mul-t13
 mul-t13 c = search needs
 
--- src/serial.rt:44:5
 slice-set-from-cells : tie.Need-slice-set-from-cells
 slice-set-from-cells c =
     let a = c .before .before .before .before .before .args in
     let (l, m, g, s) = c .before .before .before .before .before .pre in
     serves-limits l (a .i .0) (a .cell) (a .cells .now) (a .w .now) m g s .2
 
--- src/serial.rt:45:5
 note-update-requires : tie.Need-note-update-requires
 note-update-requires c κs =
     let a = c .before .before .before .before .before .before .args in
@@ -59,15 +45,12 @@ note-update-requires c κs =
     let y = serves-limits l (a .i .0) (a .cell) (a .cells .now) (a .w .now) m g s in
     (rw (c .before .before .before .own-of .ensures, c .before .before .before .before .row-of .ensures) (serves-ready l (a .i .0) (a .cell) (a .cells .now) (a .w .now) m g s), omega (arith, y .1))
 
--- src/serial.rt:37:1
 same-length : tie.Need-same-length
 same-length c = search needs
 
--- src/serial.rt:37:1
 same-length-2 : tie.Need-same-length-2
 same-length-2 c = search needs
 
--- src/serial.rt:37:1
 returns : tie.Need-returns
 unfolding cellOf
 returns c =

@@ -7,32 +7,22 @@ use Rattle.trial.proofs.SerialAccesses.{serves-ready, serves-limits, se
 use borrow.Author.Needs.{needs}
 use Rattle.trial.proofs.serial.write_cell.Statement.{statement}
 use Rattle.trial.proofs.serial.write_cell.Tie as tie
-use Rattle.trial.proofs.serial.write_cell.Reads as reads
-use Rattle.trial.proofs.serial.write_cell.Lts as lts
-use Rattle.tables.proofs.note_write.Reads as note-write-reads
-use Rattle.tables.proofs.own_of.Reads as own-of-reads
-use Rattle.tables.proofs.row_of.Reads as row-of-reads
 
--- src/serial.rt:29:9
 row-of-requires : tie.Need-row-of-requires
 row-of-requires c κs = search needs
 
--- src/serial.rt:31:9
 own-of-requires : tie.Need-own-of-requires
 own-of-requires c κs = search needs
 
--- src/serial.rt:32:5
 mul-value : tie.Need-mul-value
 mul-value c = search needs
 
--- src/serial.rt:32:5
 slice-set-from-value : tie.Need-slice-set-from-value
 slice-set-from-value c =
     let a = c .before .before .before .args in
     let (l, m, g, s) = c .before .before .before .pre in
     serves-limits l (a .i .0) (a .cell) (a .cells .now) (a .w .now) m g s .2
 
--- src/serial.rt:33:5
 note-write-requires : tie.Need-note-write-requires
 note-write-requires c κs =
     let a = c .before .before .before .before .args in
@@ -40,15 +30,12 @@ note-write-requires c κs =
     let y = serves-limits l (a .i .0) (a .cell) (a .cells .now) (a .w .now) m g s in
     (rw (c .before .own-of .ensures, c .before .before .row-of .ensures) (serves-ready l (a .i .0) (a .cell) (a .cells .now) (a .w .now) m g s), omega (arith, y .1), omega (arith, y .1))
 
--- src/serial.rt:25:1
 same-length : tie.Need-same-length
 same-length c = search needs
 
--- src/serial.rt:25:1
 same-length-2 : tie.Need-same-length-2
 same-length-2 c = search needs
 
--- src/serial.rt:25:1
 returns : tie.Need-returns
 returns c =
     let a = c .before .before .before .before .before .before .before .args in
