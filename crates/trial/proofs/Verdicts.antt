@@ -1,0 +1,67 @@
+-- What Look shows and what Run answers (crates/rules, Answer), by what the functions leave and what is read off.
+use mathlib.Core.Path.{_≡_, refl, sym, _∙_, ap}
+use mathlib.Core.Logic.{_≢_, _⊎_, inl, inr, _↔_}
+use mathlib.Core.Bool.{Bool, true, false}
+use mathlib.Core.List.{List}
+use Prim.Native.Nat.{ℕ}
+use native.Mathlib.Omega.{arith}
+use lib.ListN.{getD}
+use lib.IntN.{ℤ}
+use Rattle.rules.specs.ChooseLaws.{pick-same, pick-other}
+use Rattle.rules.specs.Cells.{listed}
+use Rattle.rules.specs.Loop.{Loop, Partition}
+use Rattle.rules.specs.Marks.{marks}
+use Rattle.rules.specs.Obstacles.{Obstructed}
+use Rattle.rules.specs.Merge.{merged, pairs, written-cells}
+use Rattle.rules.specs.Serial.{Outcome, finished, failed, serial}
+use Rattle.rules.specs.Steps.{State, start, steps, trial, Faulty}
+use Rattle.rules.specs.Answer.{viewed, look, Answer, passed, rerun, faulted, Ending, TrialPasses, trial-passes?, again, run-by, run}
+use Rattle.trial.specs.declared.Point.{Point}
+use Rattle.trial.specs.Serving.{outcome-of, IsSerial}
+
+-- ---- Look
+
+-- what is shown after a schedule is what Look shows
+pub shown-look : (l : Loop) (δ : Partition) (ps : List ℕ) (v : List ℕ) → (let s = steps l δ ps (start l δ) in v ≡ viewed (l .size) (s .cells) (λ c. marks (δ .group) c (s .log))) → v ≡ look l δ ps
+unfolding look
+shown-look l δ ps v e = e
+
+-- ---- Run
+
+module _ (l : Loop) (δ : Partition) (ps : List ℕ) where
+  abbrev s : State
+  s = trial l δ ps
+
+  by-yes : (d : Dec (TrialPasses l δ ps)) → TrialPasses l δ ps → run-by l δ ps d ≡ record { answer = passed (pairs l (s .log)) (written-cells l (s .log)); cells = listed (l .size) (merged l δ s) }
+  unfolding run-by
+  by-yes (yes t) h = refl
+  by-yes (no f) h = absurd (f h)
+
+  by-no : (d : Dec (TrialPasses l δ ps)) → ¬ TrialPasses l δ ps → run-by l δ ps d ≡ again l (serial l .outcome)
+  unfolding run-by
+  by-no (yes t) h = absurd (h t)
+  by-no (no f) h = refl
+
+  module _ (faulty blocked : Bool) (a : Faulty δ s ↔ (faulty ≡ true)) (b : Obstructed l (δ .group) (s .log) ↔ (blocked ≡ true)) where
+    -- neither fault nor obstacle: the trial's cells, merged, with the trial's counts
+    pub run-passed : faulty ≡ false → blocked ≡ false → run l δ ps ≡ record { answer = passed (pairs l (s .log)) (written-cells l (s .log)); cells = listed (l .size) (merged l δ s) }
+    unfolding run
+    run-passed x y = by-yes (trial-passes? l δ ps) (record {
+      faultless = λ f. let z : _≡_ {A = ℕ} 0 1 = cc (x, a .0 f) in omega arith;
+      free = λ o. let z : _≡_ {A = ℕ} 0 1 = cc (y, b .0 o) in omega arith;
+    })
+
+    -- a fault or an obstacle: the serial run
+    pub run-again : (faulty ≡ true) ⊎ (blocked ≡ true) → run l δ ps ≡ again l (serial l .outcome)
+    unfolding run
+    run-again h = by-no (trial-passes? l δ ps) (λ t. elim h [ inl x ↦ t .faultless (a .1 x) | inr y ↦ t .free (b .1 y) ])
+
+-- what it then answers, by the point that the serial run ends at
+module _ (l : Loop) (M : List ℤ) (W : List ℕ) (t : Point) (h : IsSerial l M W t) where
+  pub again-rerun : t .fault ≡ 0 → again l (serial l .outcome) ≡ record { answer = rerun (getD W 0 0) (getD W 1 0); cells = M }
+  unfolding again outcome-of
+  again-rerun e = ap (again l) (sym (h .outcome) ∙ pick-same e finished (failed (t .fault) (t .line) (t .iteration .0))) ∙ rw (h .pairs, h .written, h .cells)
+
+  pub again-faulted : t .fault ≢ 0 → again l (serial l .outcome) ≡ record { answer = faulted (t .fault) (t .line) (t .iteration .0); cells = listed (l .size) (l .entry) }
+  unfolding again outcome-of
+  again-faulted n = ap (again l) (sym (h .outcome) ∙ pick-other n finished (failed (t .fault) (t .line) (t .iteration .0)))
