@@ -23,10 +23,11 @@ use Rattle.rules.specs.Steps.{State, Faulty, IsFault}
 use Rattle.shadow.proofs.Shows.{table, Shows, tables-right, obstructed-right}
 use Rattle.tables.specs.Layout.{row-at}
 use Rattle.tables.specs.Changes.{blocked}
+use Rattle.tables.proofs.Held.{rows-apart}
 use Rattle.tables.proofs.Logged.{logged-obstacle, logged-merged, logged-entry, logged-pairs, logged-cells}
 use Rattle.trial.specs.declared.Worker.{Worker}
 use Rattle.trial.specs.declared.Setting.{Setting}
-use Rattle.trial.specs.Standing.{dealt, Standing, left-of}
+use Rattle.trial.specs.Standing.{dealt, Standing, Kept}
 use Rattle.trial.specs.Running.{nobody, Run, AllOver}
 use Rattle.trial.specs.ReadOff.{Fails}
 use Rattle.trial.proofs.Turns.{run-turn, turn-end, turn-fault}
@@ -96,7 +97,7 @@ module _ (k : ℕ) (l : Loop) (M : List ℤ) (W : List ℕ) (s : State) (h : Sta
       let z : _≡_ {A = ℕ} 0 1 = cc (f c d, t) in
       omega arith
 
-  -- the merge of a cell, and its value at entry
+  -- the merge of a cell
   pub standing-merged : (c : ℕ) → c < length M → changes.merged W (row-at k c) k (cellOf M c) ≡ merge.merged l δ s c
   unfolding singles
   standing-merged c b =
@@ -104,9 +105,21 @@ module _ (k : ℕ) (l : Loop) (M : List ℤ) (W : List ℕ) (s : State) (h : Sta
       ap (changes.merged W (row-at k c) k) (ap (λ (m : List ℤ). cellOf m c) (h .cells) ∙ cell-listed (l .size) (s .cells) c lt)
       ∙ logged-merged l δ (h .suits .plus) (h .suits .nought) (h .suits .proper) s W (h .words) shows c lt
 
-  pub standing-entry : (c : ℕ) → c < length M → value (getD W (row-at k c) 0) ≡ l .entry c
+  pub standing-kept : Kept k l M W
+  standing-kept = record { suits = h .suits; size = standing-size k l M W s h; log = s .log; words = h .words }
+
+-- the values at entry
+module _ (k : ℕ) (l : Loop) (M : List ℤ) (W : List ℕ) (h : Kept k l M W) where
+  pub kept-low : (c : ℕ) → c < length M → (c ≤ 4096) × (k ≤ 8)
+  kept-low c b = let u = h .suits in (omega (arith, h .size, u .cells-most), u .most)
+
+  pub kept-room : (c : ℕ) → c < length M → row-at k c < length W
   unfolding singles
-  standing-entry c b = logged-entry l δ (s .log) W (h .words) c (omega (arith, standing-size k l M W s h))
+  kept-room c b = omega (arith, h .words .size, rows-apart k c (l .size) (omega (arith, h .size)))
+
+  pub kept-entry : (c : ℕ) → c < length M → value (getD W (row-at k c) 0) ≡ l .entry c
+  unfolding singles
+  kept-entry c b = logged-entry l (dealt l k) (h .log) W (h .words) c (omega (arith, h .size))
 
 -- ---- faults
 

@@ -6,11 +6,11 @@ use Prim.Native.Nat.{ℕ, zero, suc, _+_, _-_, _≤_, _<_}
 use native.Mathlib.Numerals.{add-one}
 use native.Mathlib.Decide.{ℕ-discrete}
 use native.Mathlib.Omega.{arith}
-use lib.ListN.{getD}
+use lib.ListN.{length}
 use lib.IntN.{ℤ, pos, _+ℤ_}
 use Rattle.rules.specs.Choose.{put}
 use Rattle.rules.specs.ChooseLaws.{pick-same, pick-other, below-yes, below-no}
-use Rattle.rules.specs.Cells.{listed}
+use Rattle.rules.proofs.CellsLaws.{listed-length}
 use Rattle.rules.specs.Loop.{Act, read, write, update, fault, done, Loop}
 use Rattle.rules.specs.Log.{reads, writes, updates, access, Log, only}
 use Rattle.rules.specs.Proper.{Sized}
@@ -196,4 +196,5 @@ serial-end code v l M W a t (m, g, s) h =
       outcome = rw e;
       pairs = rw e (logged-pairs l (dealt l 1) g W (s .stands .words) w);
       written = rw e (logged-cells l (dealt l 1) g W (s .stands .words) w);
+      kept = record { suits = s .stands .suits; size = ap length (s .stands .cells) ∙ listed-length (l .size) m; log = g; words = s .stands .words };
     }

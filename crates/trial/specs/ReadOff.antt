@@ -12,7 +12,7 @@ use Rattle.rules.specs.Obstacles.{Obstructed}
 use Rattle.rules.specs.Merge.{merged}
 use Rattle.rules.specs.Steps.{State}
 use Rattle.trial.specs.declared.Worker.{Worker}
-use Rattle.trial.specs.Standing.{dealt, Standing}
+use Rattle.trial.specs.Standing.{dealt, Standing, Kept}
 use Rattle.trial.specs.Running.{nobody}
 
 -- whether one of k records has a fault
@@ -29,5 +29,8 @@ abbrev pub Merges : ℕ → List ℤ → List ℕ → List ℤ → Type 0
 Merges k M W M′ = (l : Loop) (s : State) → Standing k l M W s → M′ ≡ listed (l .size) (merged l (dealt l k) s)
 
 -- "the cells return to entry"
+abbrev pub CanRestore : ℕ → List ℤ → List ℕ → Type 0
+CanRestore k M W = (l : Loop) × Kept k l M W
+
 abbrev pub Restores : ℕ → List ℤ → List ℕ → List ℤ → Type 0
-Restores k M W M′ = (l : Loop) (s : State) → Standing k l M W s → M′ ≡ listed (l .size) (l .entry)
+Restores k M W M′ = (l : Loop) → Kept k l M W → M′ ≡ listed (l .size) (l .entry)

@@ -19,7 +19,7 @@ use Rattle.code.specs.Instr.{instructions, resume}
 use Rattle.machine.specs.Machine.{pendings, Holding}
 use Rattle.trial.specs.declared.Point.{Point}
 use Rattle.trial.specs.declared.Setting.{Setting}
-use Rattle.trial.specs.Standing.{dealt, Suits, Coded}
+use Rattle.trial.specs.Standing.{dealt, Suits, Coded, Kept}
 use Rattle.trial.specs.Start.{Entry}
 use Rattle.rules.specs.Merge as merge
 
@@ -111,6 +111,7 @@ pub record IsSerial (l : Loop) (M : List ℤ) (W : List ℕ) (t : Point) : Type 
   pub outcome : outcome-of t ≡ serial l .outcome
   pub pairs : getD W 0 0 ≡ merge.pairs l (serial l .log)
   pub written : getD W 1 0 ≡ written-cells l (serial l .log)
+  pub kept : Kept 1 l M W
 
 abbrev pub RunsSerially : List ℕ → Setting → List ℤ → List ℕ → ℕ → List ℤ → List ℕ → Point → Type 0
 RunsSerially code s M C n M′ W′ t = (l : Loop) → Serials code s l M C n → IsSerial l M′ W′ t

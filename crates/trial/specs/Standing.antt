@@ -4,12 +4,14 @@ use mathlib.Core.List.{List, []}
 use Prim.Native.Nat.{ℕ, suc, _≤_, _<_}
 use mir.Syntax.{w32}
 use mir.Val.{SFits}
+use lib.ListN.{length}
 use lib.IntN.{ℤ, pos, _+ℤ_}
 use Rattle.int32.specs.Integers.{sum}
 use Rattle.rules.specs.Choose.{pick}
 use Rattle.rules.specs.Cells.{listed}
 use Rattle.rules.specs.Loop.{Act, fault, Loop, Partition, bound}
 use Rattle.rules.specs.Blocks.{singles}
+use Rattle.rules.specs.Log.{Log}
 use Rattle.rules.specs.Proper.{Proper}
 use Rattle.rules.specs.Steps.{Place, State}
 use Rattle.shadow.proofs.Orderly.{Orderly}
@@ -47,6 +49,13 @@ pub record Standing (k : ℕ) (l : Loop) (M : List ℤ) (W : List ℕ) (s : Stat
   pub orderly : Orderly l (dealt l k) (suits .proper) s
   pub cells : M ≡ listed (l .size) (s .cells)
   pub words : Logged l (dealt l k) (s .log) W
+
+-- the words keep the entry values, whatever is noted in them
+pub record Kept (k : ℕ) (l : Loop) (M : List ℤ) (W : List ℕ) : Type 0 where
+  pub suits : Suits k l
+  pub size : length M ≡ l .size
+  pub log : Log
+  pub words : Logged l (dealt l k) log W
 
 -- what is left of an iteration by a processor's record: its pending values are in a
 unfoldable pub left-of : List ℕ → ℤ → List ℤ → Point → Act

@@ -3,7 +3,7 @@ ghost use mathlib.Core.Path.{_≡_};
 ghost use Prim.Native.Nat.{_≤_};
 ghost use lib.ListN.{length};
 ghost use Rattle.trial.specs.View.{Stands};
-ghost use Rattle.trial.specs.ReadOff.{Fails, Judges, Merges, Restores};
+ghost use Rattle.trial.specs.ReadOff.{Fails, Judges, Merges, CanRestore, Restores};
 use crate::Worker;
 
 // Whether a fault stopped some processor.
@@ -54,7 +54,7 @@ pub fn merge(processors: usize, cells: &mut [i32], w: &[u32])
 
 // The cells as they were at entry.
 pub fn restore(processors: usize, cells: &mut [i32], w: &[u32])
-    requires { ⌜ Stands processors (now cells) (now w) ⌝ }
+    requires { ⌜ CanRestore processors (now cells) (now w) ⌝ }
     ensures { λ _. ⌜ Restores processors (now (cells .entry)) (now (w .entry)) (now (cells .exit)) ⌝ }
 {
     let mut c = 0;

@@ -39,9 +39,9 @@ returns c =
       (
         u .ensures .1,
         λ l h.
-          run-leaves (a .code .now) (a .setting) l _ _ _ _
-          (u .ensures .0 l (steps l (dealt l (a .setting .processors)) (a .schedule .now) (start l (dealt l (a .setting .processors)))) (f .ensures l (start l (dealt l (a .setting .processors))) (b .ensures (a .code .now) l h)))
-          (u .ensures .1),
+            run-leaves (a .code .now) (a .setting) l _ _ _ _
+            (u .ensures .0 l (steps l (dealt l (a .setting .processors)) (a .schedule .now) (start l (dealt l (a .setting .processors)))) (f .ensures l (start l (dealt l (a .setting .processors))) (b .ensures (a .code .now) l h)))
+            (u .ensures .1),
       ),
     )
 

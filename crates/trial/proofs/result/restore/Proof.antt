@@ -10,8 +10,7 @@ use lib.ListN.{length, getD}
 use Rattle.int32.specs.Integers.{value}
 use Rattle.rules.specs.Cells.{listed}
 use Rattle.tables.specs.Layout.{row-at}
-use Rattle.trial.proofs.Viewing.{standing-size, standing-low, standing-room}
-use Rattle.trial.proofs.ReadingOff.{Setting-to, set-none, set-more, set-all, standing-entry}
+use Rattle.trial.proofs.ReadingOff.{Setting-to, set-none, set-more, set-all, kept-low, kept-room, kept-entry}
 use Rattle.trial.proofs.result.restore.Statement.{statement}
 use Rattle.trial.proofs.result.restore.Tie as tie
 
@@ -29,14 +28,14 @@ loop-holds c =
 row-of-requires : tie.Need-row-of-requires Inv-loop μ-loop
 row-of-requires c κs =
     let a = c .before .before .before .args in
-    let (l, s, h) = c .before .before .before .pre in
-    standing-low (a .processors) l (a .cells .now) (a .w .now) s h (c .before .loop .c) (omega (arith, c .before .loop .inv .1 .size, c .loop-test .taken))
+    let (l, h) = c .before .before .before .pre in
+    kept-low (a .processors) l (a .cells .now) (a .w .now) h (c .before .loop .c) (omega (arith, c .before .loop .inv .1 .size, c .loop-test .taken))
 
 entry-value-requires : tie.Need-entry-value-requires Inv-loop μ-loop
 entry-value-requires c κs =
     let a = c .before .before .before .before .args in
-    let (l, s, h) = c .before .before .before .before .pre in
-    omega (arith, c .row-of .ensures, standing-room (a .processors) l (a .cells .now) (a .w .now) s h (c .before .before .loop .c) (omega (arith, c .before .before .loop .inv .1 .size, c .before .loop-test .taken)))
+    let (l, h) = c .before .before .before .before .pre in
+    omega (arith, c .row-of .ensures, kept-room (a .processors) l (a .cells .now) (a .w .now) h (c .before .before .loop .c) (omega (arith, c .before .before .loop .inv .1 .size, c .before .loop-test .taken)))
 
 mul-t6 : tie.Need-mul-t6 Inv-loop μ-loop
 mul-t6 c = search needs
@@ -66,10 +65,10 @@ returns : tie.Need-returns Inv-loop μ-loop
 returns c =
     let a = c .before .before .before .args in
     let u = c .before .loop in
-    λ l s h.
+    λ l h.
     set-all (λ j. value (getD (a .w .now) (row-at (a .processors) j) 0)) (a .cells .now) (u .c) (u .cells) (u .inv .1) (omega (arith, u .inv .0, u .inv .1 .size, c .loop-test .left)) (l .entry)
-    (λ j b. standing-entry (a .processors) l (a .cells .now) (a .w .now) s h j b)
-    ∙ ap (λ (n : ℕ). listed n (l .entry)) (standing-size (a .processors) l (a .cells .now) (a .w .now) s h)
+    (λ j b. kept-entry (a .processors) l (a .cells .now) (a .w .now) h j b)
+    ∙ ap (λ (n : ℕ). listed n (l .entry)) (h .size)
 
 pub restore-spec : {M : Type 1} → statement M
 restore-spec =
