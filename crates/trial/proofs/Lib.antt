@@ -1,16 +1,13 @@
--- What the callers cite: the start for the trial and for the serial run, what is read off, what Look shows and Run answers by it.
+-- What the callers cite: the start, what is read off, a run's turns.
 pub mod Starting
 pub mod ReadingOff
-pub mod Verdicts
--- The argument: an access, the faults of code, a step, that steps end, turns of processors, the run to the end, what a run leaves, the view.
-mod AccessLaws
-mod Faults
+pub mod Turns
+-- What the serial run cites too: a store in a list of cells, the faults of code, that steps end, whether a processor is open.
+pub mod AccessLaws
+pub mod Faults
+pub mod Nearing
+pub mod RunningOut
+-- The argument: a step, what a run leaves, the view.
 mod Stepping
-mod Nearing
-mod Turns
-mod RunningOut
 mod Leaving
 mod Viewing
--- The serial run.
-mod SerialAccesses
-mod SerialSteps

@@ -1,9 +1,8 @@
--- How a run begins. Callers make `Starts` once, and have the serial run's start by `serials-of`.
+-- How a run begins.
 use mathlib.Core.Path.{_≡_, refl, sym, _∙_, ap, subst}
 use mathlib.Core.List.{List, []}
 use Prim.Native.Nat.{ℕ, zero, suc, _+_, _*_, _≤_, _<_}
 use native.Mathlib.Decide.{ℕ-discrete}
-use native.Mathlib.Nat.{mul-le-mul-left}
 use native.Mathlib.Omega.{arith}
 use lib.ListN.{length, getD, set, replicate}
 use lib.Seq.{getD-set-same, getD-set-other}
@@ -15,7 +14,6 @@ use Rattle.rules.specs.Cells.{cellOf, listed}
 use Rattle.rules.proofs.CellsLaws.{listed-length, cell-listed}
 use Rattle.rules.specs.Loop.{fault, Class, shared, lastprivate, reduction, Loop, Partition, bound}
 use Rattle.rules.specs.Blocks.{blockStart, singles}
-use Rattle.rules.proofs.BlocksLaws.{singles-proper}
 use Rattle.rules.specs.Steps.{State, opening, start}
 use Rattle.shadow.proofs.Orderly.{start-orderly}
 use Rattle.tables.specs.Layout.{row-at, class-number}
@@ -27,10 +25,9 @@ use Rattle.code.specs.Instr.{instructions, resume}
 use Rattle.machine.specs.Machine.{pendings}
 use Rattle.trial.specs.declared.Worker.{Worker}
 use Rattle.trial.specs.declared.Setting.{Setting}
-use Rattle.trial.specs.Standing.{dealt, Suits, Coded, left-of}
+use Rattle.trial.specs.Standing.{dealt, Coded, left-of}
 use Rattle.trial.specs.Running.{Held, waiting, nobody, Run}
 use Rattle.trial.specs.Start.{Entry, Starts, Crew}
-use Rattle.trial.specs.Serving.{Serials}
 use Rattle.trial.proofs.Turns.{bound-is}
 
 -- ---- the tables
@@ -102,35 +99,7 @@ starts-run code g l M C n h W ws t r = record {
   halted = λ q b x. absurd (omega (arith, x, ap (λ (y : Worker). y .fault) (r q b)));
 }
 
--- ---- the serial run's start
-
--- one processor suits where several do
-pub suits-one : (k : ℕ) (l : Loop) → Suits k l → Suits 1 l
-suits-one k l h =
-    let p = h .proper in
-    record {
-      proper = singles-proper l 1 (omega arith) (p .sums) (p .sized) (p .plus-assoc) (p .plus-comm) (p .plus-zero) (p .zero-zero);
-      plus = h .plus;
-      nought = h .nought;
-      cells-most = h .cells-most;
-      iterations-most = h .iterations-most;
-      some = omega arith;
-      most = omega arith;
-    }
-
--- the serial run may begin where the trial may
-pub serials-of : (code : List ℕ) (g : Setting) (l : Loop) (M : List ℤ) (C : List ℕ) (n : ℕ) → Starts code g l M C n → Serials code g l M C n
-serials-of code g l M C n h =
-    let e = h .entry in
-    let q : 4 + 5 * 1 ≤ 4 + 5 * g .processors = omega (arith, e .suits .some) in
-    let r : l .size * (4 + 5 * 1) ≤ l .size * (4 + 5 * g .processors) = mul-le-mul-left (l .size) q in
-    record {
-      coded = h .coded;
-      iterations = h .iterations;
-      entry = record { suits = suits-one (g .processors) l (e .suits); cells = e .cells; number = e .number; classes = e .classes; room = omega (arith, e .room) };
-    }
-
--- or begin anew once the cells are as at entry
+-- a run may begin anew once the cells are as at entry
 pub starts-again : (code : List ℕ) (g : Setting) (l : Loop) (M : List ℤ) (C : List ℕ) (n : ℕ) → Starts code g l M C n → (M′ : List ℤ) → M′ ≡ listed (l .size) (l .entry) → Starts code g l M′ C n
 starts-again code g l M C n h M′ x =
     let e = h .entry in

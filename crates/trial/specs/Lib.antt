@@ -1,7 +1,6 @@
 -- What cells, words and records stand for.
 pub mod Standing
 pub mod Running
-pub mod Serving
 -- What the functions promise: an access and a step, the start and the trial, what a run leaves, the view, what is read off.
 pub mod Accesses
 pub mod Start

@@ -18,7 +18,6 @@ use rules::Processor;
 
 mod access;
 pub mod result;
-pub mod serial;
 
 // Where a processor is: how many values are pending, its place in the code and its iteration; 0 or the number of the fault that stopped it, and that fault's line.
 pub struct Point {
@@ -47,7 +46,7 @@ pub struct Setting {
 }
 
 // The value of the loop's variable in an iteration.
-fn value_at(from: i32, i: Iteration) -> i32
+pub fn value_at(from: i32, i: Iteration) -> i32
     requires { ⌜ (i .0 ≤ 65535) × SFits w32 (from +ℤ pos (i .0)) ⌝ }
     ensures { λ r. ⌜ r ≡ from +ℤ pos (i .0) ⌝ }
 {
@@ -197,7 +196,7 @@ pub fn follow(
 }
 
 // Whether a processor whose block ends at an iteration is neither stopped nor finished.
-fn is_open(t: Point, end: Iteration) -> bool
+pub fn is_open(t: Point, end: Iteration) -> bool
     ensures { λ r. ⌜ r ≡ opened t (end .0) ⌝ }
 {
     if t.fault == 0 {
@@ -270,7 +269,7 @@ pub fn run_on(
 }
 
 // The tables of no access: the entry value and the class of each cell, 0 shared, 1 lastprivate, 2 reduction.
-fn enter(processors: usize, cells: &[i32], classes: &[u32], w: &mut [u32])
+pub fn enter(processors: usize, cells: &[i32], classes: &[u32], w: &mut [u32])
     requires { ⌜ ((l : Loop) × Entry processors l (now cells) (now classes) (length (now w))) ⌝ }
     ensures { λ _. ⌜ Enters processors (now (cells .entry)) (now (classes .entry)) (length (now (w .entry))) (now (w .exit)) ⌝ }
 {

@@ -1,4 +1,4 @@
--- `trial::serial::read_cell` meets its contract.
+-- `serial::read_cell` meets its contract.
 use mathlib.Core.Path.{_≡_, refl, sym, _∙_}
 use native.Mathlib.Omega.{arith}
 use mir.Syntax.{w32}
@@ -6,10 +6,10 @@ use mir.Val.{toZ, ofZ}
 use lib.IntN.{pos}
 use lib.ListN.{getD}
 use Rattle.rules.specs.Cells.{cellOf}
-use Rattle.trial.proofs.SerialAccesses.{serves-ready, serves-limits, serves-seen, serves-read}
+use Rattle.serial.proofs.AccessLaws.{serves-ready, serves-limits, serves-seen, serves-read}
 use borrow.Author.Needs.{needs}
-use Rattle.trial.proofs.serial.read_cell.Statement.{statement}
-use Rattle.trial.proofs.serial.read_cell.Tie as tie
+use Rattle.serial.proofs.read_cell.Statement.{statement}
+use Rattle.serial.proofs.read_cell.Tie as tie
 
 row-of-requires : tie.Need-row-of-requires
 row-of-requires c κs = search needs

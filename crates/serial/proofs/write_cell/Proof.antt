@@ -1,12 +1,12 @@
--- `trial::serial::write_cell` meets its contract.
+-- `serial::write_cell` meets its contract.
 use mathlib.Core.Path.{_≡_, refl, sym, _∙_}
 use native.Mathlib.Omega.{arith}
 use mir.Syntax.{w32}
 use mir.Val.{toZ, ofZ}
-use Rattle.trial.proofs.SerialAccesses.{serves-ready, serves-limits, serves-write}
+use Rattle.serial.proofs.AccessLaws.{serves-ready, serves-limits, serves-write}
 use borrow.Author.Needs.{needs}
-use Rattle.trial.proofs.serial.write_cell.Statement.{statement}
-use Rattle.trial.proofs.serial.write_cell.Tie as tie
+use Rattle.serial.proofs.write_cell.Statement.{statement}
+use Rattle.serial.proofs.write_cell.Tie as tie
 
 row-of-requires : tie.Need-row-of-requires
 row-of-requires c κs = search needs

@@ -1,4 +1,4 @@
--- `trial::serial::go_on` meets its contract: each arm by the law of its move.
+-- `serial::go_on` meets its contract: each arm by the law of its move.
 use mathlib.Core.Path.{_≡_, refl, _∙_, ap}
 use Prim.Native.Nat.{ℕ, _/_}
 use native.Mathlib.Omega.{arith}
@@ -7,11 +7,11 @@ use lib.IntN.{ℤ, pos, _+ℤ_}
 use mir.Syntax.{w32}
 use mir.Val.{toZ, ofZ}
 use Rattle.machine.specs.declared.Move.the-variants.{Read, Write, Update, Fault, End}
 use Rattle.trial.proofs.Nearing.{nearer-access, nearer-fault, nearer-end}
-use Rattle.trial.proofs.SerialSteps.{serves-at-read, serves-push, serves-at-write, serves-at-update, goes-read, goes-write, goes-update, serves-fault, goes-fault, goes-end}
+use Rattle.serial.proofs.Stepping.{serves-at-read, serves-push, serves-at-write, serves-at-update, goes-read, goes-write, goes-update, serves-fault, goes-fault, goes-end}
 use borrow.Author.Needs.{needs}
-use Rattle.trial.proofs.serial.go_on.Statement.{statement}
-use Rattle.trial.proofs.serial.go_on.Tie as tie
+use Rattle.serial.proofs.go_on.Statement.{statement}
+use Rattle.serial.proofs.go_on.Tie as tie
 
 value-at-requires : tie.Need-value-at-requires
 value-at-requires c κs =

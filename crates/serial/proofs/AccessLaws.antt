@@ -23,9 +23,9 @@ use Rattle.shadow.proofs.Shows.{worker}
 use Rattle.tables.specs.Layout.{row-at, own-at}
 use Rattle.tables.specs.Changes.{Ready, read-noted, counted, written, updated}
 use Rattle.tables.proofs.Logged.{Logged, logged-read, logged-write, logged-update, logged-ready}
 use Rattle.trial.specs.Standing.{dealt}
-use Rattle.trial.specs.Serving.{Serially, Serves}
+use Rattle.serial.specs.Serving.{Serially, Serves}
 use Rattle.trial.proofs.AccessLaws.{listed-set}
 
 -- the one processor has all iterations
 owned : (l : Loop) (i : ℕ) (M : List ℤ) (W : List ℕ) (m : ℕ → ℤ) (g : Log) → Serially l i M W m g → (j : ℕ) → j < l .iterations → worker l (dealt l 1) j ≡ 0

@@ -16,8 +16,8 @@ use Rattle.rules.specs.Merge.{merged, pairs, written-cells}
 use Rattle.rules.specs.Serial.{Outcome, finished, failed, serial}
 use Rattle.rules.specs.Steps.{State, start, steps, trial, Faulty}
 use Rattle.rules.specs.Answer.{viewed, look, Answer, passed, rerun, faulted, Ending, TrialPasses, trial-passes?, again, run-by, run}
 use Rattle.trial.specs.declared.Point.{Point}
-use Rattle.trial.specs.Serving.{outcome-of, IsSerial}
+use Rattle.serial.specs.Serving.{outcome-of, IsSerial}
 
 -- ---- Look
 

@@ -24,12 +24,12 @@ use Rattle.machine.specs.declared.Move.{Move}
 use Rattle.machine.specs.declared.Move.the-variants.{Read, Write, Update, Fault, End}
 use Rattle.machine.specs.declared.Advanced.{Advanced}
 use Rattle.machine.specs.Machine.{pendings, Holding, Pushed, Advances, left, coming}
 use Rattle.trial.specs.declared.Point.{Point}
 use Rattle.trial.specs.declared.Setting.{Setting}
 use Rattle.trial.specs.Standing.{dealt, Coded}
-use Rattle.trial.specs.Serving.{Serially, Serves, ServesRead, ServesWrite, ServesUpdate, onward, Serving, Serial-at, Serials, outcome-of, IsSerial}
+use Rattle.serial.specs.Serving.{Serially, Serves, ServesRead, ServesWrite, ServesUpdate, onward, Serving, Serial-at, Serials, outcome-of, IsSerial}
 use Rattle.trial.proofs.Faults.{resume-fault}
-use Rattle.trial.proofs.SerialAccesses.{serially-next}
+use Rattle.serial.proofs.AccessLaws.{serially-next}
 
 -- ---- what a point comes to
 

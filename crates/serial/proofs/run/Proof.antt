@@ -1,4 +1,4 @@
--- `trial::serial::run` meets its contract: where the loop has come, the run comes to what it came to at the start.
+-- `serial::run` meets its contract: where the loop has come, the run comes to what it came to at the start.
 use borrow.Author.Needs.{needs}
 use mathlib.Core.Path.{_≡_, refl, sym, _∙_}
 use Prim.Native.Nat.{ℕ, _/_}
@@ -7,12 +7,12 @@ use mir.Syntax.{w32}
 use mir.Val.{toZ, ofZ}
 use lib.ListN.{length}
 use Rattle.rules.specs.Loop.{Loop}
 use Rattle.trial.specs.Accesses.{togo}
-use Rattle.trial.specs.Serving.{Serial-at, Serials}
+use Rattle.serial.specs.Serving.{Serial-at, Serials}
 use Rattle.trial.proofs.RunningOut.{opened-yes, opened-no}
-use Rattle.trial.proofs.SerialSteps.{serial-start, serial-end}
-use Rattle.trial.proofs.serial.run.Statement.{statement}
-use Rattle.trial.proofs.serial.run.Tie as tie
+use Rattle.serial.proofs.Stepping.{serial-start, serial-end}
+use Rattle.serial.proofs.run.Statement.{statement}
+use Rattle.serial.proofs.run.Tie as tie
 
 abbrev Inv-loop : tie.InvT-loop
 Inv-loop code setting classes cells₀ w₀ pending₀ end t₀ cells w pending t =

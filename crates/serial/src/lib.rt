@@ -1,13 +1,13 @@
 // The serial run (document 01, The serial run): in place over the cells. Its accesses are noted for one processor, for the write counts.
 ghost use mathlib.Core.Path.{_≡_};
 ghost use lib.ListN.{length};
 ghost use Rattle.trial.specs.Accesses.{Nearer};
-ghost use Rattle.trial.specs.Serving.{CanServe, ServesRead, ServesWrite, ServesUpdate, CanGo, Goes, CanSerial, RunsSerially};
-use crate::Point;
-use crate::Setting;
+ghost use Rattle.serial.specs.Serving.{CanServe, ServesRead, ServesWrite, ServesUpdate, CanGo, Goes, CanSerial, RunsSerially};
 use machine::Move;
 use rules::Iteration;
 use rules::Processor;
+use trial::Point;
+use trial::Setting;
 
 // A read, as the cell stands.
 fn read_cell(i: Iteration, cells: &[i32], w: &mut [u32], cell: usize) -> i32
@@ -59,7 +59,7 @@ fn go_on(
     ensures { λ r. ⌜ Nearer (now (code .entry)) t r ⌝ }
 {
     let i = t.iteration;
-    let v = crate::value_at(from, i);
+    let v = trial::value_at(from, i);
     let r = machine::advance(code, t.place, t.depth, pending, v);
     let done = r.done;
     let place = r.place;
@@ -127,7 +127,7 @@ pub fn run(
     requires { ⌜ CanSerial (now code) setting (now cells) (now classes) (length (now w)) ⌝ }
     ensures { λ r. ⌜ RunsSerially (now (code .entry)) setting (now (cells .entry)) (now (classes .entry)) (length (now (w .entry))) (now (cells .exit)) (now (w .exit)) r ⌝ }
 {
-    crate::enter(1, cells, classes, w);
+    trial::enter(1, cells, classes, w);
     let mut pending = [0; 32];
     let first = Iteration(0);
     let end = Iteration(setting.iterations);
@@ -138,7 +138,7 @@ pub fn run(
         fault: 0,
         line: 0,
     };
-    while crate::is_open(t, end) {
+    while trial::is_open(t, end) {
         t = go_on(code, setting.from, cells, w, &mut pending, t);
     }
     t

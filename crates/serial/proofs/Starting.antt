@@ -1,0 +1,38 @@
+-- The serial run may begin where the trial may.
+use mathlib.Core.List.{List}
+use Prim.Native.Nat.{ℕ, _+_, _*_, _≤_}
+use native.Mathlib.Nat.{mul-le-mul-left}
+use native.Mathlib.Omega.{arith}
+use lib.IntN.{ℤ}
+use Rattle.rules.specs.Loop.{Loop}
+use Rattle.rules.proofs.BlocksLaws.{singles-proper}
+use Rattle.trial.specs.declared.Setting.{Setting}
+use Rattle.trial.specs.Standing.{Suits}
+use Rattle.trial.specs.Start.{Starts}
+use Rattle.serial.specs.Serving.{Serials}
+
+-- one processor suits where several do
+pub suits-one : (k : ℕ) (l : Loop) → Suits k l → Suits 1 l
+suits-one k l h =
+    let p = h .proper in
+    record {
+      proper = singles-proper l 1 (omega arith) (p .sums) (p .sized) (p .plus-assoc) (p .plus-comm) (p .plus-zero) (p .zero-zero);
+      plus = h .plus;
+      nought = h .nought;
+      cells-most = h .cells-most;
+      iterations-most = h .iterations-most;
+      some = omega arith;
+      most = omega arith;
+    }
+
+-- the serial run may begin where the trial may
+pub serials-of : (code : List ℕ) (g : Setting) (l : Loop) (M : List ℤ) (C : List ℕ) (n : ℕ) → Starts code g l M C n → Serials code g l M C n
+serials-of code g l M C n h =
+    let e = h .entry in
+    let q : 4 + 5 * 1 ≤ 4 + 5 * g .processors = omega (arith, e .suits .some) in
+    let r : l .size * (4 + 5 * 1) ≤ l .size * (4 + 5 * g .processors) = mul-le-mul-left (l .size) q in
+    record {
+      coded = h .coded;
+      iterations = h .iterations;
+      entry = record { suits = suits-one (g .processors) l (e .suits); cells = e .cells; number = e .number; classes = e .classes; room = omega (arith, e .room) };
+    }
