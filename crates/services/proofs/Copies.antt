@@ -20,7 +20,7 @@ use Rattle.services.specs.declared.Checked.{Checked}
 use Rattle.services.specs.declared.Checked.the-variants.{Sizes, Refused}
 use Rattle.services.specs.declared.Completed.{Completed}
 use Rattle.services.specs.declared.Completed.the-variants.{Done, Refused as Rejected}
-use Rattle.services.specs.Answers.{checkOf, loadOf, cellsLoaded}
+use Rattle.services.specs.Answers.{checkOf, taken, completed, loadOf, cellsLoaded}
 
 -- ---- a copy, cell by cell
 
@@ -90,7 +90,7 @@ module _ (text : List ℕ) (r : Reading) (T : List ℕ) (I : List ℤ) (C : List
     unfolding loadOf cellsLoaded
     load-other f n =
         let e = ne-eqb (length M) (cells (f .state .table)) (λ (z : length M ≡ cells (f .state .table)). n (z ∙ sym (f .represents .cells-so-far))) in
-        (sym (ap (λ (v : Verdict). loadOf v (length M)) (f .verdict) ∙ ap (λ (b : Bool). cond b Done (Rejected 5 0)) e), sym (ap (λ (v : Verdict). cellsLoaded v M) (f .verdict) ∙ ap (λ (b : Bool). cond b (loaded (f .state .table)) M) e))
+        (sym (ap (λ (v : Verdict). loadOf v (length M)) (f .verdict) ∙ ap (λ (b : Bool). completed (cond b 0 5)) e), sym (ap (λ (v : Verdict). cellsLoaded v M) (f .verdict) ∙ ap (λ (b : Bool). taken (cond b 0 5) (loaded (f .state .table)) M) e))
 
     first-cells : (f : Fine) → length M ≡ r .progress .cells → take (length M) I ≡ loaded (f .state .table)
     first-cells f e =
@@ -101,7 +101,7 @@ module _ (text : List ℕ) (r : Reading) (T : List ℕ) (I : List ℤ) (C : List
     unfolding loadOf cellsLoaded
     load-fine f e =
         let q = eq-eqb (length M) (cells (f .state .table)) (e ∙ f .represents .cells-so-far) in
-        (sym (ap (λ (v : Verdict). loadOf v (length M)) (f .verdict) ∙ ap (λ (b : Bool). cond b Done (Rejected 5 0)) q), first-cells f e ∙ sym (ap (λ (v : Verdict). cellsLoaded v M) (f .verdict) ∙ ap (λ (b : Bool). cond b (loaded (f .state .table)) M) q))
+        (sym (ap (λ (v : Verdict). loadOf v (length M)) (f .verdict) ∙ ap (λ (b : Bool). completed (cond b 0 5)) q), first-cells f e ∙ sym (ap (λ (v : Verdict). cellsLoaded v M) (f .verdict) ∙ ap (λ (b : Bool). taken (cond b 0 5) (loaded (f .state .table)) M) q))
 
     pub load-long : Fine → length M ≡ r .progress .cells → length M ≤ length I
     load-long f e =

@@ -20,6 +20,14 @@ pub enum Completed {
     Refused { number: u32, line: u32 },
 }
 
+// What Run answers: both write counts of a run that passed or was made again, a fault with its number, line and v, or a refusal.
+pub enum Ran {
+    Passed { pairs: u32, cells: u32 },
+    Rerun { pairs: u32, cells: u32 },
+    Faulted { number: u32, line: u32, v: i32 },
+    Refused { number: u32, line: u32 },
+}
+
 // The first cells of a list.
 fn copy(cells: &mut [i32], from: &[i32])
     requires { ⌜ length (now cells) ≤ length (now from) ⌝ }
