@@ -185,10 +185,11 @@ pub fn follow(
     let mut ws = workers;
     let mut j = 0;
     while j < schedule.len() {
-        let q = schedule[j] as usize;
-        let p = Processor(q as u32);
+        let b = schedule[j] as u32;
+        let named = Processor(b);
+        let q = b as usize;
         let x = ws[q];
-        let y = step(code, setting, p, cells, w, x);
+        let y = step(code, setting, named, cells, w, x);
         ws[q] = y;
         j += 1;
     }

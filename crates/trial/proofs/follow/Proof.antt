@@ -29,14 +29,14 @@ loop-holds : tie.Need-loop-holds Inv-loop μ-loop
 unfolding steps
 loop-holds c = (omega arith, refl, refl, search needs, λ l s r. r)
 
-shared-slice-read-q : tie.Need-shared-slice-read-q Inv-loop μ-loop
-shared-slice-read-q c = search needs
+shared-slice-read-b : tie.Need-shared-slice-read-b Inv-loop μ-loop
+shared-slice-read-b c = search needs
+
+cast-b : tie.Need-cast-b Inv-loop μ-loop
+cast-b c = omega (arith, c .shared-slice-known3 .given (c .before .before .loop .j))
 
 cast-q : tie.Need-cast-q Inv-loop μ-loop
 cast-q c = omega (arith, c .shared-slice-known3 .given (c .before .before .loop .j))
-
-cast-t17 : tie.Need-cast-t17 Inv-loop μ-loop
-cast-t17 c = omega (arith, c .shared-slice-known3 .given (c .before .before .loop .j))
 
 mul-x : tie.Need-mul-x Inv-loop μ-loop
 mul-x c =
@@ -111,9 +111,9 @@ follow-spec =
     Inv-loop
     μ-loop
     loop-holds
-    shared-slice-read-q
+    shared-slice-read-b
+    cast-b
     cast-q
-    cast-t17
     mul-x
     array-copy-out-x
     step-requires
