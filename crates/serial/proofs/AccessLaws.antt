@@ -1,22 +1,22 @@
 -- The accesses of the serial run, noted for one processor.
-use mathlib.Core.Path.{_≡_, refl, sym, _∙_, ap, subst}
-use mathlib.Core.List.{List, [], _∷_}
-use Prim.Native.Nat.{ℕ, suc, _+_, _*_, _≤_, _<_}
+use mathlib.Core.Path.{_≡_, sym, _∙_, ap}
+use mathlib.Core.List.{List, _∷_}
+use Prim.Native.Nat.{ℕ, _≤_, _<_}
 use native.Mathlib.Omega.{arith}
-use lib.ListN.{length, getD, set}
-use lib.IntN.{ℤ, pos}
+use lib.ListN.{length, set}
+use lib.IntN.{ℤ}
 use mir.Syntax.{w32}
 use mir.Val.{SFits}
 use Rattle.int32.specs.Integers.{sum}
 use Rattle.rules.specs.Choose.{put}
 use Rattle.rules.specs.Cells.{cellOf, listed}
 use Rattle.rules.proofs.CellsLaws.{listed-length, cell-listed}
-use Rattle.rules.specs.Loop.{Loop, Partition, bound}
+use Rattle.rules.specs.Loop.{Loop, Partition}
 use Rattle.rules.specs.Blocks.{singles}
-use Rattle.rules.specs.Log.{Kind, reads, writes, updates, access, Log, only, each}
+use Rattle.rules.specs.Log.{Kind, reads, writes, updates, access, Log}
 use Rattle.rules.specs.LogLaws.{only-other}
 use Rattle.rules.proofs.Progress.{bound-first, bound-last}
-use Rattle.rules.proofs.TrialRun.{Home, home}
+use Rattle.rules.proofs.TrialRun.{home}
 use Rattle.shadow.proofs.Change.{turn-cons}
 use Rattle.shadow.proofs.Counts.{inside-cons}
 use Rattle.shadow.proofs.Shows.{worker}

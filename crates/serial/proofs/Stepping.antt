@@ -11,7 +11,7 @@ use lib.IntN.{ℤ, pos, _+ℤ_}
 use Rattle.rules.specs.Choose.{put}
 use Rattle.rules.specs.ChooseLaws.{pick-same, pick-other, below-yes, below-no}
 use Rattle.rules.proofs.CellsLaws.{listed-length}
-use Rattle.rules.specs.Loop.{Act, read, write, update, fault, done, Loop}
+use Rattle.rules.specs.Loop.{Act, fault, done, Loop}
 use Rattle.rules.specs.Log.{reads, writes, updates, access, Log, only}
 use Rattle.rules.specs.Proper.{Sized}
 use Rattle.rules.specs.Serial.{finished, failed, Result, along, from, serial}

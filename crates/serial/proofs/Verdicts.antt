@@ -13,9 +13,9 @@ use Rattle.rules.specs.Loop.{Loop, Partition}
 use Rattle.rules.specs.Marks.{marks}
 use Rattle.rules.specs.Obstacles.{Obstructed}
 use Rattle.rules.specs.Merge.{merged, pairs, written-cells}
-use Rattle.rules.specs.Serial.{Outcome, finished, failed, serial}
+use Rattle.rules.specs.Serial.{finished, failed, serial}
 use Rattle.rules.specs.Steps.{State, start, steps, trial, Faulty}
-use Rattle.rules.specs.Answer.{viewed, look, Answer, passed, rerun, faulted, Ending, TrialPasses, trial-passes?, again, run-by, run}
+use Rattle.rules.specs.Answer.{viewed, look, passed, rerun, faulted, TrialPasses, trial-passes?, again, run-by, run}
 use Rattle.trial.specs.declared.Point.{Point}
 use Rattle.serial.specs.Serving.{outcome-of, IsSerial}
 

@@ -1,5 +1,4 @@
 // The serial run (document 01, The serial run): in place over the cells. Its accesses are noted for one processor, for the write counts.
-ghost use mathlib.Core.Path.{_≡_};
 ghost use lib.ListN.{length};
 ghost use Rattle.trial.specs.Accesses.{Nearer};
 ghost use Rattle.serial.specs.Serving.{CanServe, ServesRead, ServesWrite, ServesUpdate, CanGo, Goes, CanSerial, RunsSerially};

@@ -1,12 +1,12 @@
 -- What an access needs and gives, by what the words stand for.
 use mathlib.Core.Path.{_≡_, refl, sym, _∙_, ap, subst}
 use mathlib.Core.List.{List, _∷_}
-use Prim.Native.Nat.{ℕ, suc, _+_, _*_, _/_, _≤_, _<_}
+use Prim.Native.Nat.{ℕ, _+_, _*_, _/_, _≤_, _<_}
 use native.Mathlib.Decide.{ℕ-discrete}
 use native.Mathlib.Nat.{mul-le-mul}
 use native.Mathlib.Omega.{arith}
 use lib.ListN.{length, getD, set, length-set}
-use lib.IntN.{ℤ, pos}
+use lib.IntN.{ℤ}
 use mir.Syntax.{w32}
 use mir.Val.{SFits}
 use Rattle.int32.specs.Integers.{value}
@@ -14,19 +14,16 @@ use Rattle.rules.specs.Choose.{pick, put}
 use Rattle.rules.specs.ChooseLaws.{pick-same, pick-other, put-same, put-other}
 use Rattle.rules.specs.Cells.{cellOf, listed}
 use Rattle.rules.proofs.CellsLaws.{listed-length, cell-listed, listed-same, listed-cells, cell-set}
-use Rattle.rules.specs.Loop.{Class, shared, lastprivate, reduction, Loop, Partition, bound}
+use Rattle.rules.specs.Loop.{Class, shared, lastprivate, reduction, Loop, Partition}
 use Rattle.rules.specs.Log.{reads, writes, updates, access, only}
 use Rattle.rules.specs.Blocks.{singles}
-use Rattle.rules.specs.Proper.{Proper}
 use Rattle.rules.specs.Steps.{State, latest, given, stored}
-use Rattle.rules.proofs.TrialRun.{whose, Home, home}
-use Rattle.shadow.proofs.Change.{Latest}
+use Rattle.rules.proofs.TrialRun.{Home, home}
 use Rattle.shadow.proofs.Shows.{worker, table, Shows, tables-right}
-use Rattle.shadow.proofs.Orderly.{Orderly}
 use Rattle.tables.specs.Layout.{row-at, own-at, class-number}
 use Rattle.tables.specs.Changes.{Ready, read-noted, counted, written, updated}
 use Rattle.tables.proofs.Logged.{Logged, logged-read, logged-write, logged-update, logged-ready, logged-class, logged-own}
-use Rattle.trial.specs.Standing.{dealt, Suits, Standing}
+use Rattle.trial.specs.Standing.{dealt}
 use Rattle.trial.specs.Accesses.{Accessible}
 
 -- a store in a list of cells

@@ -2,12 +2,12 @@
 use mathlib.Core.Path.{_≡_, subst}
 use mathlib.Core.Bool.{Bool, true, false, cond, _&&_}
 use mathlib.Core.List.{List, [], _∷_}
-use Prim.Native.Nat.{ℕ, zero, suc, _+_, _-_, _<_}
+use Prim.Native.Nat.{ℕ, zero, suc, _-_, _<_}
 use native.Mathlib.Omega.{arith}
 use lib.Dec.{leb, ltb}
 use lib.ListN.{length}
 use lib.IntN.{ℤ, pos, negsuc}
-use Rattle.int32.specs.Integers.{value, sum, difference, product, negation, quotient, rdiv, related, same}
+use Rattle.int32.specs.Integers.{quotient, rdiv, related, same}
 use Rattle.rules.specs.Loop.{Act, read, write, update, fault, done}
 use Rattle.syntax.specs.Bytes.{choose}
 use Rattle.syntax.specs.Meaning.{located, divides}

@@ -1,25 +1,21 @@
 -- What a run that came to its end leaves, word by word.
-use mathlib.Core.Path.{_≡_, refl, sym, _∙_, ap}
-use mathlib.Core.Logic.{_⊎_, inl, inr, _↔_}
+use mathlib.Core.Path.{_∙_}
+use mathlib.Core.Logic.{inl, inr, _↔_}
 use mathlib.Core.List.{List}
-use mathlib.Core.Option.{Option, none, some}
-use Prim.Native.Nat.{ℕ, suc, _+_, _≤_, _<_}
-use native.Mathlib.Decide.{decLt}
+use Prim.Native.Nat.{ℕ, _<_}
 use native.Mathlib.Omega.{arith}
 use lib.ListN.{getD}
 use lib.IntN.{ℤ}
-use Rattle.rules.specs.Choose.{pick}
-use Rattle.rules.specs.Loop.{Loop, Partition, bound}
+use Rattle.rules.specs.Loop.{Loop, Partition}
 use Rattle.rules.specs.Blocks.{singles}
 use Rattle.rules.specs.Steps.{State, Stopped}
 use Rattle.shadow.proofs.Shows.{table, Shows, tables-right}
-use Rattle.tables.specs.Layout.{row-at, own-at}
 use Rattle.tables.proofs.Logged.{logged-pairs, logged-cells, logged-marks, logged-obstacle}
 use Rattle.trial.specs.declared.Worker.{Worker}
 use Rattle.trial.specs.declared.Setting.{Setting}
 use Rattle.trial.specs.Standing.{dealt}
 use Rattle.trial.specs.Running.{nobody, Run, AllOver}
-use Rattle.trial.specs.Leaves.{private-at, Leaves}
+use Rattle.trial.specs.Leaves.{Leaves}
 use Rattle.trial.proofs.Turns.{run-turn, turn-end, turn-fault}
 use Rattle.trial.proofs.ReadingOff.{is-fault}
 

@@ -1,15 +1,13 @@
 -- Each step brings a processor nearer to its end.
-use mathlib.Core.Path.{_≡_, refl, sym, _∙_, ap}
+use mathlib.Core.Path.{_≡_, _∙_, ap}
 use mathlib.Core.Logic.{_≢_}
 use mathlib.Core.List.{List}
-use Prim.Native.Nat.{ℕ, zero, suc, _+_, _-_, _*_, _/_, _≤_, _<_}
-use native.Mathlib.Numerals.{unary-clauses}
+use Prim.Native.Nat.{ℕ, suc, _+_, _-_, _*_, _/_, _≤_, _<_}
 use native.Mathlib.Omega.{arith}
 use lib.ListN.{length}
 use lib.IntN.{ℤ}
 use Rattle.rules.specs.ChooseLaws.{pick-same, pick-other}
 use Rattle.machine.specs.declared.Move.{Move}
-use Rattle.machine.specs.declared.Move.the-variants.{Read, Write, Update}
 use Rattle.machine.specs.declared.Advanced.{Advanced}
 use Rattle.machine.specs.Machine.{Advances, accesses}
 use Rattle.trial.specs.declared.Point.{Point}

@@ -1,20 +1,18 @@
 -- What is read off cells, words and records after a run.
-use mathlib.Core.Path.{_≡_, refl, sym, _∙_, ap, subst}
-use mathlib.Core.Logic.{_⊎_, inl, inr, _↔_}
+use mathlib.Core.Path.{_≡_, refl, sym, _∙_, ap}
+use mathlib.Core.Logic.{inl, inr, _↔_}
 use mathlib.Core.Bool.{Bool, true, false}
-use mathlib.Core.List.{List, [], _∷_}
-use Prim.Native.Nat.{ℕ, zero, suc, _+_, _*_, _≤_, _<_}
-use native.Mathlib.Decide.{ℕ-discrete, decLt}
+use mathlib.Core.List.{List}
+use Prim.Native.Nat.{ℕ, suc, _+_, _≤_, _<_}
+use native.Mathlib.Decide.{ℕ-discrete}
 use native.Mathlib.Omega.{arith}
 use lib.ListN.{length, getD, set, length-set}
 use lib.Seq.{getD-set-same, getD-set-other}
 use lib.IntN.{ℤ, pos}
 use Rattle.int32.specs.Integers.{value}
-use Rattle.rules.specs.Choose.{pick}
-use Rattle.rules.specs.ChooseLaws.{pick-other}
 use Rattle.rules.specs.Cells.{cellOf, listed}
-use Rattle.rules.proofs.CellsLaws.{listed-length, cell-listed, listed-same, listed-cells}
-use Rattle.rules.specs.Loop.{Act, fault, Loop, Partition, bound}
+use Rattle.rules.proofs.CellsLaws.{cell-listed, listed-same, listed-cells}
+use Rattle.rules.specs.Loop.{Act, fault, Loop, Partition}
 use Rattle.rules.specs.Blocks.{singles}
 use Rattle.rules.specs.Log.{only}
 use Rattle.rules.specs.Obstacles.{ObstacleAt, Obstructed}

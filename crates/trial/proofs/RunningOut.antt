@@ -14,7 +14,7 @@ use lib.Seq.{getD-set-same, getD-set-other}
 use lib.IntN.{ℤ}
 use Rattle.rules.specs.ChooseLaws.{put-same}
 use Rattle.rules.specs.Loop.{Act, read, write, update, fault, done, Loop, Partition, bound}
-use Rattle.rules.specs.Steps.{Place, State, opening, moved, given, stored, go-on, step, through, through-all, run-out}
+use Rattle.rules.specs.Steps.{Place, State, opening, given, go-on, step, through, through-all, run-out}
 use Rattle.rules.specs.Blocks.{blockStart}
 use Rattle.trial.specs.declared.Point.{Point}
 use Rattle.trial.specs.declared.Worker.{Worker}

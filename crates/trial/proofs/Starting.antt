@@ -1,32 +1,31 @@
 -- How a run begins.
 use mathlib.Core.Path.{_≡_, refl, sym, _∙_, ap, subst}
 use mathlib.Core.List.{List, []}
-use Prim.Native.Nat.{ℕ, zero, suc, _+_, _*_, _≤_, _<_}
+use Prim.Native.Nat.{ℕ, suc, _+_, _≤_, _<_}
 use native.Mathlib.Decide.{ℕ-discrete}
 use native.Mathlib.Omega.{arith}
 use lib.ListN.{length, getD, set, replicate}
 use lib.Seq.{getD-set-same, getD-set-other}
-use lib.IntN.{ℤ, pos, _+ℤ_}
+use lib.IntN.{ℤ}
 use mir.Syntax.{w32}
 use mir.Val.{SFits}
 use Rattle.rules.specs.ChooseLaws.{pick-same}
 use Rattle.rules.specs.Cells.{cellOf, listed}
 use Rattle.rules.proofs.CellsLaws.{listed-length, cell-listed}
-use Rattle.rules.specs.Loop.{fault, Class, shared, lastprivate, reduction, Loop, Partition, bound}
+use Rattle.rules.specs.Loop.{fault, Class, shared, lastprivate, reduction, Loop, bound}
 use Rattle.rules.specs.Blocks.{blockStart, singles}
-use Rattle.rules.specs.Steps.{State, opening, start}
+use Rattle.rules.specs.Steps.{start}
 use Rattle.shadow.proofs.Orderly.{start-orderly}
 use Rattle.tables.specs.Layout.{row-at, class-number}
 use Rattle.tables.specs.Changes.{entered}
 use Rattle.tables.proofs.Held.{rows-apart}
 use Rattle.tables.proofs.Start.{Begun, begun-clear, begun-more}
 use Rattle.tables.proofs.Logged.{Logged, logged-nil}
-use Rattle.code.specs.Instr.{instructions, resume}
 use Rattle.machine.specs.Machine.{pendings}
 use Rattle.trial.specs.declared.Worker.{Worker}
 use Rattle.trial.specs.declared.Setting.{Setting}
-use Rattle.trial.specs.Standing.{dealt, Coded, left-of}
-use Rattle.trial.specs.Running.{Held, waiting, nobody, Run}
+use Rattle.trial.specs.Standing.{dealt, left-of}
+use Rattle.trial.specs.Running.{nobody, Run}
 use Rattle.trial.specs.Start.{Entry, Starts, Crew}
 use Rattle.trial.proofs.Turns.{bound-is}
 

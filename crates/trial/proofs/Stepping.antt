@@ -1,8 +1,8 @@
 -- A step by what its processor does: the state after it, and what cells, words and record then stand for.
 use mathlib.Core.Path.{_≡_, refl, sym, _∙_, ap, subst}
 use mathlib.Core.Logic.{_≢_}
-use mathlib.Core.List.{List, [], _∷_}
-use Prim.Native.Nat.{ℕ, zero, suc, _+_, _≤_, _<_}
+use mathlib.Core.List.{List, _∷_}
+use Prim.Native.Nat.{ℕ, suc, _+_, _≤_, _<_}
 use native.Mathlib.Decide.{decLt}
 use native.Mathlib.Numerals.{add-one}
 use native.Mathlib.Omega.{arith}
@@ -13,7 +13,7 @@ use Rattle.rules.specs.Cells.{listed}
 use Rattle.rules.specs.Loop.{Act, read, write, update, fault, done, Loop, Partition, bound}
 use Rattle.rules.specs.Log.{reads, writes, updates, access}
 use Rattle.rules.specs.Proper.{Sized}
-use Rattle.rules.specs.Steps.{Place, State, opening, moved, given, stored, go-on, step}
+use Rattle.rules.specs.Steps.{State, opening, moved, given, stored, go-on, step}
 use Rattle.rules.proofs.TrialRun.{Home, home}
 use Rattle.shadow.proofs.Orderly.{step-keeps}
 use Rattle.tables.proofs.Logged.{Logged}

@@ -2,25 +2,22 @@
 use mathlib.Core.Path.{_≡_, refl, sym, _∙_, ap, subst}
 use mathlib.Core.Logic.{_≢_}
 use mathlib.Core.List.{List, [], _∷_}
-use Prim.Native.Nat.{ℕ, zero, suc, _+_, _≤_, _<_}
+use Prim.Native.Nat.{ℕ, zero, suc, _≤_, _<_}
 use native.Mathlib.Decide.{ℕ-discrete, decLt}
 use native.Mathlib.Omega.{arith}
 use lib.ListN.{length, getD, set, take}
 use lib.Seq.{getD-set-same, getD-set-other}
-use lib.IntN.{ℤ, pos, _+ℤ_}
+use lib.IntN.{ℤ}
 use Rattle.rules.specs.ChooseLaws.{pick-other}
-use Rattle.rules.specs.Loop.{Act, fault, Loop, Partition, bound}
+use Rattle.rules.specs.Loop.{fault, Loop, Partition, bound}
 use Rattle.rules.specs.Blocks.{blockStart, singles}
 use Rattle.rules.proofs.BlocksLaws.{share-floor, start-within}
-use Rattle.rules.proofs.TrialRun.{Home, home}
-use Rattle.rules.specs.Steps.{Place, State, step, steps}
-use Rattle.code.specs.Instr.{instructions, resume}
-use Rattle.machine.specs.Machine.{pendings}
-use Rattle.trial.specs.declared.Point.{Point}
+use Rattle.rules.proofs.TrialRun.{home}
+use Rattle.rules.specs.Steps.{State, step, steps}
 use Rattle.trial.specs.declared.Worker.{Worker}
 use Rattle.trial.specs.declared.Setting.{Setting}
-use Rattle.trial.specs.Standing.{dealt, Standing, Placed, left-of, Open}
-use Rattle.trial.specs.Running.{Running, point-of, Held, nobody, Run, Turn}
+use Rattle.trial.specs.Standing.{dealt, Standing, left-of, Open}
+use Rattle.trial.specs.Running.{point-of, Held, nobody, Run, Turn}
 use Rattle.trial.proofs.Stepping.{step-finished, step-stopped, step-other}
 
 -- the first iteration of a processor, as the code has it

@@ -8,7 +8,7 @@ use lib.ListN.{length, getD, set, length-set}
 use lib.Seq.{getD-set-same, getD-set-other}
 use lib.IntN.{ℤ}
 use Rattle.int32.specs.Integers.{word}
-use Rattle.rules.specs.Cells.{cellOf, listed}
+use Rattle.rules.specs.Cells.{cellOf}
 use Rattle.rules.proofs.CellsLaws.{listed-length, cell-listed}
 use Rattle.rules.specs.Loop.{Loop}
 use Rattle.rules.specs.Blocks.{singles}

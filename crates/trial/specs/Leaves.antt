@@ -11,7 +11,7 @@ use lib.IntN.{ℤ}
 use Rattle.int32.specs.Integers.{value}
 use Rattle.rules.specs.Choose.{pick}
 use Rattle.rules.specs.Cells.{listed}
-use Rattle.rules.specs.Loop.{Loop, Partition}
+use Rattle.rules.specs.Loop.{Loop}
 use Rattle.rules.specs.Log.{only, written}
 use Rattle.rules.specs.Marks.{marks}
 use Rattle.rules.specs.Obstacles.{ObstacleAt}

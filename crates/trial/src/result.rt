@@ -1,7 +1,5 @@
 // What is read off cells, words and records after a run.
-ghost use mathlib.Core.Path.{_≡_};
 ghost use Prim.Native.Nat.{_≤_};
-ghost use lib.ListN.{length};
 ghost use Rattle.trial.specs.View.{Stands};
 ghost use Rattle.trial.specs.ReadOff.{Fails, Judges, Merges, CanRestore, Restores};
 use crate::Worker;

@@ -1,10 +1,10 @@
 -- `trial::crew` meets its contract: the records below q are at the start of their blocks.
 use borrow.Author.Needs.{needs}
-use mathlib.Core.Path.{_≡_, refl, _∙_, ap}
-use Prim.Native.Nat.{ℕ, suc, _≤_, _<_, _-_}
+use mathlib.Core.Path.{_≡_, _∙_, ap}
+use Prim.Native.Nat.{ℕ, _≤_, _<_, _-_}
 use native.Mathlib.Numerals.{add-one}
 use native.Mathlib.Omega.{arith}
-use lib.ListN.{length, getD, set, length-set}
+use lib.ListN.{length, getD, length-set}
 use Rattle.rules.specs.Blocks.{blockStart}
 use Rattle.trial.specs.Running.{waiting, nobody}
 use Rattle.trial.proofs.Starting.{crew-more}

@@ -1,13 +1,13 @@
 -- `trial::enter` meets its contract: the rows of the cells passed have begun.
 use borrow.Author.Needs.{needs}
 use mathlib.Core.Path.{_≡_, refl}
-use Prim.Native.Nat.{ℕ, _≤_, _-_}
+use Prim.Native.Nat.{_≤_, _-_}
 use native.Mathlib.Numerals.{add-one}
 use native.Mathlib.Omega.{arith}
 use mir.Syntax.{w32}
 use mir.Val.{toZ, ofZ}
 use lib.IntN.{pos}
-use lib.ListN.{length, getD, length-replicate}
+use lib.ListN.{length, getD}
 use Rattle.rules.specs.Cells.{cellOf}
 use Rattle.rules.specs.Loop.{Loop}
 use Rattle.tables.proofs.Start.{Begun}

@@ -1,5 +1,5 @@
 -- `trial::go_on` meets its contract: each arm by the law of its move.
-use Prim.Native.Nat.{ℕ, _/_}
+use Prim.Native.Nat.{_/_}
 use lib.ListN.{length}
 use Rattle.trial.proofs.Nearing.{nearer-access, nearer-fault, nearer-end}
 use Rattle.trial.proofs.Stepping.{open-home, can-read, can-push, can-write, can-update, comes-read, comes-write, comes-update, fault-some, comes-fault, comes-end}

@@ -1,7 +1,5 @@
 -- `trial::is_open` meets its contract.
-use mathlib.Core.Path.{_≡_}
 use borrow.Author.Tests.{eq-eqb, ne-eqb}
-use lib.Dec.{eqb}
 use Rattle.trial.specs.Running.{opened}
 use Rattle.trial.proofs.is_open.Statement.{statement}
 use Rattle.trial.proofs.is_open.Tie as tie

@@ -1,13 +1,13 @@
 -- `trial::show` meets its contract: the cells passed are shown.
 use borrow.Author.Needs.{needs}
 use mathlib.Core.Path.{_≡_, refl}
-use Prim.Native.Nat.{ℕ, _≤_, _-_}
+use Prim.Native.Nat.{_≤_, _-_}
 use native.Mathlib.Numerals.{add-one}
 use native.Mathlib.Omega.{arith}
 use mir.Syntax.{w32}
 use mir.Val.{toZ, ofZ}
 use lib.IntN.{pos}
-use lib.ListN.{length, getD, set, length-set}
+use lib.ListN.{length, getD, length-set}
 use Rattle.int32.specs.Integers.{word}
 use Rattle.rules.specs.Cells.{cellOf}
 use Rattle.trial.proofs.Viewing.{Showing, showing-more, marks-at, standing-low, standing-room, standing-shown}

@@ -1,11 +1,11 @@
 -- `trial::result::is_obstructed` meets its contract: none of the cells passed has an obstacle.
 use borrow.Author.Needs.{needs}
 use mathlib.Core.Path.{_≡_, refl, sym, _∙_}
-use mathlib.Core.Bool.{Bool, true, false}
+use mathlib.Core.Bool.{true, false}
 use Prim.Native.Nat.{ℕ, _≤_, _<_, _-_}
 use native.Mathlib.Omega.{arith}
 use borrow.Author.Count.{below-more}
-use lib.ListN.{length, getD}
+use lib.ListN.{length}
 use Rattle.trial.proofs.Viewing.{standing-low, standing-room}
 use Rattle.trial.proofs.ReadingOff.{blocked-at, standing-obstructed, standing-free}
 use Rattle.trial.proofs.result.is_obstructed.Statement.{statement}
