@@ -4,6 +4,7 @@ use generate::tables::{arguments, data, text_rows};
 use generate::{damage, hostile, noise, Knobs, Loop, Rng};
 use reference::Refusal;
 
+use crate::services::{check, check_and_load, load};
 use crate::tally::Tally;
 
 /// A group by its name; whether nothing differed.
@@ -12,16 +13,16 @@ pub type Group = (&'static str, fn() -> bool);
 /// All groups.
 pub const GROUPS: [Group; 5] = [
     ("tables", tables),
-    ("arguments", lent_cells),
+    ("lent", lent),
     ("loops", loops),
     ("damaged", damaged),
     ("noise", any_bytes),
 ];
 
 /// How many loops, damaged loops and texts that are no loops are drawn.
-const LOOPS: u64 = 30_000;
-const DAMAGED: u64 = 60_000;
-const NOISE: u64 = 30_000;
+const LOOPS: u64 = 25_000;
+const DAMAGED: u64 = 35_000;
+const NOISE: u64 = 20_000;
 
 fn refused(number: u32, line: u32) -> Refusal {
     Refusal { number, line, v: 0 }
@@ -32,30 +33,31 @@ fn tables() -> bool {
     let mut tally = Tally::new("tables");
     let mut rng = Rng::new(1);
     for row in text_rows() {
-        tally.text(&row.name, &row.text, &mut rng);
+        let mut text = tally.next(&row.name, &row.text);
         let expected = row.expected.map_err(|(number, line)| refused(number, line));
-        tally.check(&row.name, &row.text, expected);
+        check(&mut text, expected);
+        check_and_load(&mut text, &mut rng);
     }
     for row in data::load_rows() {
-        tally.text(&row.name, &row.text, &mut rng);
-        let before = vec![77; row.cells.len()];
-        tally.load_into(&row.name, &row.text, &before, (Ok(()), &row.cells));
+        let mut text = tally.next(&row.name, &row.text);
+        load(&mut text, &vec![77; row.cells.len()], Ok(()), &row.cells);
+        check_and_load(&mut text, &mut rng);
     }
     tally.report()
 }
 
 /// Numbers 1 to 5 of Load, by the table of what is lent.
-fn lent_cells() -> bool {
-    let mut tally = Tally::new("arguments");
+fn lent() -> bool {
+    let mut tally = Tally::new("what is lent");
     for row in arguments::rows() {
-        tally.begin();
+        let mut text = tally.next(row.name, row.text.as_bytes());
         let before = vec![77; row.cells];
         let (expected, after) = match row.load {
             0 => (Ok(()), vec![0; row.cells]),
             5 => (Err(refused(5, 0)), before.clone()),
             number => (Err(refused(number, 1)), before.clone()),
         };
-        tally.load_into(row.name, row.text.as_bytes(), &before, (expected, &after));
+        load(&mut text, &before, expected, &after);
     }
     tally.report()
 }
@@ -76,12 +78,12 @@ fn loops() -> bool {
         let mut rng = Rng::new(seed);
         let name = format!("seed {seed}");
         let made = drawn(&mut rng);
-        let text = made.text();
-        tally.text(&name, &text, &mut rng);
-        if text.len() <= 2048 {
-            tally.check(&name, &text, Ok((made.cells.len(), made.processors)));
-            let before = vec![77; made.cells.len()];
-            tally.load_into(&name, &text, &before, (Ok(()), &made.cells));
+        let bytes = made.text();
+        let mut text = tally.next(&name, &bytes);
+        check_and_load(&mut text, &mut rng);
+        if bytes.len() <= 2048 {
+            check(&mut text, Ok((made.cells.len(), made.processors)));
+            load(&mut text, &vec![77; made.cells.len()], Ok(()), &made.cells);
         }
     }
     tally.report()
@@ -94,7 +96,7 @@ fn damaged() -> bool {
         let mut rng = Rng::new(seed);
         let text = drawn(&mut rng).text();
         let text = damage::damage(&text, &mut rng);
-        tally.text(&format!("seed {seed}"), &text, &mut rng);
+        check_and_load(&mut tally.next(&format!("seed {seed}"), &text), &mut rng);
     }
     tally.report()
 }
@@ -109,7 +111,7 @@ fn any_bytes() -> bool {
         } else {
             noise::bytes(&mut rng)
         };
-        tally.text(&format!("seed {seed}"), &text, &mut rng);
+        check_and_load(&mut tally.next(&format!("seed {seed}"), &text), &mut rng);
     }
     tally.report()
 }
