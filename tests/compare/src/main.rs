@@ -2,7 +2,7 @@
 //!
 //!     compare              every group of texts
 //!     compare GROUP..      some of them: tables, lent, loops, damaged, noise
-//!     compare stack KIB    how much stack Check needs; whether it is at most so much
+//!     compare stack KIB    how much stack the services need; whether it is at most so much
 //!     compare text FILE    what both answer for one text
 //!
 //! The exit status is 0 only if nothing differs.

@@ -1,8 +1,9 @@
-//! How much stack Check needs: the deepest texts are checked in processes of their own with less and
-//! less stack.
+//! How much stack the services need: the deepest texts are read in processes of their own with less
+//! and less stack.
 
 use generate::tables::limits::deep_rows;
 use generate::tables::{text_rows, TextRow};
+use reference::Refusal;
 use std::io;
 use std::process::{Command, Stdio};
 
@@ -44,7 +45,7 @@ pub fn measure(limit: u64) -> bool {
     most <= limit
 }
 
-/// The least stack in KiB with which a process checks the text, found by halving.
+/// The least stack in KiB with which a process reads the text, found by halving.
 fn needed(index: usize) -> io::Result<Option<u64>> {
     if !enough(index, MOST)? {
         return Ok(None);
@@ -61,7 +62,7 @@ fn needed(index: usize) -> io::Result<Option<u64>> {
     Ok(Some(much))
 }
 
-/// Whether a process with so much stack checks the text.
+/// Whether a process with so much stack reads the text.
 fn enough(index: usize, stack: u64) -> io::Result<bool> {
     let status = Command::new("sh")
         .args([
@@ -77,9 +78,13 @@ fn enough(index: usize, stack: u64) -> io::Result<bool> {
     Ok(status.success())
 }
 
-/// Checks one of the texts on this process's own stack; whether the answer is the table's.
+/// Check and Load of one of the texts on this process's own stack; whether both answer as the table
+/// says.
 pub fn child(index: usize) -> bool {
     let row = &rows()[index];
-    let answer = product::check(&row.text).map_err(|refusal| (refusal.number, refusal.line));
-    answer == row.expected
+    let numbers = |refusal: Refusal| (refusal.number, refusal.line);
+    let checked = product::check(&row.text).map_err(numbers);
+    let mut cells = vec![0; row.expected.map_or(0, |(cells, _)| cells)];
+    let loaded = product::load(&row.text, &mut cells).map_err(numbers);
+    checked == row.expected && loaded == row.expected.map(|_| ())
 }

@@ -174,6 +174,13 @@ fn bracket_rows() -> Vec<TextRow> {
     ]
 }
 
+/// The shortest way to a statement, nothing but brackets, and a line after it, so that it is not read
+/// as the last one of an unfinished text.
+fn most_brackets() -> String {
+    let head = "integer s\n!$omp parallel do num_threads(1)\ndo i=1,1\ns=";
+    format!("{head}{}\n\n", "(".repeat(2046 - head.len()))
+}
+
 /// Brackets as deep as the bytes allow (READING 45).
 pub fn deep_rows() -> Vec<TextRow> {
     let room = 2048 - with_statement("s = 1").len();
@@ -215,6 +222,7 @@ pub fn deep_rows() -> Vec<TextRow> {
             2,
         ),
         TextRow::bad("2,048 brackets and nothing else", "(".repeat(2048), 2, 1),
+        TextRow::bad("as many brackets as a text can hold", most_brackets(), 2, 4),
         row(
             "as many subscripts as fit",
             format!("s = {}", nest("a(", room / 3, "1")),
