@@ -1,0 +1,60 @@
+! Lapwingboard for Fortran: the functions of include/lrpd.h, which says what they do, for texts and integer arrays as Fortran has
+! them. Compile this file with the program and link target/staticlib/libexports.a.
+!
+! The lines of a text are parted by new_line('a'). All of the string is the text: of a padded variable pass trim(text).
+module lrpd
+  use, intrinsic :: iso_c_binding, only: c_char, c_int32_t, c_size_t
+  implicit none
+  private
+  public :: lrpd_check_answer, lrpd_done_answer, lrpd_check, lrpd_load
+
+  ! The most characters of a text and the most cells of a loop.
+  integer, parameter, public :: lrpd_most_bytes = 2048, lrpd_most_cells = 4096
+
+  ! A refusal's number, or 0, its line and v; then the numbers of cells and processors.
+  type, bind(C) :: lrpd_check_answer
+    integer(c_int32_t) :: number, line, v, cells, processors
+  end type
+
+  ! A refusal's number, or 0, its line and v.
+  type, bind(C) :: lrpd_done_answer
+    integer(c_int32_t) :: number, line, v
+  end type
+
+  interface
+    function c_check(text, length) bind(C, name="lrpd_check") result(answer)
+      import :: c_char, c_size_t, lrpd_check_answer
+      character(kind=c_char), intent(in) :: text(*)
+      integer(c_size_t), value :: length
+      type(lrpd_check_answer) :: answer
+    end function
+
+    function c_load(text, length, cells, count) bind(C, name="lrpd_load") result(answer)
+      import :: c_char, c_int32_t, c_size_t, lrpd_done_answer
+      character(kind=c_char), intent(in) :: text(*)
+      integer(c_size_t), value :: length, count
+      integer(c_int32_t), intent(inout) :: cells(*)
+      type(lrpd_done_answer) :: answer
+    end function
+  end interface
+
+contains
+
+  ! Whether the text is a loop, and how many cells and processors it has.
+  function lrpd_check(text) result(answer)
+    character(len=*), intent(in) :: text
+    type(lrpd_check_answer) :: answer
+
+    answer = c_check(text, len(text, c_size_t))
+  end function
+
+  ! Fills the cells from the text's data.
+  function lrpd_load(text, cells) result(answer)
+    character(len=*), intent(in) :: text
+    integer(c_int32_t), contiguous, intent(inout) :: cells(:)
+    type(lrpd_done_answer) :: answer
+
+    answer = c_load(text, len(text, c_size_t), cells, size(cells, kind=c_size_t))
+  end function
+
+end module

@@ -1,0 +1,117 @@
+//! The groups of texts that are compared.
+
+use generate::tables::{arguments, data, text_rows};
+use generate::{damage, hostile, noise, Knobs, Loop, Rng};
+use reference::Refusal;
+
+use crate::services::{check, check_and_load, load};
+use crate::tally::Tally;
+
+/// A group by its name; whether nothing differed.
+pub type Group = (&'static str, fn() -> bool);
+
+/// All groups.
+pub const GROUPS: [Group; 5] = [
+    ("tables", tables),
+    ("lent", lent),
+    ("loops", loops),
+    ("damaged", damaged),
+    ("noise", any_bytes),
+];
+
+/// How many loops, damaged loops and texts that are no loops are drawn.
+const LOOPS: u64 = 25_000;
+const DAMAGED: u64 = 35_000;
+const NOISE: u64 = 20_000;
+
+fn refused(number: u32, line: u32) -> Refusal {
+    Refusal { number, line, v: 0 }
+}
+
+/// The tables written by hand: against their own answers and against the reference.
+fn tables() -> bool {
+    let mut tally = Tally::new("tables");
+    let mut rng = Rng::new(1);
+    for row in text_rows() {
+        let mut text = tally.next(&row.name, &row.text);
+        let expected = row.expected.map_err(|(number, line)| refused(number, line));
+        check(&mut text, expected);
+        check_and_load(&mut text, &mut rng);
+    }
+    for row in data::load_rows() {
+        let mut text = tally.next(&row.name, &row.text);
+        load(&mut text, &vec![77; row.cells.len()], Ok(()), &row.cells);
+        check_and_load(&mut text, &mut rng);
+    }
+    tally.report()
+}
+
+/// Numbers 1 to 5 of Load, by the table of what is lent.
+fn lent() -> bool {
+    let mut tally = Tally::new("what is lent");
+    for row in arguments::rows() {
+        let mut text = tally.next(row.name, row.text.as_bytes());
+        let before = vec![77; row.cells];
+        let (expected, after) = match row.load {
+            0 => (Ok(()), vec![0; row.cells]),
+            5 => (Err(refused(5, 0)), before.clone()),
+            number => (Err(refused(number, 1)), before.clone()),
+        };
+        load(&mut text, &before, expected, &after);
+    }
+    tally.report()
+}
+
+/// A random loop, at times a hostile one.
+fn drawn(rng: &mut Rng) -> Loop {
+    if rng.chance(10) {
+        return hostile::hostile(rng);
+    }
+    let knobs = Knobs::mixed(rng);
+    Loop::random(rng, &knobs)
+}
+
+/// Random loops: against what their maker knows of them and against the reference.
+fn loops() -> bool {
+    let mut tally = Tally::new(&format!("loops of the seeds 0 to {}", LOOPS - 1));
+    for seed in 0..LOOPS {
+        let mut rng = Rng::new(seed);
+        let name = format!("seed {seed}");
+        let made = drawn(&mut rng);
+        let bytes = made.text();
+        let mut text = tally.next(&name, &bytes);
+        check_and_load(&mut text, &mut rng);
+        if bytes.len() <= 2048 {
+            check(&mut text, Ok((made.cells.len(), made.processors)));
+            load(&mut text, &vec![77; made.cells.len()], Ok(()), &made.cells);
+        }
+    }
+    tally.report()
+}
+
+/// Random loops with bytes, tokens or lines taken out, doubled, swapped or changed.
+fn damaged() -> bool {
+    let mut tally = Tally::new(&format!("damaged loops of the seeds 0 to {}", DAMAGED - 1));
+    for seed in 0..DAMAGED {
+        let mut rng = Rng::new(seed);
+        let text = drawn(&mut rng).text();
+        let text = damage::damage(&text, &mut rng);
+        check_and_load(&mut tally.next(&format!("seed {seed}"), &text), &mut rng);
+    }
+    tally.report()
+}
+
+/// Tokens in any order, and arbitrary bytes.
+fn any_bytes() -> bool {
+    let mut tally = Tally::new(&format!("noise of the seeds 0 to {}", NOISE - 1));
+    for seed in 0..NOISE {
+        let mut rng = Rng::new(seed);
+        let text = if rng.chance(50) {
+            noise::soup(&mut rng)
+        } else {
+            noise::bytes(&mut rng)
+        };
+        check_and_load(&mut tally.next(&format!("seed {seed}"), &text), &mut rng);
+    }
+    tally.report()
+}

@@ -1,0 +1,74 @@
+//! Compares the product, linked as C links it, with the reference.
+//!
+//!     compare              every group of texts
+//!     compare GROUP..      some of them: tables, lent, loops, damaged, noise
+//!     compare stack KIB    how much stack the services need; whether it is at most so much
+//!     compare text FILE    what both answer for one text
+//!
+//! The exit status is 0 only if nothing differs.
+
+mod groups;
+mod product;
+mod services;
+mod stack;
+mod tally;
+
+use groups::GROUPS;
+use std::process::ExitCode;
+use std::thread;
+
+/// Both readers are recursive: 2,048 bytes can hold nearly as many brackets.
+const STACK: usize = 256 << 20;
+
+fn main() -> ExitCode {
+    let words: Vec<String> = std::env::args().skip(1).collect();
+    let words: Vec<&str> = words.iter().map(String::as_str).collect();
+    let good = match words[..] {
+        ["stack-child", index] => index.parse().is_ok_and(stack::child),
+        ["stack", limit] => limit.parse().is_ok_and(stack::measure),
+        ["text", file] => on_a_big_stack({
+            let file = file.to_string();
+            move || show(&file)
+        }),
+        _ => on_a_big_stack({
+            let names: Vec<String> = words.iter().map(|word| word.to_string()).collect();
+            move || compare(&names)
+        }),
+    };
+    if good {
+        ExitCode::SUCCESS
+    } else {
+        ExitCode::FAILURE
+    }
+}
+
+fn on_a_big_stack(work: impl FnOnce() -> bool + Send + 'static) -> bool {
+    let thread = thread::Builder::new().stack_size(STACK).spawn(work);
+    thread.is_ok_and(|thread| thread.join().unwrap_or(false))
+}
+
+/// Compares the groups of these names, or all.
+fn compare(names: &[String]) -> bool {
+    let known = |name: &String| GROUPS.iter().any(|(group, _)| group == name);
+    if let Some(name) = names.iter().find(|name| !known(name)) {
+        println!("no group has the name {name}");
+        return false;
+    }
+    let wanted = |group: &str| names.is_empty() || names.iter().any(|name| name == group);
+    let mut good = true;
+    for (_, run) in GROUPS.iter().filter(|(group, _)| wanted(group)) {
+        good &= run();
+    }
+    good
+}
+
+/// Prints what both answer for the text in a file; whether it is the same.
+fn show(file: &str) -> bool {
+    let Ok(text) = std::fs::read(file) else {
+        println!("{file} cannot be read");
+        return false;
+    };
+    let (answer, expected) = (product::check(&text), reference::check(&text));
+    println!("the product: {answer:?}\nthe reference: {expected:?}");
+    answer == expected
+}

@@ -1,0 +1,90 @@
+//! How much stack the services need: the deepest texts are read in processes of their own with less
+//! and less stack.
+
+use generate::tables::limits::deep_rows;
+use generate::tables::{text_rows, TextRow};
+use reference::Refusal;
+use std::io;
+use std::process::{Command, Stdio};
+
+use crate::product;
+
+/// The stack that no text may need, in KiB.
+const MOST: u64 = 1 << 16;
+/// A stack in which no process starts, in KiB.
+const LEAST: u64 = 8;
+
+/// The texts to measure: an ordinary one, then those with brackets as deep as the bytes allow.
+fn rows() -> Vec<TextRow> {
+    let mut rows = text_rows();
+    rows.truncate(1);
+    rows.extend(deep_rows());
+    rows
+}
+
+/// Prints the need of each text; whether none needs more than `limit` KiB.
+pub fn measure(limit: u64) -> bool {
+    let mut most = 0;
+    for (index, row) in rows().iter().enumerate() {
+        match needed(index) {
+            Ok(Some(need)) => {
+                println!("  {need} KiB: {}", row.name);
+                most = most.max(need);
+            }
+            Ok(None) => {
+                println!("  over {MOST} KiB, or a wrong answer: {}", row.name);
+                return false;
+            }
+            Err(error) => {
+                println!("  no process: {error}");
+                return false;
+            }
+        }
+    }
+    println!("stack: at most {most} KiB with the process's own start, of {limit} KiB");
+    most <= limit
+}
+
+/// The least stack in KiB with which a process reads the text, found by halving.
+fn needed(index: usize) -> io::Result<Option<u64>> {
+    if !enough(index, MOST)? {
+        return Ok(None);
+    }
+    let (mut little, mut much) = (LEAST, MOST);
+    while much - little > 4 {
+        let middle = (little + much) / 2;
+        if enough(index, middle)? {
+            much = middle;
+        } else {
+            little = middle;
+        }
+    }
+    Ok(Some(much))
+}
+
+/// Whether a process with so much stack reads the text.
+fn enough(index: usize, stack: u64) -> io::Result<bool> {
+    let status = Command::new("sh")
+        .args([
+            "-c",
+            "ulimit -s \"$1\" && exec \"$2\" stack-child \"$3\"",
+            "sh",
+        ])
+        .arg(stack.to_string())
+        .arg(std::env::current_exe()?)
+        .arg(index.to_string())
+        .stderr(Stdio::null())
+        .status()?;
+    Ok(status.success())
+}
+
+/// Check and Load of one of the texts on this process's own stack; whether both answer as the table
+/// says.
+pub fn child(index: usize) -> bool {
+    let row = &rows()[index];
+    let numbers = |refusal: Refusal| (refusal.number, refusal.line);
+    let checked = product::check(&row.text).map_err(numbers);
+    let mut cells = vec![0; row.expected.map_or(0, |(cells, _)| cells)];
+    let loaded = product::load(&row.text, &mut cells).map_err(numbers);
+    checked == row.expected && loaded == row.expected.map(|_| ())
+}

@@ -1,0 +1,319 @@
+//! The body of a random loop. Statements keep to the roles of the names; conflict has some disregard
+//! them, danger has some subscripts and divisors that may fault.
+
+use crate::builder::{Builder, Name, Role};
+
+/// References.
+impl Builder<'_> {
+    /// The number of the iteration's own cell, 1 in the first iteration.
+    fn own_number(&mut self) -> String {
+        let v = &self.variable;
+        let plain = match self.first - 1 {
+            0 => v.clone(),
+            less if less > 0 => format!("{v} - {less}"),
+            more => format!("{v} + {}", -more),
+        };
+        match self.rng.below(12) {
+            0 => format!("+{plain}"),
+            1 => format!("({plain})"),
+            2 => format!("2 - 2 + {plain}"),
+            3 => format!("rdiv(2*({plain}), 2)"),
+            4 => format!("-(-({plain}))"),
+            _ => plain,
+        }
+    }
+
+    /// A subscript that is always inside an array of this length.
+    fn safe_subscript(&mut self, length: usize) -> String {
+        let indexes: Vec<usize> = (0..self.names.len())
+            .filter(|&one| self.names[one].role == Role::Index)
+            .collect();
+        let long_enough = length >= self.iterations.max(1);
+        match self.rng.below(6) {
+            0 | 1 if long_enough => self.own_number(),
+            2 if long_enough && !indexes.is_empty() => {
+                let index = self.rng.pick(&indexes);
+                let number = self.own_number();
+                format!("{}({number})", self.names[index].name)
+            }
+            3 => format!("({})", 1 + self.rng.below(length)),
+            4 => format!("{} - 1", 2 + self.rng.below(length)),
+            _ => (1 + self.rng.below(length)).to_string(),
+        }
+    }
+
+    /// A subscript that may be anything.
+    fn wild_subscript(&mut self) -> String {
+        match self.rng.below(5) {
+            0 => self.expression(1),
+            1 => format!("{} + 1", self.own_number().trim_start_matches('+')),
+            2 => format!("{} - 1", self.own_number().trim_start_matches('+')),
+            3 => self.rng.between(0, 7).to_string(),
+            _ => self.factor(0),
+        }
+    }
+
+    /// A reference to a name that is never outside its array, unless danger has it.
+    fn any_reference(&mut self, index: usize) -> String {
+        let Name {
+            name,
+            is_array,
+            values,
+            ..
+        } = self.names[index].clone();
+        if !is_array {
+            return name;
+        }
+        let subscript = if self.rng.chance(self.knobs.danger) {
+            self.wild_subscript()
+        } else {
+            self.safe_subscript(values.len())
+        };
+        format!("{name}({subscript})")
+    }
+
+    /// The reference an iteration may make to a name with a role of its own cell.
+    fn own_reference(&mut self, index: usize) -> String {
+        let number = if self.rng.chance(self.knobs.danger / 2) {
+            self.wild_subscript()
+        } else {
+            self.own_number()
+        };
+        let name = &self.names[index];
+        match name.role {
+            Role::Own {
+                through: Some(through),
+            } => format!("{}({}({number}))", name.name, self.names[through].name),
+            _ => format!("{}({number})", name.name),
+        }
+    }
+
+    /// A reference that the roles allow to be read here, if there is one.
+    fn readable(&mut self) -> Option<String> {
+        let index = self.rng.below(self.names.len());
+        if self.rng.chance(self.knobs.conflict) {
+            return Some(self.any_reference(index));
+        }
+        match self.names[index].role {
+            Role::Own { .. } => Some(self.own_reference(index)),
+            Role::Fixed | Role::Index => Some(self.any_reference(index)),
+            Role::Temporary | Role::Sum if self.written.is_empty() => None,
+            Role::Temporary | Role::Sum => Some(self.rng.pick(&self.written)),
+        }
+    }
+}
+
+/// Expressions.
+impl Builder<'_> {
+    fn expression(&mut self, depth: usize) -> String {
+        let sign = self.rng.pick(&["", "", "", "", "", "-", "-", "+"]);
+        sign.to_string() + &self.terms(depth)
+    }
+
+    /// An expression without a sign before it.
+    fn terms(&mut self, depth: usize) -> String {
+        let mut text = self.term(depth);
+        while self.rng.chance(35) {
+            let joint = self.rng.pick(&[" + ", " - "]);
+            text = text + joint + &self.term(depth);
+        }
+        text
+    }
+
+    fn term(&mut self, depth: usize) -> String {
+        let mut text = self.factor(depth);
+        while self.rng.chance(25) {
+            if self.rng.chance(60) {
+                text = format!("{text}*{}", self.factor(depth));
+            } else {
+                text = format!("{text}/{}", self.divisor(depth));
+            }
+        }
+        text
+    }
+
+    fn factor(&mut self, depth: usize) -> String {
+        match self.rng.below(10) {
+            0..=1 => self.literal(),
+            2 => self.variable.clone(),
+            8 if depth > 0 => {
+                let dividend = self.expression(depth - 1);
+                format!("rdiv({dividend}, {})", self.divisor(depth - 1))
+            }
+            9 if depth > 0 => format!("({})", self.expression(depth - 1)),
+            _ => match self.readable() {
+                Some(reference) => reference,
+                None => self.literal(),
+            },
+        }
+    }
+
+    fn literal(&mut self) -> String {
+        match self.rng.below(20) {
+            0 => "2147483647".to_string(),
+            1 => (self.rng.bits() % 2_147_483_648).to_string(),
+            _ => self.rng.below(10).to_string(),
+        }
+    }
+
+    /// A factor that is not zero, unless danger has it. A square and 1 is never 0, wrapped or not.
+    fn divisor(&mut self, depth: usize) -> String {
+        if self.rng.chance(self.knobs.danger) {
+            return self.factor(depth);
+        }
+        let v = &self.variable;
+        match self.rng.below(8) {
+            0 => format!("({v}*{v} + 1)"),
+            1 => format!("(-{})", 1 + self.rng.below(3)),
+            _ => (1 + self.rng.below(7)).to_string(),
+        }
+    }
+}
+
+/// Statements.
+impl Builder<'_> {
+    /// Some statements, with `if`s nested as deep as `nesting`.
+    pub fn block(&mut self, nesting: usize) {
+        for _ in 0..self.rng.below(self.knobs.statements + 1) {
+            let size: usize = self.lines.iter().map(|line| line.len() + 1).sum();
+            if size < self.knobs.size {
+                self.statement(nesting);
+            }
+        }
+    }
+
+    /// One statement.
+    pub fn statement(&mut self, nesting: usize) {
+        if nesting > 0 && self.rng.chance(30) {
+            return self.if_block(nesting - 1);
+        }
+        if self.rng.chance(self.knobs.conflict) {
+            let index = self.rng.below(self.names.len());
+            return self.meddle(index);
+        }
+        let writable: Vec<usize> = (0..self.names.len())
+            .filter(|&one| !matches!(self.names[one].role, Role::Fixed | Role::Index))
+            .collect();
+        let index = self.rng.pick(&writable);
+        match self.names[index].role {
+            Role::Own { .. } => {
+                let target = self.own_reference(index);
+                self.assign(&target);
+            }
+            Role::Temporary => {
+                let target = self.temporary(index);
+                self.assign(&target);
+                self.written.push(target);
+            }
+            Role::Sum => {
+                let target = self.any_reference(index);
+                self.update(&target);
+            }
+            Role::Fixed | Role::Index => unreachable!("not written"),
+        }
+    }
+
+    /// A temporary cell: by a literal subscript, so that the same cell is met again.
+    fn temporary(&mut self, index: usize) -> String {
+        let name = &self.names[index];
+        if !name.is_array {
+            return name.name.clone();
+        }
+        let number = 1 + self.rng.below(name.values.len());
+        format!("{}({number})", name.name)
+    }
+
+    fn assign(&mut self, target: &str) {
+        let value = self.expression(self.knobs.brackets);
+        self.add_one_that_fits([format!("{target} = {value}"), format!("{target} = 1")]);
+    }
+
+    fn update(&mut self, target: &str) {
+        let remainder = self.terms(self.knobs.brackets);
+        self.add_one_that_fits([
+            format!("{target} = {target} + {remainder}"),
+            format!("{target} = {target} + 1"),
+        ]);
+    }
+
+    /// Adds the first of the lines whose brackets are within their limit, or none.
+    fn add_one_that_fits(&mut self, lines: [String; 2]) {
+        let mut fitting = lines.into_iter().filter(|line| open_brackets(line) <= 8);
+        self.lines.extend(fitting.next());
+    }
+
+    fn if_block(&mut self, nesting: usize) {
+        let relation = self.rng.pick(&["==", "/=", "<", "<=", ">", ">="]);
+        let left = match self.rng.below(3) {
+            0 => self.expression(self.knobs.brackets),
+            _ => self.variable.clone(),
+        };
+        let right = match self.rng.below(3) {
+            0 => self.expression(self.knobs.brackets),
+            _ => self.middle(),
+        };
+        let (left, right) = match open_brackets(&left).max(open_brackets(&right)) {
+            0..=8 => (left, right),
+            _ => (self.variable.clone(), self.middle()),
+        };
+        self.lines
+            .push(format!("if ({left} {relation} {right}) then"));
+        let written = self.written.len();
+        self.block(nesting);
+        self.written.truncate(written);
+        if self.rng.chance(40) {
+            self.lines.push("else".to_string());
+            self.block(nesting);
+            self.written.truncate(written);
+        }
+        self.lines.push("end if".to_string());
+    }
+
+    /// A value that the variable passes.
+    fn middle(&mut self) -> String {
+        let value = self.first + self.rng.below(self.iterations + 1) as i64;
+        value.min(2_147_483_647).to_string()
+    }
+
+    /// A statement that disregards the name's role: among them assignments that nearly are updates.
+    fn meddle(&mut self, index: usize) {
+        let target = self.any_reference(index);
+        let more = self.terms(self.knobs.brackets.min(1));
+        let line = match self.rng.below(14) {
+            0 => format!("{target} = {target} - {more}"),
+            1 => format!("{target} = ({target}) + {more}"),
+            2 => format!("{target} = +{target} + {more}"),
+            3 => format!("{target} = {more} + {target}"),
+            4 => format!("{target} = {target}*2 + {more}"),
+            5 => format!("{target} = {target}"),
+            6 => format!("{target} = ({target} + {more})"),
+            7 => format!("{target} = {target} + {target}"),
+            8 | 9 => format!("{target} = {target} + {more}"),
+            10 if self.names[index].is_array => {
+                let name = &self.names[index].name;
+                format!("{name}(1) = {name}((1)) + {more}")
+            }
+            11 if self.names[index].is_array => {
+                let name = &self.names[index].name;
+                format!("{name}(1) = {name}(+1) + {more}")
+            }
+            _ => format!("{target} = {more}"),
+        };
+        self.add_one_that_fits([line, format!("{target} = 1")]);
+    }
+}
+
+/// The most brackets open together.
+fn open_brackets(text: &str) -> usize {
+    let mut open = 0;
+    let mut most = 0;
+    for byte in text.bytes() {
+        match byte {
+            b'(' => open += 1,
+            b')' => open -= 1,
+            _ => {}
+        }
+        most = most.max(open);
+    }
+    most
+}

@@ -1,0 +1,182 @@
+//! Loops in which speculation and the serial run meet different faults: one faults where the other
+//! does not. Each comes with the cells to lend.
+
+use crate::layout::Layout;
+use crate::loops::Loop;
+use crate::rng::Rng;
+
+/// A hostile loop of a random kind.
+pub fn hostile(rng: &mut Rng) -> Loop {
+    let first = rng.between(-5, 5);
+    let count = rng.between(2, 12);
+    let last = first + count - 1;
+    let (lines, cells) = match rng.below(8) {
+        0 => subscript_made_good(rng, first, last),
+        1 => divisor_made_good(rng, first, last),
+        2 => sum_read_too_early(rng, first, last),
+        3 => divisor_made_zero(rng, first, last),
+        4 => subscript_made_bad(rng, first, last),
+        5 => sum_grows_outside(rng, first, last),
+        6 => guard_opened(rng, first, last),
+        _ => guard_closed(rng, first, last),
+    };
+    let layout = rng.pick(&[Layout::PLAIN, Layout::VARIED]);
+    Loop::of_lines(lines, 1 + rng.below(8), cells, layout, rng)
+}
+
+type Drawn = (Vec<String>, Vec<i32>);
+
+fn lines(text: &str) -> Vec<String> {
+    text.lines().map(|line| line.trim().to_string()).collect()
+}
+
+fn clause(rng: &mut Rng, name: &str) -> String {
+    match rng.below(4) {
+        0 => String::new(),
+        1 => format!("shared({name})"),
+        2 => format!("lastprivate({name})"),
+        _ => format!("reduction(+:{name})"),
+    }
+}
+
+/// Document 01's example: k is outside at entry; an early iteration sets it.
+fn subscript_made_good(rng: &mut Rng, first: i64, last: i64) -> Drawn {
+    let clause = clause(rng, "k");
+    let good = rng.between(1, 4);
+    let text = format!(
+        "integer k, a(4)
+         data k /9/
+         !$omp parallel do num_threads(@) {clause}
+         do i = {first}, {last}
+         if (i == {first}) then
+         k = {good}
+         else
+         a(k) = i
+         end if
+         end do"
+    );
+    (lines(&text), vec![9, 0, 0, 0, 0])
+}
+
+/// z is 0 at entry, the first iterations set it, all divide by it afterwards.
+fn divisor_made_good(rng: &mut Rng, first: i64, last: i64) -> Drawn {
+    let clause = clause(rng, "z");
+    let until = rng.between(first, last);
+    let divide = rng.pick(&["100/z", "rdiv(100, z)", "z/z", "1 + 7/(2*z)"]);
+    let text = format!(
+        "integer a(3), z
+         !$omp parallel do {clause} num_threads(@)
+         do j = {first}, {last}
+         if (j <= {until}) then
+         z = 3
+         end if
+         a(2) = {divide}
+         end do"
+    );
+    (lines(&text), vec![0, 0, 0, 0])
+}
+
+/// The sum is at least 1 when it is read serially, but speculation reads it as at entry.
+fn sum_read_too_early(rng: &mut Rng, first: i64, last: i64) -> Drawn {
+    let by = rng.between(1, 2);
+    let text = format!(
+        "integer s, a(30)
+         !$omp parallel do num_threads(@) reduction(+:s)
+         do i = {first}, {last}
+         s = s + {by}
+         a(s) = i
+         end do"
+    );
+    (lines(&text), vec![0; 31])
+}
+
+/// All iterations divide by z, which an iteration sets to 0.
+fn divisor_made_zero(rng: &mut Rng, first: i64, last: i64) -> Drawn {
+    let clause = clause(rng, "z");
+    let at = rng.between(first, last);
+    let text = format!(
+        "integer z, a(12)
+         data z /5/
+         !$omp parallel do num_threads(@) {clause}
+         do i = {first}, {last}
+         a(i - {first} + 1) = 10/z
+         if (i == {at}) then
+         z = 0
+         end if
+         end do"
+    )
+    .replace("- -", "+ ");
+    let mut cells = vec![0; 13];
+    cells[0] = 5;
+    (lines(&text), cells)
+}
+
+/// k is inside at entry; an iteration moves it outside.
+fn subscript_made_bad(rng: &mut Rng, first: i64, last: i64) -> Drawn {
+    let clause = clause(rng, "k");
+    let at = rng.between(first, last);
+    let bad = rng.pick(&["5", "0", "-1", "k + 4", "2147483647"]);
+    let text = format!(
+        "integer a(4), k
+         data a /4*7/
+         data k /2/
+         !$omp parallel do num_threads(@) {clause} lastprivate(a)
+         do i = {first}, {last}
+         a(k) = i
+         if (i == {at}) then
+         k = {bad}
+         end if
+         end do"
+    );
+    (lines(&text), vec![7, 7, 7, 7, 2])
+}
+
+/// The sum grows beyond the array serially; speculation reads it as at entry.
+fn sum_grows_outside(rng: &mut Rng, first: i64, last: i64) -> Drawn {
+    let length = rng.between(1, 12);
+    let text = format!(
+        "integer s, a({length})
+         !$omp parallel do num_threads(@) reduction(+:s)
+         do i = {first}, {last}
+         a(s + 1) = i
+         s = s + 1
+         end do"
+    );
+    (lines(&text), vec![0; length as usize + 1])
+}
+
+/// The fault stands behind a guard that an early iteration opens.
+fn guard_opened(rng: &mut Rng, first: i64, last: i64) -> Drawn {
+    let clause = clause(rng, "g");
+    let relation = rng.pick(&[">", ">=", "/="]);
+    let text = format!(
+        "integer g, a(4)
+         !$omp parallel do {clause} num_threads(@)
+         do i = {first}, {last}
+         if (g {relation} 0) then
+         a(9) = 1
+         end if
+         g = 1
+         end do"
+    );
+    (lines(&text), vec![0; 5])
+}
+
+/// The fault stands behind a guard that is open at entry and that the first iteration closes.
+fn guard_closed(rng: &mut Rng, first: i64, last: i64) -> Drawn {
+    let clause = clause(rng, "g");
+    let text = format!(
+        "integer g, a(4)
+         data g /1/
+         !$omp parallel do {clause} num_threads(@)
+         do i = {first}, {last}
+         if (i == {first}) then
+         g = 0
+         end if
+         if (g == 1) then
+         a(1) = 1/(g - 1)
+         end if
+         end do"
+    );
+    (lines(&text), vec![1, 0, 0, 0, 0])
+}

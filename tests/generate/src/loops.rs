@@ -1,0 +1,98 @@
+//! Random loops that every reader must accept, and the knobs that say of what kind.
+
+use crate::builder::Builder;
+use crate::layout::{write_text, Layout};
+use crate::rng::Rng;
+
+/// What kind of loop is wanted.
+#[derive(Debug, Clone, Copy)]
+pub struct Knobs {
+    /// Percent of statements and reads that disregard the roles.
+    pub conflict: u32,
+    /// Percent of subscripts and divisors that may fault.
+    pub danger: u32,
+    /// The most names.
+    pub names: usize,
+    /// The most iterations.
+    pub iterations: usize,
+    /// The most statements in a block.
+    pub statements: usize,
+    /// How deep `if`s may nest.
+    pub nesting: usize,
+    /// How deep brackets in an expression may nest.
+    pub brackets: usize,
+    /// No statement is added once the lines have this many bytes.
+    pub size: usize,
+    pub layout: Layout,
+}
+
+impl Knobs {
+    /// A mixture in which many loops pass, many are rerun and many fault.
+    pub fn mixed(rng: &mut Rng) -> Self {
+        let (conflict, danger) =
+            rng.pick(&[(0, 0), (0, 0), (30, 0), (50, 0), (80, 1), (5, 20), (10, 50)]);
+        Knobs {
+            conflict,
+            danger,
+            names: rng.pick(&[2, 4, 6, 6, 16]),
+            iterations: rng.pick(&[2, 4, 6, 6, 10, 25]),
+            statements: rng.pick(&[1, 3, 5, 8, 15]),
+            nesting: rng.pick(&[0, 1, 2, 2, 3, 8]),
+            brackets: rng.pick(&[0, 1, 2, 2, 3]),
+            size: rng.pick(&[500, 700, 1000, 1400]),
+            layout: rng.pick(&[Layout::PLAIN, Layout::VARIED, Layout::VARIED, Layout::ODD]),
+        }
+    }
+}
+
+/// A loop and what its maker knows of it.
+#[derive(Debug, Clone)]
+pub struct Loop {
+    /// Its lines without layout; `@` stands for the number of processors.
+    lines: Vec<String>,
+    layout: Layout,
+    layout_seed: u64,
+    /// P.
+    pub processors: usize,
+    /// The cells as Load must fill them; their number is N.
+    pub cells: Vec<i32>,
+}
+
+impl Loop {
+    /// A loop of these lines, `@` standing for the number of processors.
+    pub fn of_lines(
+        lines: Vec<String>,
+        processors: usize,
+        cells: Vec<i32>,
+        layout: Layout,
+        rng: &mut Rng,
+    ) -> Self {
+        Loop {
+            lines,
+            layout,
+            layout_seed: rng.bits(),
+            processors,
+            cells,
+        }
+    }
+
+    /// A random loop.
+    pub fn random(rng: &mut Rng, knobs: &Knobs) -> Self {
+        Builder::new(rng, *knobs).build()
+    }
+
+    /// The same loop for another number of processors.
+    pub fn with_processors(&self, processors: usize) -> Self {
+        Loop {
+            processors,
+            ..self.clone()
+        }
+    }
+
+    /// The loop's text.
+    pub fn text(&self) -> Vec<u8> {
+        let number = self.processors.to_string();
+        let lines: Vec<String> = self.lines.iter().map(|l| l.replace('@', &number)).collect();
+        write_text(&lines, &self.layout, &mut Rng::new(self.layout_seed))
+    }
+}

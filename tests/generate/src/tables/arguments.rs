@@ -1,0 +1,99 @@
+//! Numbers 5 to 8: what is lent to Load, Look and Run (READING 73, 87, 89).
+
+/// What a caller lends, and the number that refuses it; 0 for none.
+#[derive(Debug, Clone)]
+pub struct ArgumentRow {
+    pub name: &'static str,
+    pub text: &'static str,
+    /// How many cells are lent.
+    pub cells: usize,
+    /// How many words of workspace are lent.
+    pub workspace: usize,
+    pub schedule: Vec<u8>,
+    /// How many words the view has.
+    pub view: usize,
+    /// The numbers that Load, Look and Run give.
+    pub load: u32,
+    pub look: u32,
+    pub run: u32,
+}
+
+/// N = 3 and P = 2: a workspace of 4,352 + 64 × 2 + 3 × (4 + 12) = 4,528.
+const THREE: &str =
+    "integer a(3)\n!$omp parallel do num_threads(2)\ndo i = 1, 3\na(i) = i\nend do\n";
+/// N = 4,096 and P = 8: 4,352 + 512 + 4,096 × 52 = 217,856.
+const LARGEST: &str = "integer a(4096)\n!$omp parallel do num_threads(8)\ndo i = 1, 3\nend do\n";
+/// N = 1 and P = 1: 4,352 + 64 + 10 = 4,426.
+const SMALLEST: &str = "integer a\n!$omp parallel do num_threads(1)\ndo i = 1, 0\nend do\n";
+/// Number 3 at line 1.
+const TWICE: &str = "integer a, a\n!$omp parallel do num_threads(1)\ndo i = 1, 0\nend do\n";
+
+type Lent = (usize, usize, &'static [u8], usize);
+
+fn row(
+    name: &'static str,
+    text: &'static str,
+    (cells, workspace, schedule, view): Lent,
+    (load, look, run): (u32, u32, u32),
+) -> ArgumentRow {
+    ArgumentRow {
+        name,
+        text,
+        cells,
+        workspace,
+        schedule: schedule.to_vec(),
+        view,
+        load,
+        look,
+        run,
+    }
+}
+
+/// All rows.
+pub fn rows() -> Vec<ArgumentRow> {
+    vec![
+        row("all right", THREE, (3, 4528, &[0, 1], 6), (0, 0, 0)),
+        row("a larger workspace", THREE, (3, 5000, &[1], 6), (0, 0, 0)),
+        row("a cell too few", THREE, (2, 4528, &[0], 6), (5, 5, 5)),
+        row("a cell too many", THREE, (4, 4528, &[0], 6), (5, 5, 5)),
+        row("no cells", THREE, (0, 4528, &[0], 6), (5, 5, 5)),
+        row("a word too few", THREE, (3, 4527, &[0], 6), (0, 6, 6)),
+        row("no workspace", THREE, (3, 0, &[], 6), (0, 6, 6)),
+        row("byte P", THREE, (3, 4528, &[2], 6), (0, 7, 7)),
+        row(
+            "byte P last",
+            THREE,
+            (3, 4528, &[0, 1, 0, 1, 2], 6),
+            (0, 7, 7),
+        ),
+        row("byte 255", THREE, (3, 4528, &[0, 255, 0], 6), (0, 7, 7)),
+        row(
+            "byte P after all are finished",
+            THREE,
+            (3, 4528, &[0, 0, 0, 1, 1, 1, 1, 1, 2], 6),
+            (0, 7, 7),
+        ),
+        row("a view word too few", THREE, (3, 4528, &[0], 5), (0, 8, 0)),
+        row("a view word too many", THREE, (3, 4528, &[0], 7), (0, 8, 0)),
+        row("no view", THREE, (3, 4528, &[0], 0), (0, 8, 0)),
+        row("5 before 6, 7, 8", THREE, (2, 0, &[9], 0), (5, 5, 5)),
+        row("6 before 7, 8", THREE, (3, 0, &[9], 0), (0, 6, 6)),
+        row("7 before 8", THREE, (3, 4528, &[9], 0), (0, 7, 7)),
+        row("the text first", TWICE, (9, 0, &[9], 0), (3, 3, 3)),
+        row("largest", LARGEST, (4096, 217_856, &[7], 8192), (0, 0, 0)),
+        row(
+            "largest less 1",
+            LARGEST,
+            (4096, 217_855, &[7], 8192),
+            (0, 6, 6),
+        ),
+        row("smallest", SMALLEST, (1, 4426, &[0, 0], 2), (0, 0, 0)),
+        row(
+            "smallest less 1",
+            SMALLEST,
+            (1, 4425, &[0, 0], 2),
+            (0, 6, 6),
+        ),
+        row("smallest, byte 1", SMALLEST, (1, 4426, &[1], 2), (0, 7, 7)),
+    ]
+}

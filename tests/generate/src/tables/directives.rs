@@ -1,0 +1,195 @@
+//! The directive: each stands on line 2 of a text that is good otherwise, in which s is one cell and
+//! a and b are arrays.
+
+use super::TextRow;
+
+fn framed(line: &str) -> String {
+    format!("integer s, a(4), b(4)\n{line}\ndo i = 1, 4\nend do\n")
+}
+
+/// With P.
+const GOOD: &[(&str, usize)] = &[
+    ("!$omp parallel do num_threads(1)", 1),
+    ("!$omp parallel do num_threads(8)", 8),
+    // READING 12
+    ("!$OMP PARALLEL DO NUM_THREADS(2)", 2),
+    ("!$Omp Parallel Do Num_Threads(2)", 2),
+    // READING 10
+    ("   !$omp   parallel   do   num_threads ( 2 )  ", 2),
+    // READING 19
+    (
+        "!$omp parallel do num_threads(0000000000000000000000008)",
+        8,
+    ),
+    // READING 18
+    ("!$omp parallel do shared(a)num_threads(2)", 2),
+    (
+        "!$omp parallel do num_threads(3)shared(s)lastprivate(a)reduction(+:b)",
+        3,
+    ),
+    (
+        "!$omp parallel do reduction ( + : s , a ) num_threads(2)",
+        2,
+    ),
+    (
+        "!$omp parallel do shared(s, a) lastprivate(b) num_threads(4)",
+        4,
+    ),
+    // READING 34
+    (
+        "!$omp parallel do shared(s) shared(a) num_threads(2) shared(b)",
+        2,
+    ),
+    (
+        "!$omp parallel do lastprivate(a) num_threads(2) lastprivate(s, b)",
+        2,
+    ),
+    (
+        "!$omp parallel do reduction(+:s) reduction(+:a) num_threads(2)",
+        2,
+    ),
+    (
+        "!$omp parallel do lastprivate(S) num_threads(2) SHARED(A)",
+        2,
+    ),
+];
+
+/// Number 2.
+const BROKEN: &[&str] = &[
+    // READING 26
+    "!$omp parallel do",
+    "!$omp parallel do shared(s)",
+    "!$omp parallel do num_threads(2) num_threads(2)",
+    "!$omp parallel do num_threads(2) shared(s) num_threads(3)",
+    "!$omp parallel do num_threads(0) num_threads(2)",
+    // READING 27
+    "!$omp parallel do num_threads()",
+    "!$omp parallel do num_threads(-1)",
+    "!$omp parallel do num_threads(+2)",
+    "!$omp parallel do num_threads(s)",
+    "!$omp parallel do num_threads(1+1)",
+    "!$omp parallel do num_threads((2))",
+    "!$omp parallel do num_threads(1, 2)",
+    "!$omp parallel do num_threads(1 2)",
+    "!$omp parallel do num_threads(2.)",
+    "!$omp parallel do num_threads 2",
+    "!$omp parallel do num_threads",
+    "!$omp parallel do num_threads(2",
+    "!$omp parallel do num_threads(2))",
+    "!$omp parallel do num_threads[2]",
+    "!$omp parallel do num threads(2)",
+    // READING 32
+    "!$omp parallel do num_threads(2), shared(s)",
+    "!$omp parallel do, num_threads(2)",
+    "!$omp parallel do num_threads(2),",
+    "!$omp parallel do num_threads(2) private(s)",
+    "!$omp parallel do num_threads(2) firstprivate(s)",
+    "!$omp parallel do num_threads(2) default(none)",
+    "!$omp parallel do num_threads(2) schedule(static)",
+    "!$omp parallel do num_threads(2) nowait",
+    "!$omp parallel do num_threads(2) shared()",
+    "!$omp parallel do num_threads(2) shared(s,)",
+    "!$omp parallel do num_threads(2) shared(,s)",
+    "!$omp parallel do num_threads(2) shared(s a)",
+    "!$omp parallel do num_threads(2) shared(a(1))",
+    "!$omp parallel do num_threads(2) shared(2)",
+    "!$omp parallel do num_threads(2) shared s",
+    "!$omp parallel do num_threads(2) shared",
+    "!$omp parallel do num_threads(2) lastprivate()",
+    "!$omp parallel do num_threads(2) lastprivate(+:s)",
+    "!$omp parallel do num_threads(2) reduction(-:s)",
+    "!$omp parallel do num_threads(2) reduction(*:s)",
+    "!$omp parallel do num_threads(2) reduction(s)",
+    "!$omp parallel do num_threads(2) reduction(+ s)",
+    "!$omp parallel do num_threads(2) reduction(:s)",
+    "!$omp parallel do num_threads(2) reduction(+:)",
+    "!$omp parallel do num_threads(2) reduction(+:a(1))",
+    "!$omp parallel do num_threads(2) reduction(+:s:a)",
+    "!$omp parallel do num_threads(2) reduction(max:s)",
+    // READING 18
+    "!$omp paralleldo num_threads(2)",
+    "!$omp parallel do_num_threads(2)",
+    "!$omp parallel donum_threads(2)",
+    "!$omp parallel num_threads(2)",
+    "!$omp do num_threads(2)",
+    "!$omp parallel do simd num_threads(2)",
+    "!$omp do parallel num_threads(2)",
+    "!$omp",
+    "!$omp ",
+    // READING 8
+    "!$ompx",
+    "!$ompparallel do num_threads(2)",
+    "!$omp(parallel do num_threads(2)",
+    "  !$OMPPARALLEL DO NUM_THREADS(2)",
+    "!$omp!",
+    "!$omp ! parallel do num_threads(2)",
+    "!$omp\tparallel do num_threads(2)",
+    "!$omp parallel do num_threads(2) ! x",
+    "!$omp parallel do num_threads(2) &",
+    "!$omp !$omp parallel do num_threads(2)",
+    // READING 11
+    "!$omp end parallel do",
+    // READING 20, 21
+    "!$omp parallel do num_threads(2) shared(do)",
+    "!$omp parallel do num_threads(2) shared(rdiv)",
+    "!$omp parallel do num_threads(2) reduction(+:if)",
+    "!$omp parallel do num_threads(2) shared(abcdefghijklmnopqrstuvwxyz123456)",
+    // 2 before 3 and 4 (READING 23)
+    "!$omp parallel do shared(t)",
+    "!$omp parallel do num_threads(9",
+    "!$omp parallel do num_threads(9) shared(s, s) shared()",
+    "!$omp parallel do num_threads(0) shared(t) x",
+];
+
+/// Number 3.
+const MISNAMED: &[&str] = &[
+    "!$omp parallel do num_threads(2) shared(t)",
+    "!$omp parallel do num_threads(2) lastprivate(t)",
+    "!$omp parallel do num_threads(2) reduction(+:s, t)",
+    // READING 33
+    "!$omp parallel do num_threads(2) shared(i)",
+    "!$omp parallel do num_threads(2) lastprivate(i)",
+    "!$omp parallel do num_threads(2) shared(s, s)",
+    "!$omp parallel do num_threads(2) shared(s, a, S)",
+    "!$omp parallel do num_threads(2) reduction(+:s, s)",
+    "!$omp parallel do shared(s) num_threads(2) shared(s)",
+    "!$omp parallel do num_threads(2) lastprivate(s) lastprivate(s)",
+    "!$omp parallel do num_threads(2) shared(s) lastprivate(s)",
+    "!$omp parallel do num_threads(2) lastprivate(a, s) reduction(+:b, s)",
+    "!$omp parallel do num_threads(2) shared(num_threads)",
+    "!$omp parallel do num_threads(2) shared(shared)",
+    // 31 characters
+    "!$omp parallel do num_threads(2) shared(abcdefghijklmnopqrstuvwxyz12345)",
+    // 3 before 4
+    "!$omp parallel do num_threads(9) shared(t)",
+    "!$omp parallel do shared(s, s) num_threads(0)",
+    "!$omp parallel do num_threads(2147483648) shared(t)",
+];
+
+/// Number 4.
+const BEYOND: &[&str] = &[
+    "!$omp parallel do num_threads(0)",
+    "!$omp parallel do num_threads(000)",
+    "!$omp parallel do num_threads(9)",
+    "!$omp parallel do num_threads(0009) shared(s)",
+    "!$omp parallel do num_threads(2147483648)",
+    "!$omp parallel do num_threads(4294967298)",
+    "!$omp parallel do num_threads(18446744073709551618)",
+    "!$omp parallel do num_threads(99999999999999999999999999)",
+];
+
+/// All rows.
+pub fn rows() -> Vec<TextRow> {
+    let bad = |lines: &[&str], number: u32| -> Vec<TextRow> {
+        let row = |line: &&str| TextRow::bad(line, framed(line), number, 2);
+        lines.iter().map(row).collect()
+    };
+    let mut rows: Vec<TextRow> = GOOD
+        .iter()
+        .map(|(line, processors)| TextRow::good(line, framed(line), 9, *processors))
+        .collect();
+    rows.extend(bad(BROKEN, 2));
+    rows.extend(bad(MISNAMED, 3));
+    rows.extend(bad(BEYOND, 4));
+    rows
+}

@@ -1,0 +1,58 @@
+//! What the program `lrpd` prints (READING 94, 95, 96).
+
+/// A name for the row, the standard input, and what is printed.
+pub const ROWS: &[(&str, &str, &str)] = &[
+    (
+        "document 01",
+        "integer a(4), k(4)\ndata k /2, 1, 4, 3/\n!$omp parallel do num_threads(2)\ndo i = 1, 4\n\
+         a(k(i)) = 10 * i\nend do\n",
+        "! passed 4 4\ndata a /20,10,40,30/\ndata k /2,1,4,3/\n",
+    ),
+    ("empty", "", "! refused 2 1 0\n"),
+    ("a name twice", "integer a, a\n\n", "! refused 3 1 0\n"),
+    ("a length of 0", "integer a(0)\n\n", "! refused 4 1 0\n"),
+    (
+        "rerun",
+        "integer a(2)\n!$omp parallel do num_threads(2)\ndo i = 1, 2\na(1) = i\nend do\n",
+        "! rerun 2 1\ndata a /2,0/\n",
+    ),
+    (
+        "no iterations, names in upper case",
+        "integer Zz, Y(2)\ndata Y /2*-3/\n!$omp parallel do num_threads(8)\ndo i = 1, 0\nend do\n",
+        "! passed 0 0\ndata zz /0/\ndata y /-3,-3/\n",
+    ),
+    (
+        "a fault: subscript",
+        "integer a(4)\n! x\n!$omp parallel do num_threads(2)\ndo i = -3, 0\na(i) = 1\nend do\n",
+        "! refused 9 5 -3\n",
+    ),
+    (
+        "a fault: divisor",
+        "integer a(4)\n!$omp parallel do num_threads(2)\ndo i = 1, 4\na(i) = 1/(i - 3)\nend do\n",
+        "! refused 10 4 3\n",
+    ),
+    (
+        "the least value, which no data line could give",
+        "integer a\n!$omp parallel do num_threads(1)\ndo i = 1, 1\na = 2147483647 + 1\nend do\n",
+        "! passed 1 1\ndata a /-2147483648/\n",
+    ),
+    (
+        "129 cells",
+        "integer a(129)\n!$omp parallel do num_threads(1)\ndo i = 1, 1\nend do\n",
+        "! refused 5 0 0\n",
+    ),
+    (
+        "129 cells in two names, and a fault that is not reached",
+        "integer a(128), b\n!$omp parallel do num_threads(1)\ndo i = 1, 1\na(0) = 1\nend do\n",
+        "! refused 5 0 0\n",
+    ),
+    (
+        "128 cells",
+        "integer s, a(127)\ndata a /127*1/\n!$omp parallel do num_threads(4) reduction(+:s)\n\
+         do i = 1, 127\ns = s + a(i)\nend do\n",
+        "! passed 127 1\ndata s /127/\ndata a /1,1,1,1,1,1,1,1,1,1,1,1,1,1,1,1,1,1,1,1,1,1,1,1,1,1,1,\
+         1,1,1,1,1,1,1,1,1,1,1,1,1,1,1,1,1,1,1,1,1,1,1,1,1,1,1,1,1,1,1,1,1,1,1,1,1,1,1,1,1,1,1,1,1,1,\
+         1,1,1,1,1,1,1,1,1,1,1,1,1,1,1,1,1,1,1,1,1,1,1,1,1,1,1,1,1,1,1,1,1,1,1,1,1,1,1,1,1,1,1,1,1,1,\
+         1,1,1,1,1,1,1,1/\n",
+    ),
+];

@@ -1,0 +1,155 @@
+//! The program that the lines so far make. Lines are added once they are judged.
+
+use crate::program::{Action, Declared, Place, Program, Statement};
+use crate::syntax::{Assignment, Class, Condition, Form, Item};
+
+/// What the lines so far have said.
+#[derive(Default)]
+pub struct Draft {
+    pub names: Vec<Declared>,
+    processors: u32,
+    pub variable: Option<String>,
+    first: i32,
+    last: i32,
+    /// The statements of the loop that no open `if` holds.
+    body: Vec<Statement>,
+    /// The open `if`s, the innermost last.
+    pub open_ifs: Vec<OpenIf>,
+}
+
+/// An `if` whose `end if` has not stood yet.
+pub struct OpenIf {
+    line: u32,
+    condition: Condition<Place>,
+    then: Vec<Statement>,
+    otherwise: Option<Vec<Statement>>,
+}
+
+/// Building the program from lines that hold.
+impl Draft {
+    /// Adds a line for which names and limits hold.
+    pub fn add(&mut self, line: u32, form: &Form) {
+        match form {
+            Form::Integer(declarations) => self.declare(declarations),
+            Form::Data { name, items } => self.give_data(name, items),
+            Form::Directive { processors, lists } => self.direct(*processors, lists),
+            Form::Do {
+                variable,
+                first,
+                last,
+            } => {
+                self.variable = Some(variable.clone());
+                self.first = first.value();
+                self.last = last.value();
+            }
+            Form::Assign(assignment) => self.add_assignment(line, assignment),
+            Form::If(condition) => self.open_if(line, condition),
+            Form::Else => self.innermost().otherwise = Some(Vec::new()),
+            Form::EndIf => self.close_if(),
+            Form::EndDo | Form::Closing => {}
+        }
+    }
+
+    /// The index of a declared name.
+    pub fn find(&self, name: &str) -> Option<usize> {
+        self.names.iter().position(|declared| declared.name == name)
+    }
+
+    fn declare(&mut self, declarations: &[(String, Option<u64>)]) {
+        for (name, length) in declarations {
+            let first_cell = self.names.iter().map(|declared| declared.length).sum();
+            self.names.push(Declared {
+                name: name.clone(),
+                first_cell,
+                length: length.unwrap_or(1) as usize,
+                is_array: length.is_some(),
+                class: Class::Shared,
+                data: None,
+            });
+        }
+    }
+
+    fn give_data(&mut self, name: &str, items: &[Item]) {
+        let values = items
+            .iter()
+            .flat_map(|item| std::iter::repeat_n(item.value.value(), item.copies as usize))
+            .collect();
+        let index = self.find(name).expect("a known name");
+        self.names[index].data = Some(values);
+    }
+
+    fn direct(&mut self, processors: u64, lists: &[(Class, Vec<String>)]) {
+        self.processors = processors as u32;
+        for (class, names) in lists {
+            for name in names {
+                let index = self.find(name).expect("a known name");
+                self.names[index].class = *class;
+            }
+        }
+    }
+
+    /// "An update is an assignment to a cell of a reduction name whose right side begins with the
+    /// same reference"; the same words for other names are ordinary (READING 64).
+    fn add_assignment(&mut self, line: u32, written: &Assignment<String>) {
+        let Assignment {
+            target,
+            value,
+            remainder,
+        } = self.resolve_assignment(written).expect("known names");
+        let reduction = match target.name {
+            Place::Name(index) => self.names[index].class == Class::Reduction,
+            Place::Variable => false,
+        };
+        let action = match remainder {
+            Some(remainder) if reduction => Action::Update { target, remainder },
+            _ => Action::Assign { target, value },
+        };
+        self.add_statement(Statement { line, action });
+    }
+
+    fn add_statement(&mut self, statement: Statement) {
+        let block = match self.open_ifs.last_mut() {
+            Some(open) => open.otherwise.as_mut().unwrap_or(&mut open.then),
+            None => &mut self.body,
+        };
+        block.push(statement);
+    }
+
+    fn open_if(&mut self, line: u32, written: &Condition<String>) {
+        let condition = self.resolve_condition(written).expect("known names");
+        self.open_ifs.push(OpenIf {
+            line,
+            condition,
+            then: Vec::new(),
+            otherwise: None,
+        });
+    }
+
+    fn innermost(&mut self) -> &mut OpenIf {
+        self.open_ifs.last_mut().expect("an open `if`")
+    }
+
+    fn close_if(&mut self) {
+        let open = self.open_ifs.pop().expect("an open `if`");
+        self.add_statement(Statement {
+            line: open.line,
+            action: Action::If {
+                condition: open.condition,
+                then: open.then,
+                otherwise: open.otherwise,
+            },
+        });
+    }
+
+    /// The program, once the text is finished.
+    pub fn finish(self) -> Program {
+        Program {
+            names: self.names,
+            processors: self.processors,
+            variable: self.variable.expect("a `do` line"),
+            first: self.first,
+            last: self.last,
+            body: self.body,
+        }
+    }
+}

@@ -1,0 +1,338 @@
+//! A loop as a Fortran program: the given cells are set, the loop runs serially without its
+//! directive, and every cell is printed on a line of its own. For `gfortran -fwrapv -fcheck=bounds`;
+//! a subscript outside its array ends the program with status 2, a zero divisor with status 10.
+
+use crate::program::{Action, Declared, Place, Program, Statement};
+use crate::reader::read;
+use crate::syntax::{Condition, Expression, Factor, Joint, Named, Relation, Scaling, Term};
+
+/// The Fortran program for an accepted text and as many cells as it has. `None` for other texts and
+/// where Fortran has no such loop: an end of 2147483647, which the variable would pass
+/// (READING 97), and a variable `concurrent`, for `do concurrent` begins another statement.
+pub fn fortran(text: &[u8], cells: &[i32]) -> Option<String> {
+    let program = read(text).ok()?;
+    let passes_the_end = program.iteration_count() > 0 && program.last == i32::MAX;
+    if cells.len() != program.cell_count() || passes_the_end || program.variable == "concurrent" {
+        return None;
+    }
+    Some(Printer::of(&program).program(cells))
+}
+
+/// What the printed functions and the program are called: names that the text does not use.
+struct Printer<'a> {
+    program: &'a Program,
+    main: String,
+    /// `/`, with its zero divisor and the one quotient that traps.
+    quotient: String,
+    /// The identity, so that the compiler does not fold, and refuse, constants that wrap.
+    same: String,
+}
+
+/// Text in pieces, between which a line may be broken.
+type Pieces = Vec<String>;
+
+/// A printed expression; a constant one is made of literals and signs alone.
+struct Printed {
+    pieces: Pieces,
+    constant: bool,
+}
+
+impl<'a> Printer<'a> {
+    fn of(program: &'a Program) -> Self {
+        Printer {
+            program,
+            main: unused_name("loop", program),
+            quotient: unused_name("quot", program),
+            same: unused_name("same", program),
+        }
+    }
+
+    fn program(&self, cells: &[i32]) -> String {
+        let main = &self.main;
+        let mut lines = Lines::default();
+        lines.put(0, &format!("program {main}"));
+        lines.put(1, "implicit none");
+        for declared in &self.program.names {
+            lines.put(1, &declaration(declared));
+        }
+        lines.put(1, &format!("integer :: {}", self.program.variable));
+        for declared in &self.program.names {
+            self.set_cells(declared, cells, &mut lines);
+        }
+        let Program { first, last, .. } = self.program;
+        lines.put(
+            1,
+            &format!("do {} = {first}, {last}", self.program.variable),
+        );
+        self.block(&self.program.body, 2, &mut lines);
+        lines.put(1, "end do");
+        for declared in &self.program.names {
+            lines.put(1, &format!("write (*, '(i0)') {}", declared.name));
+        }
+        lines.put(0, "contains");
+        lines.text += &QUOTIENT.replace("QUOTIENT", &self.quotient);
+        lines.text += ROUNDED;
+        lines.text += &SAME.replace("SAME", &self.same);
+        lines.put(0, &format!("end program {main}"));
+        lines.text
+    }
+
+    fn set_cells(&self, declared: &Declared, cells: &[i32], lines: &mut Lines) {
+        let values = &cells[declared.first_cell..][..declared.length];
+        for (value, number) in values.iter().zip(1..) {
+            let value = if *value == i32::MIN {
+                "-2147483647 - 1".to_string()
+            } else {
+                value.to_string()
+            };
+            let subscript = if declared.is_array {
+                format!("({number})")
+            } else {
+                String::new()
+            };
+            lines.put(1, &format!("{}{subscript} = {value}", declared.name));
+        }
+    }
+}
+
+/// Statements.
+impl Printer<'_> {
+    fn block(&self, statements: &[Statement], depth: usize, lines: &mut Lines) {
+        for statement in statements {
+            self.statement(statement, depth, lines);
+        }
+    }
+
+    fn statement(&self, statement: &Statement, depth: usize, lines: &mut Lines) {
+        match &statement.action {
+            Action::Assign { target, value } => {
+                let right = self.expression(value).pieces;
+                lines.put_pieces(depth, join(self.reference(target), " = ", right));
+            }
+            Action::Update { target, remainder } => {
+                let left = self.reference(target);
+                let sum = join(
+                    left.clone(),
+                    " + (",
+                    closed(self.expression(remainder).pieces),
+                );
+                lines.put_pieces(depth, join(left, " = ", sum));
+            }
+            Action::If {
+                condition,
+                then,
+                otherwise,
+            } => {
+                lines.put_pieces(depth, self.condition(condition));
+                self.block(then, depth + 1, lines);
+                if let Some(otherwise) = otherwise {
+                    lines.put(depth, "else");
+                    self.block(otherwise, depth + 1, lines);
+                }
+                lines.put(depth, "end if");
+            }
+        }
+    }
+
+    fn condition(&self, condition: &Condition<Place>) -> Pieces {
+        let relation = match condition.relation {
+            Relation::Equal => " == ",
+            Relation::Unequal => " /= ",
+            Relation::Less => " < ",
+            Relation::LessOrEqual => " <= ",
+            Relation::Greater => " > ",
+            Relation::GreaterOrEqual => " >= ",
+        };
+        let left = self.expression(&condition.left).pieces;
+        let both = join(left, relation, self.expression(&condition.right).pieces);
+        join(vec!["if (".to_string()], "", join(both, ") then", vec![]))
+    }
+
+    fn reference(&self, named: &Named<Place>) -> Pieces {
+        let name = match named.name {
+            Place::Variable => &self.program.variable,
+            Place::Name(index) => &self.program.names[index].name,
+        };
+        match &named.subscript {
+            None => vec![name.clone()],
+            Some(subscript) => call(name, vec![self.expression(subscript).pieces]),
+        }
+    }
+}
+
+/// Expressions.
+impl Printer<'_> {
+    fn expression(&self, expression: &Expression<Place>) -> Printed {
+        let mut value = self.term(&expression.first);
+        if expression.negative {
+            value.pieces.insert(0, "-".to_string());
+        }
+        for (joint, term) in &expression.others {
+            let sign = match joint {
+                Joint::Plus => " + ",
+                Joint::Minus => " - ",
+            };
+            value = self.operation(value, sign, self.term(term));
+        }
+        value
+    }
+
+    fn term(&self, term: &Term<Place>) -> Printed {
+        let mut value = self.factor(&term.first);
+        for (scaling, factor) in &term.others {
+            let right = self.factor(factor);
+            value = match scaling {
+                Scaling::Times => self.operation(value, " * ", right),
+                Scaling::Over => unfolded(call(&self.quotient, vec![value.pieces, right.pieces])),
+            };
+        }
+        value
+    }
+
+    fn factor(&self, factor: &Factor<Place>) -> Printed {
+        match factor {
+            Factor::Literal(value) => Printed {
+                pieces: vec![value.to_string()],
+                constant: true,
+            },
+            Factor::Named(named) => unfolded(self.reference(named)),
+            Factor::Rdiv(dividend, divisor) => {
+                let arguments = [dividend, divisor].map(|e| self.expression(e).pieces);
+                unfolded(call("rdiv", arguments.to_vec()))
+            }
+            Factor::Brackets(inner) => {
+                let inner = self.expression(inner);
+                Printed {
+                    pieces: call("", vec![inner.pieces]),
+                    constant: inner.constant,
+                }
+            }
+        }
+    }
+
+    /// `left sign right`, the left through the identity if both are constants.
+    fn operation(&self, left: Printed, sign: &str, right: Printed) -> Printed {
+        let left_pieces = if left.constant && right.constant {
+            call(&self.same, vec![left.pieces])
+        } else {
+            left.pieces
+        };
+        unfolded(join(left_pieces, sign, right.pieces))
+    }
+}
+
+fn unfolded(pieces: Pieces) -> Printed {
+    Printed {
+        pieces,
+        constant: false,
+    }
+}
+
+/// `name(arguments)`
+fn call(name: &str, arguments: Vec<Pieces>) -> Pieces {
+    let mut pieces = vec![format!("{name}(")];
+    for (argument, number) in arguments.into_iter().zip(1..) {
+        if number > 1 {
+            pieces.push(", ".to_string());
+        }
+        pieces.extend(argument);
+    }
+    closed(pieces)
+}
+
+fn closed(mut pieces: Pieces) -> Pieces {
+    pieces.push(")".to_string());
+    pieces
+}
+
+fn join(mut left: Pieces, between: &str, right: Pieces) -> Pieces {
+    left.push(between.to_string());
+    left.extend(right);
+    left
+}
+
+fn declaration(declared: &Declared) -> String {
+    if declared.is_array {
+        format!("integer :: {}({})", declared.name, declared.length)
+    } else {
+        format!("integer :: {}", declared.name)
+    }
+}
+
+/// The wish, with underscores added until the text has no such name.
+fn unused_name(wish: &str, program: &Program) -> String {
+    let mut name = wish.to_string();
+    let is_used = |name: &String| {
+        *name == program.variable || program.names.iter().any(|one| one.name == *name)
+    };
+    while is_used(&name) {
+        name.push('_');
+    }
+    name
+}
+
+/// Free-form lines, broken before Fortran's limit of 132 columns.
+#[derive(Default)]
+struct Lines {
+    text: String,
+}
+
+const COLUMNS: usize = 100;
+
+impl Lines {
+    fn put(&mut self, depth: usize, line: &str) {
+        self.put_pieces(depth, vec![line.to_string()]);
+    }
+
+    fn put_pieces(&mut self, depth: usize, pieces: Pieces) {
+        let indent = "  ".repeat(depth);
+        let mut line = indent.clone();
+        for piece in pieces {
+            if line.len() + piece.len() > COLUMNS {
+                self.text += &line;
+                self.text += " &\n";
+                line = indent.clone() + "  ";
+            }
+            line += &piece;
+        }
+        self.text += &line;
+        self.text += "\n";
+    }
+}
+
+/// "`/` truncates toward zero", as in Fortran; −2147483648 / −1 is the negation, which wraps.
+const QUOTIENT: &str = "\
+  integer function QUOTIENT(dividend, divisor)
+    integer, intent(in) :: dividend, divisor
+    if (divisor == 0) error stop 10
+    if (divisor == -1) then
+      QUOTIENT = -dividend
+    else
+      QUOTIENT = dividend / divisor
+    end if
+  end function QUOTIENT
+";
+
+/// "rdiv gives the nearest whole number, halves away from zero": of the sizes, in 64 bits.
+const ROUNDED: &str = "\
+  integer function rdiv(dividend, divisor)
+    integer, intent(in) :: dividend, divisor
+    integer(8) :: above, below, rounded
+    if (divisor == 0) error stop 10
+    above = dividend
+    below = divisor
+    if (above < 0) above = -above
+    if (below < 0) below = -below
+    rounded = (2 * above + below) / (2 * below)
+    if ((dividend < 0) .neqv. (divisor < 0)) rounded = -rounded
+    if (rounded == 2147483648_8) rounded = -rounded
+    rdiv = rounded
+  end function rdiv
+";
+
+const SAME: &str = "\
+  integer function SAME(value)
+    integer, intent(in) :: value
+    SAME = value
+  end function SAME
+";

@@ -1,0 +1,60 @@
+//! An interpreter of document 01, written apart from the product and for obviousness: bytes, lines,
+//! tokens, a tree, names and limits, then evaluation with the whole list of accesses kept. Marks,
+//! obstacles, private values, sums and counts are taken from that list as document 01 words them.
+//!
+//! Comments quote document 01; "READING 44" is the entry of that number in the project's reading of
+//! it, which stands behind every choice document 01 leaves.
+
+mod accesses;
+mod draft;
+mod evaluate;
+mod fortran;
+mod integers;
+mod lines;
+mod marks;
+mod names_limits;
+mod obstacles;
+mod order;
+mod parser;
+mod print;
+pub mod program;
+mod reader;
+mod serial;
+mod services;
+mod steps;
+pub mod syntax;
+mod tokens;
+mod trial;
+
+pub use accesses::{Access, Kind};
+pub use fortran::fortran;
+pub use integers::{divide_rounded, divide_truncated};
+pub use print::lrpd;
+pub use reader::read;
+pub use serial::Serial;
+pub use services::{check, load, look, run, serial, stepped, trial, workspace_needed};
+pub use steps::{share, Processor, Speculation};
+pub use trial::Trial;
+
+/// The three numbers of a refusal: "Returned: number, line, value of v".
+#[derive(Debug, Clone, Copy, PartialEq, Eq)]
+pub struct Refusal {
+    pub number: u32,
+    pub line: u32,
+    pub v: i32,
+}
+
+impl Refusal {
+    /// A refusal before any iteration, for which v is 0; 1 and 5 to 8 have line 0.
+    pub(crate) fn of_text(number: u32, line: u32) -> Self {
+        Refusal { number, line, v: 0 }
+    }
+}
+
+/// What Run answers: passed or rerun, and the two write counts.
+#[derive(Debug, Clone, Copy, PartialEq, Eq)]
+pub struct Answer {
+    pub passed: bool,
+    pub pairs: u32,
+    pub cells: u32,
+}

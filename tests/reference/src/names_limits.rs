@@ -1,0 +1,187 @@
+//! Numbers 3 and 4: what a line's names and sizes must be, judged "only by what stands up to it"
+//! (READING 24).
+
+use crate::draft::Draft;
+use crate::program::Place;
+use crate::syntax::{
+    Assignment, Class, Condition, Expression, Factor, Form, Item, Named, Signed, Term, Written,
+};
+
+/// "Limits: literals to 2,147,483,647; names 16; array length 1 to 4,096; N to 4,096; P 1 to 8;
+/// n to 65,535; `if` depth 8; brackets open together in a statement 8"
+const LITERAL_LIMIT: u64 = 2_147_483_647;
+const NAME_LIMIT: usize = 16;
+const LENGTH_LIMIT: u64 = 4096;
+const CELL_LIMIT: u64 = 4096;
+const PROCESSOR_LIMIT: u64 = 8;
+const ITERATION_LIMIT: i64 = 65_535;
+const IF_LIMIT: usize = 8;
+const BRACKET_LIMIT: usize = 8;
+
+/// Names: number 3.
+impl Draft {
+    /// Whether no name in the line gives number 3.
+    pub fn names_hold(&self, form: &Form) -> bool {
+        match form {
+            Form::Integer(declarations) => {
+                self.all_new(declarations.iter().map(|(name, _)| name.as_str()))
+            }
+            Form::Data { name, items } => self.data_holds(name, items),
+            Form::Directive { lists, .. } => self.lists_hold(lists),
+            Form::Do { variable, .. } => self.find(variable).is_none(),
+            Form::Assign(assignment) => self.resolve_assignment(assignment).is_some(),
+            Form::If(condition) => self.resolve_condition(condition).is_some(),
+            Form::Else | Form::EndIf | Form::EndDo | Form::Closing => true,
+        }
+    }
+
+    /// "name [...] declared [...] twice", in one line or in two.
+    fn all_new<'n>(&self, names: impl Iterator<Item = &'n str>) -> bool {
+        let names: Vec<&str> = names.collect();
+        all_different(&names) && names.iter().all(|name| self.find(name).is_none())
+    }
+
+    /// "name unknown, [...] given data twice, [...] data of the wrong count". Counts are added
+    /// exactly, a repeat over the literal limit too (READING 49, 50, 51).
+    fn data_holds(&self, name: &str, items: &[Item]) -> bool {
+        let count = items
+            .iter()
+            .fold(0u64, |count, item| count.saturating_add(item.copies));
+        self.find(name).is_some_and(|index| {
+            let declared = &self.names[index];
+            declared.data.is_none() && count == declared.length as u64
+        })
+    }
+
+    /// "name unknown, [...] in two clauses or twice in one" (READING 33)
+    fn lists_hold(&self, lists: &[(Class, Vec<String>)]) -> bool {
+        let names: Vec<&str> = lists
+            .iter()
+            .flat_map(|(_, names)| names.iter().map(String::as_str))
+            .collect();
+        all_different(&names) && names.iter().all(|name| self.find(name).is_some())
+    }
+}
+
+fn all_different(names: &[&str]) -> bool {
+    (1..names.len()).all(|later| !names[..later].contains(&names[later]))
+}
+
+/// What the names of a statement stand for; `None` where one gives number 3.
+impl Draft {
+    /// "v [...] assigned" is 3 (READING 36).
+    pub fn resolve_assignment(&self, written: &Assignment<String>) -> Option<Assignment<Place>> {
+        let target = self.resolve_named(&written.target)?;
+        if target.name == Place::Variable {
+            return None;
+        }
+        let remainder = match &written.remainder {
+            Some(remainder) => Some(self.resolve_expression(remainder)?),
+            None => None,
+        };
+        Some(Assignment {
+            target,
+            value: self.resolve_expression(&written.value)?,
+            remainder,
+        })
+    }
+
+    pub fn resolve_condition(&self, written: &Condition<String>) -> Option<Condition<Place>> {
+        Some(Condition {
+            left: self.resolve_expression(&written.left)?,
+            relation: written.relation,
+            right: self.resolve_expression(&written.right)?,
+        })
+    }
+
+    fn resolve_expression(&self, written: &Expression<String>) -> Option<Expression<Place>> {
+        let mut others = Vec::new();
+        for (joint, term) in &written.others {
+            others.push((*joint, self.resolve_term(term)?));
+        }
+        Some(Expression {
+            negative: written.negative,
+            first: self.resolve_term(&written.first)?,
+            others,
+        })
+    }
+
+    fn resolve_term(&self, written: &Term<String>) -> Option<Term<Place>> {
+        let mut others = Vec::new();
+        for (scaling, factor) in &written.others {
+            others.push((*scaling, self.resolve_factor(factor)?));
+        }
+        Some(Term {
+            first: self.resolve_factor(&written.first)?,
+            others,
+        })
+    }
+
+    fn resolve_factor(&self, written: &Factor<String>) -> Option<Factor<Place>> {
+        Some(match written {
+            Factor::Literal(value) => Factor::Literal(*value),
+            Factor::Named(named) => Factor::Named(self.resolve_named(named)?),
+            Factor::Rdiv(dividend, divisor) => Factor::Rdiv(
+                Box::new(self.resolve_expression(dividend)?),
+                Box::new(self.resolve_expression(divisor)?),
+            ),
+            Factor::Brackets(inner) => Factor::Brackets(Box::new(self.resolve_expression(inner)?)),
+        })
+    }
+
+    /// "name unknown, [...] a subscript missing, or on a single cell or v" (READING 35, 36, 37)
+    fn resolve_named(&self, written: &Named<String>) -> Option<Named<Place>> {
+        let (name, takes_subscript) = if self.variable.as_ref() == Some(&written.name) {
+            (Place::Variable, false)
+        } else {
+            let index = self.find(&written.name)?;
+            (Place::Name(index), self.names[index].is_array)
+        };
+        if written.subscript.is_some() != takes_subscript {
+            return None;
+        }
+        let subscript = match &written.subscript {
+            Some(subscript) => Some(Box::new(self.resolve_expression(subscript)?)),
+            None => None,
+        };
+        Some(Named { name, subscript })
+    }
+}
+
+/// Limits: number 4.
+impl Draft {
+    /// Whether nothing in the line is over a limit.
+    pub fn limits_hold(&self, line: &Written) -> bool {
+        // A literal over the limit is 4 anywhere in a line (READING 39). A data repeat over it
+        // has given 3 before (READING 49).
+        line.greatest_literal <= LITERAL_LIMIT
+            && match &line.form {
+                Form::Integer(declarations) => self.declarations_fit(declarations),
+                Form::Directive { processors, .. } => (1..=PROCESSOR_LIMIT).contains(processors),
+                Form::Do { first, last, .. } => iterations_fit(*first, *last),
+                Form::Assign(_) => line.open_brackets <= BRACKET_LIMIT,
+                Form::If(_) => {
+                    line.open_brackets <= BRACKET_LIMIT && self.open_ifs.len() < IF_LIMIT
+                }
+                Form::Data { .. } => true,
+                Form::Else | Form::EndIf | Form::EndDo | Form::Closing => true,
+            }
+    }
+
+    /// "names 16; array length 1 to 4,096; N to 4,096" (READING 28, 29, 30)
+    fn declarations_fit(&self, declarations: &[(String, Option<u64>)]) -> bool {
+        let so_far: usize = self.names.iter().map(|declared| declared.length).sum();
+        let mut lengths = declarations.iter().map(|(_, length)| length.unwrap_or(1));
+        lengths.all(|length| (1..=LENGTH_LIMIT).contains(&length))
+            && self.names.len() + declarations.len() <= NAME_LIMIT
+            && declarations
+                .iter()
+                .fold(so_far as u64, |sum, (_, length)| sum + length.unwrap_or(1))
+                <= CELL_LIMIT
+    }
+}
+
+/// "n to 65,535", n - m + 1 taken exactly (READING 40).
+fn iterations_fit(first: Signed, last: Signed) -> bool {
+    i64::from(last.value()) - i64::from(first.value()) < ITERATION_LIMIT
+}

@@ -1,0 +1,99 @@
+//! Document 01, "The serial run".
+
+use crate::accesses::{write_counts, Access, Kind};
+use crate::evaluate::{run_iteration, Memory, Paused, Stop};
+use crate::obstacles::obstacles;
+use crate::program::Program;
+use crate::Refusal;
+
+/// How a serial run ended, and its whole list of accesses. After a fault the counts and obstacles
+/// are those of the list as far as it went.
+#[derive(Debug, Clone, PartialEq, Eq)]
+pub struct Serial {
+    /// The first fault ended the run: its number, line and v.
+    pub outcome: Result<(), Refusal>,
+    /// The cells at the run's end (after a fault not yet returned to entry).
+    pub cells_after: Vec<i32>,
+    /// The different pairs of iteration and cell written or updated.
+    pub pairs: u32,
+    /// The different cells written or updated.
+    pub cells: u32,
+    /// For each cell whether it has an obstacle.
+    pub obstacles: Vec<bool>,
+    /// All accesses in the order made.
+    pub accesses: Vec<Access>,
+}
+
+impl Serial {
+    /// "Without fault or obstacle the run has passed".
+    pub fn passes(&self) -> bool {
+        self.outcome.is_ok() && !self.obstacles.contains(&true)
+    }
+}
+
+/// "Fed the text and the cells as lent and nothing else, it holds the cells and a list of accesses,
+/// empty at first."
+struct Holding {
+    cells: Vec<i32>,
+    accesses: Vec<Access>,
+    iteration: u32,
+}
+
+impl Holding {
+    fn list(&mut self, kind: Kind, cell: usize, value: i32) {
+        self.accesses.push(Access {
+            kind,
+            cell: cell as u16,
+            iteration: self.iteration,
+            value,
+        });
+    }
+}
+
+/// "A read gives the cell as it now stands, whatever its clause; a write stores in place; an update
+/// adds its remainder to the cell."
+impl Memory for Holding {
+    fn read(&mut self, cell: usize) -> Result<i32, Paused> {
+        let value = self.cells[cell];
+        self.list(Kind::Read, cell, value);
+        Ok(value)
+    }
+
+    fn write(&mut self, cell: usize, value: i32) -> Result<(), Paused> {
+        self.cells[cell] = value;
+        self.list(Kind::Write, cell, value);
+        Ok(())
+    }
+
+    fn update(&mut self, cell: usize, amount: i32) -> Result<(), Paused> {
+        self.cells[cell] = self.cells[cell].wrapping_add(amount);
+        self.list(Kind::Update, cell, amount);
+        Ok(())
+    }
+}
+
+/// "Iterations go one after another, index 0 first, v being m + index".
+pub fn run_serially(program: &Program, entry: &[i32]) -> Serial {
+    let mut holding = Holding {
+        cells: entry.to_vec(),
+        accesses: Vec::new(),
+        iteration: 0,
+    };
+    let outcome = (0..program.iteration_count()).try_for_each(|iteration| {
+        holding.iteration = iteration;
+        match run_iteration(program, program.variable_at(iteration), &mut holding) {
+            Ok(()) => Ok(()),
+            Err(Stop::Fault(fault)) => Err(fault),
+            Err(Stop::Paused) => unreachable!("the serial run does not pause"),
+        }
+    });
+    let (pairs, cells) = write_counts(&holding.accesses);
+    Serial {
+        outcome,
+        cells_after: holding.cells,
+        pairs,
+        cells,
+        obstacles: obstacles(&holding.accesses, &program.cell_classes()),
+        accesses: holding.accesses,
+    }
+}

@@ -1,0 +1,153 @@
+//! Document 01, "Services and answers": Check, Load, Look and Run, with the trial and the serial run
+//! that Run is made of.
+
+use crate::program::Program;
+use crate::reader::read;
+use crate::serial::{run_serially, Serial};
+use crate::steps::Speculation;
+use crate::trial::Trial;
+use crate::{Answer, Refusal};
+
+/// "workspace under 4,352 + 64 × P + N × (4 + 6 × P) words of 32 bits" is 6.
+pub fn workspace_needed(cells: usize, processors: usize) -> usize {
+    4352 + 64 * processors + cells * (4 + 6 * processors)
+}
+
+/// "Check takes the text and answers N and P."
+pub fn check(text: &[u8]) -> Result<(usize, usize), Refusal> {
+    let program = read(text)?;
+    Ok((program.cell_count(), program.processors as usize))
+}
+
+/// "Load fills the cells from the data."
+pub fn load(text: &[u8], cells: &mut [i32]) -> Result<(), Refusal> {
+    let program = read_for(text, cells.len())?;
+    cells.copy_from_slice(&program.data_cells());
+    Ok(())
+}
+
+/// "Look takes text, cells, workspace, schedule and a view; it writes for each cell in turn two
+/// 32-bit words, the shared value and then the marks, as they are after the schedule's bytes,
+/// without running on, and leaves the cells." (READING 90)
+pub fn look(
+    text: &[u8],
+    cells: &[i32],
+    workspace: &mut [u32],
+    schedule: &[u8],
+    view: &mut [u32],
+) -> Result<(), Refusal> {
+    let program = read_to_step(text, cells.len(), workspace.len(), schedule)?;
+    if view.len() != 2 * cells.len() {
+        return Err(Refusal::of_text(8, 0));
+    }
+    let seen = take_steps(&program, cells, schedule);
+    for (words, (&value, &marks)) in view.chunks_mut(2).zip(seen.shared.iter().zip(&seen.marks)) {
+        words[0] = value as u32;
+        words[1] = marks;
+    }
+    workspace.fill(0);
+    Ok(())
+}
+
+/// "Run answers passed or rerun, then the serial run's two write counts, pairs first".
+pub fn run(
+    text: &[u8],
+    cells: &mut [i32],
+    workspace: &mut [u32],
+    schedule: &[u8],
+) -> Result<Answer, Refusal> {
+    let program = read_to_step(text, cells.len(), workspace.len(), schedule)?;
+    // "After any other end of Look or Run the workspace is all zero", after 9 and 10 too
+    // (READING 88, 89).
+    workspace.fill(0);
+    let trial = run_trial(&program, cells, schedule);
+    if trial.passes() {
+        cells.copy_from_slice(&trial.merged());
+        return Ok(Answer {
+            passed: true,
+            pairs: trial.pairs,
+            cells: trial.cells,
+        });
+    }
+    // "Otherwise the cells return to entry and the serial run follows; if that faults, they return
+    // to entry again." They have not been touched here.
+    let serial = run_serially(&program, cells);
+    serial.outcome?;
+    cells.copy_from_slice(&serial.cells_after);
+    Ok(Answer {
+        passed: false,
+        pairs: serial.pairs,
+        cells: serial.cells,
+    })
+}
+
+/// The trial: the schedule's bytes, then on to the end. It refuses as Run does (READING 93).
+pub fn trial(
+    text: &[u8],
+    cells: &[i32],
+    workspace_len: usize,
+    schedule: &[u8],
+) -> Result<Trial, Refusal> {
+    let program = read_to_step(text, cells.len(), workspace_len, schedule)?;
+    Ok(run_trial(&program, cells, schedule))
+}
+
+/// The schedule's bytes without running on: what Look sees, and the rest of the state.
+pub fn stepped(
+    text: &[u8],
+    cells: &[i32],
+    workspace_len: usize,
+    schedule: &[u8],
+) -> Result<Trial, Refusal> {
+    let program = read_to_step(text, cells.len(), workspace_len, schedule)?;
+    Ok(take_steps(&program, cells, schedule))
+}
+
+/// The serial run of a text on the cells as lent. It refuses 1 to 5; a fault is its outcome.
+pub fn serial(text: &[u8], cells: &[i32]) -> Result<Serial, Refusal> {
+    let program = read_for(text, cells.len())?;
+    Ok(run_serially(&program, cells))
+}
+
+fn take_steps(program: &Program, cells: &[i32], schedule: &[u8]) -> Trial {
+    let mut speculation = Speculation::begin(program, cells);
+    speculation.follow(schedule);
+    Trial::of(speculation)
+}
+
+fn run_trial(program: &Program, cells: &[i32], schedule: &[u8]) -> Trial {
+    let mut speculation = Speculation::begin(program, cells);
+    speculation.follow(schedule);
+    speculation.run_on();
+    Trial::of(speculation)
+}
+
+/// Numbers 1 to 5: "cells lent not exactly N" is 5.
+fn read_for(text: &[u8], cells: usize) -> Result<Program, Refusal> {
+    let program = read(text)?;
+    if cells != program.cell_count() {
+        return Err(Refusal::of_text(5, 0));
+    }
+    Ok(program)
+}
+
+/// Numbers 1 to 7, in their order (READING 87).
+fn read_to_step(
+    text: &[u8],
+    cells: usize,
+    workspace: usize,
+    schedule: &[u8],
+) -> Result<Program, Refusal> {
+    let program = read_for(text, cells)?;
+    if workspace < workspace_needed(cells, program.processors as usize) {
+        return Err(Refusal::of_text(6, 0));
+    }
+    // "a schedule byte of P or more", wherever it stands (READING 73)
+    if schedule
+        .iter()
+        .any(|&byte| u32::from(byte) >= program.processors)
+    {
+        return Err(Refusal::of_text(7, 0));
+    }
+    Ok(program)
+}

@@ -1,0 +1,164 @@
+//! The form of one line as a tree. The type `N` of a name is `String` as written, and
+//! [`crate::program::Place`] once it is known what the name stands for.
+
+/// How the cells of a name are treated: which clause it stands in.
+#[derive(Debug, Clone, Copy, PartialEq, Eq)]
+pub enum Class {
+    /// "A name in no clause is shared."
+    Shared,
+    /// In a `lastprivate` clause.
+    Lastprivate,
+    /// In a `reduction` clause.
+    Reduction,
+}
+
+/// The form of one line that is not skipped, with what its tokens come to.
+#[derive(Debug, Clone, PartialEq, Eq)]
+pub struct Written {
+    /// What the line says.
+    pub form: Form,
+    /// The greatest literal in the line; 0 if there is none.
+    pub greatest_literal: u64,
+    /// The most brackets open together, the outer pair of `if` not counted (READING 44).
+    pub open_brackets: usize,
+}
+
+/// "Each declaration, directive, statement, `else` and ending has one line of its own."
+#[derive(Debug, Clone, PartialEq, Eq)]
+pub enum Form {
+    /// `integer`, and for each name its length if it has one.
+    Integer(Vec<(String, Option<u64>)>),
+    /// `data name /list/`
+    Data { name: String, items: Vec<Item> },
+    /// `!$omp parallel do`, the number in `num_threads`, and the lists of the other clauses.
+    Directive {
+        processors: u64,
+        lists: Vec<(Class, Vec<String>)>,
+    },
+    /// `do v = m, n`
+    Do {
+        variable: String,
+        first: Signed,
+        last: Signed,
+    },
+    /// An assignment to a cell.
+    Assign(Assignment<String>),
+    /// `if (e rel e) then`
+    If(Condition<String>),
+    /// `else`
+    Else,
+    /// `end if` or `endif`
+    EndIf,
+    /// `end do` or `enddo`
+    EndDo,
+    /// `!$omp end parallel do`
+    Closing,
+}
+
+/// An item of a data list: "a literal with optional sign, or `r*` before it for r copies".
+#[derive(Debug, Clone, Copy, PartialEq, Eq)]
+pub struct Item {
+    /// The number of copies; 1 without `r*`.
+    pub copies: u64,
+    /// The value of each copy.
+    pub value: Signed,
+}
+
+/// A literal with optional sign. The sign is not part of the literal (READING 39).
+#[derive(Debug, Clone, Copy, PartialEq, Eq)]
+pub struct Signed {
+    /// Whether `-` stands before it.
+    pub negative: bool,
+    /// The literal's value.
+    pub literal: u64,
+}
+
+impl Signed {
+    /// The value, for a literal within the limit of literals.
+    pub fn value(self) -> i32 {
+        let size = i32::try_from(self.literal).expect("a literal within its limit");
+        if self.negative {
+            -size
+        } else {
+            size
+        }
+    }
+}
+
+/// `target = value`
+#[derive(Debug, Clone, PartialEq, Eq)]
+pub struct Assignment<N> {
+    /// The reference on the left.
+    pub target: Named<N>,
+    /// The right side.
+    pub value: Expression<N>,
+    /// "whose right side begins with the same reference, token for token [...], followed by +":
+    /// then the remainder of the line.
+    pub remainder: Option<Expression<N>>,
+}
+
+/// `left rel right`
+#[derive(Debug, Clone, PartialEq, Eq)]
+pub struct Condition<N> {
+    pub left: Expression<N>,
+    pub relation: Relation,
+    pub right: Expression<N>,
+}
+
+/// "rel is `==`, `/=`, `<`, `<=`, `>` or `>=`."
+#[derive(Debug, Clone, Copy, PartialEq, Eq)]
+pub enum Relation {
+    Equal,
+    Unequal,
+    Less,
+    LessOrEqual,
+    Greater,
+    GreaterOrEqual,
+}
+
+/// "Terms are joined by + and -, [...] from the left. One sign may begin an expression and applies
+/// to its whole first term." (READING 54)
+#[derive(Debug, Clone, PartialEq, Eq)]
+pub struct Expression<N> {
+    /// Whether the sign before the first term is `-`.
+    pub negative: bool,
+    pub first: Term<N>,
+    pub others: Vec<(Joint, Term<N>)>,
+}
+
+/// What joins a term to the terms before it.
+#[derive(Debug, Clone, Copy, PartialEq, Eq)]
+pub enum Joint {
+    Plus,
+    Minus,
+}
+
+/// "factors [are joined] by * and /, both from the left"
+#[derive(Debug, Clone, PartialEq, Eq)]
+pub struct Term<N> {
+    pub first: Factor<N>,
+    pub others: Vec<(Scaling, Factor<N>)>,
+}
+
+/// What joins a factor to the factors before it.
+#[derive(Debug, Clone, Copy, PartialEq, Eq)]
+pub enum Scaling {
+    Times,
+    Over,
+}
+
+/// "A factor is a literal, v, a cell, `rdiv(e, e)`, or an expression in brackets."
+#[derive(Debug, Clone, PartialEq, Eq)]
+pub enum Factor<N> {
+    Literal(u64),
+    Named(Named<N>),
+    Rdiv(Box<Expression<N>>, Box<Expression<N>>),
+    Brackets(Box<Expression<N>>),
+}
+
+/// A name with its subscript, if it has one: v or a cell.
+#[derive(Debug, Clone, PartialEq, Eq)]
+pub struct Named<N> {
+    pub name: N,
+    pub subscript: Option<Box<Expression<N>>>,
+}

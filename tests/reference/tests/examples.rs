@@ -1,0 +1,185 @@
+//! Document 01's examples as it words them, and the trial's parts by hand.
+
+use reference::{check, load, look, run, serial, trial, workspace_needed, Answer, Kind, Refusal};
+
+const ENOUGH: usize = 100_000;
+
+fn text(names: &str, clauses: &str, bounds: &str, body: &str) -> String {
+    format!("integer {names}\n!$omp parallel do {clauses}\ndo i = {bounds}\n{body}\nend do\n")
+}
+
+fn run_on(text: &str, cells: &mut [i32]) -> Result<Answer, Refusal> {
+    run(text.as_bytes(), cells, &mut vec![0; ENOUGH], &[])
+}
+
+fn passed(pairs: u32, cells: u32) -> Result<Answer, Refusal> {
+    Ok(Answer {
+        passed: true,
+        pairs,
+        cells,
+    })
+}
+
+fn rerun(pairs: u32, cells: u32) -> Result<Answer, Refusal> {
+    Ok(Answer {
+        passed: false,
+        pairs,
+        cells,
+    })
+}
+
+#[test]
+fn adding_one_in_place() {
+    let mut cells = [0; 3];
+    let text = text("a(3)", "num_threads(2)", "1, 3", "a(i) = a(i) + 1");
+    assert_eq!(run_on(&text, &mut cells), passed(3, 3));
+}
+
+#[test]
+fn one_cell_for_all() {
+    let shared = text("a(1)", "num_threads(2)", "1, 2", "a(1) = i");
+    let mut cells = [0];
+    assert_eq!(run_on(&shared, &mut cells), rerun(2, 1));
+    assert_eq!(cells, [2]);
+    let lastprivate = text("a(1)", "num_threads(2) lastprivate(a)", "1, 2", "a(1) = i");
+    let mut cells = [0];
+    assert_eq!(run_on(&lastprivate, &mut cells), passed(2, 1));
+    assert_eq!(cells, [2]);
+    for (schedule, shown) in [([1, 0], 1), ([0, 1], 2)] {
+        let mut view = [0; 2];
+        let mut workspace = vec![0; workspace_needed(1, 2)];
+        look(
+            shared.as_bytes(),
+            &[0],
+            &mut workspace,
+            &schedule,
+            &mut view,
+        )
+        .unwrap();
+        assert_eq!(view, [shown, 1]);
+    }
+}
+
+#[test]
+fn a_sum() {
+    let mut cells = [5];
+    let text = text("s", "num_threads(3) reduction(+:s)", "1, 4", "s = s + i");
+    assert_eq!(run_on(&text, &mut cells), passed(4, 1));
+    assert_eq!(cells, [15]);
+}
+
+#[test]
+fn no_iterations() {
+    let text = text("a", "num_threads(3)", "1, 0", "a = 1");
+    assert_eq!(run_on(&text, &mut [0]), passed(0, 0));
+}
+
+#[test]
+fn read_first_and_written_later() {
+    let body = "if (i == 1) then\na = z\nelse\nz = 1\nend if";
+    let text = text("z, a", "num_threads(2) lastprivate(z)", "1, 2", body);
+    assert!(!run_on(&text, &mut [0, 0]).unwrap().passed);
+}
+
+#[test]
+fn a_fault_met_while_speculating() {
+    let body = "if (i == 1) then\nk = 2\nelse\na(k) = 1\nend if";
+    let text = text("k, a(4)", "num_threads(2)", "1, 2", body);
+    let lent = [9, 0, 0, 0, 0];
+    let tried = trial(text.as_bytes(), &lent, ENOUGH, &[1, 1, 1]).unwrap();
+    let fault = tried.processors[1].fault.unwrap();
+    assert_eq!((fault.number, fault.line, fault.v), (9, 7, 2));
+    let mut cells = lent;
+    let answer = run(
+        text.as_bytes(),
+        &mut cells,
+        &mut vec![0; ENOUGH],
+        &[1, 1, 1],
+    );
+    assert_eq!(answer, rerun(2, 2));
+    assert_eq!(cells, [2, 0, 1, 0, 0]);
+}
+
+#[test]
+fn the_empty_text_and_the_longest() {
+    let refusal = |number, line| Err(Refusal { number, line, v: 0 });
+    assert_eq!(check(b""), refusal(2, 1));
+    let good = text("a", "num_threads(1)", "1, 1", "a = 1");
+    let padded = |length| format!("{good:<length$}");
+    assert_eq!(check(padded(2048).as_bytes()), Ok((1, 1)));
+    assert_eq!(check(padded(2049).as_bytes()), refusal(1, 0));
+}
+
+/// Three processors, two iterations each: private values, sums, marks, records and counts.
+#[test]
+fn what_a_trial_leaves() {
+    let body = "z = 10*i\ns = s + i\na(i) = z";
+    let clauses = "num_threads(3) lastprivate(z) reduction(+:s)";
+    let text = text("z, s, a(6)", clauses, "1, 6", body);
+    let lent = [7, 100, 0, 0, 0, 0, 0, 0];
+    let tried = trial(text.as_bytes(), &lent, ENOUGH, &[2, 2, 1, 0, 2, 2, 2]).unwrap();
+    assert_eq!(tried.shared, [7, 100, 10, 20, 30, 40, 50, 60]);
+    let of_z: Vec<_> = tried.private.iter().map(|private| private[0]).collect();
+    assert_eq!(of_z, [Some((1, 20)), Some((3, 40)), Some((5, 60))]);
+    let of_s: Vec<_> = tried.sums.iter().map(|sums| sums[1]).collect();
+    assert_eq!(of_s, [3, 7, 11]);
+    assert_eq!(tried.marks, [1, 8, 1, 1, 1, 1, 1, 1]);
+    assert_eq!(tried.obstacles, [false; 8]);
+    assert_eq!((tried.pairs, tried.cells), (18, 8));
+    let stands: Vec<_> = tried.processors.iter().map(|p| p.iteration).collect();
+    assert_eq!(stands, [2, 4, 6]);
+    assert_eq!(tried.merged(), [60, 121, 10, 20, 30, 40, 50, 60]);
+}
+
+/// A processor that a fault stopped counts with the accesses it made.
+#[test]
+fn what_a_stopped_processor_leaves() {
+    let body = "z = i\na(4 - i) = z\nb = 1/(i - 2)";
+    let clauses = "num_threads(2) lastprivate(z, b)";
+    let text = text("z, a(3), b", clauses, "1, 3", body);
+    let tried = trial(text.as_bytes(), &[0; 5], ENOUGH, &[]).unwrap();
+    // Processor 0 has iteration index 0, processor 1 has 1 and 2 and stops in 1.
+    assert_eq!(tried.shared, [0, 0, 2, 1, 0]);
+    assert_eq!(tried.private[1][0], Some((1, 2)));
+    assert_eq!(tried.private[0][4], Some((0, -1)));
+    assert_eq!(tried.private[1][4], None);
+    assert_eq!(tried.processors[1].iteration, 1);
+    let fault = tried.processors[1].fault.unwrap();
+    assert_eq!((fault.number, fault.line, fault.v), (10, 6, 2));
+    assert_eq!((tried.pairs, tried.cells), (5, 4));
+}
+
+#[test]
+fn what_a_serial_run_lists() {
+    let body = "s = s + a(i)\na(i) = s";
+    let text = text("s, a(2)", "num_threads(2) reduction(+:s)", "1, 2", body);
+    let ran = serial(text.as_bytes(), &[1, 10, 20]).unwrap();
+    let list: Vec<_> = ran
+        .accesses
+        .iter()
+        .map(|access| (access.kind, access.iteration, access.cell, access.value))
+        .collect();
+    let expected = [
+        (Kind::Read, 0, 1, 10),
+        (Kind::Update, 0, 0, 10),
+        (Kind::Read, 0, 0, 11),
+        (Kind::Write, 0, 1, 11),
+        (Kind::Read, 1, 2, 20),
+        (Kind::Update, 1, 0, 20),
+        (Kind::Read, 1, 0, 31),
+        (Kind::Write, 1, 2, 31),
+    ];
+    assert_eq!(list, expected);
+    assert_eq!(ran.obstacles, [true, false, false]);
+    assert_eq!(ran.cells_after, [31, 11, 31]);
+    assert_eq!((ran.pairs, ran.cells), (4, 3));
+}
+
+#[test]
+fn a_name_with_data_and_one_without() {
+    let text =
+        "integer a(2), b\ndata a /2*-4/\n!$omp parallel do num_threads(1)\ndo i = 1, 1\nend do";
+    let mut cells = [1, 2, 3];
+    assert_eq!(load(text.as_bytes(), &mut cells), Ok(()));
+    assert_eq!(cells, [-4, -4, 0]);
+}

@@ -1,0 +1,245 @@
+//! Properties of many random loops, and of texts that are no loops.
+
+use generate::damage::damage;
+use generate::hostile::hostile;
+use generate::{lend, noise, Knobs, Loop, Rng};
+use reference::{
+    check, load, look, lrpd, read, run, serial, stepped, trial, workspace_needed, Answer, Refusal,
+    Serial, Speculation, Trial,
+};
+
+const LOOPS: u64 = 3000;
+
+/// A loop and cells to lend for a seed: mostly those of its data, sometimes anything.
+fn draw(seed: u64) -> (Loop, Vec<i32>, Rng) {
+    let mut rng = Rng::new(seed);
+    let drawn = if rng.chance(25) {
+        hostile(&mut rng)
+    } else {
+        let knobs = Knobs::mixed(&mut rng);
+        Loop::random(&mut rng, &knobs)
+    };
+    let cells = if rng.chance(80) {
+        drawn.cells.clone()
+    } else {
+        lend::cells(&mut rng, drawn.cells.len())
+    };
+    (drawn, cells, rng)
+}
+
+/// The loops of all seeds whose text is not too long.
+fn loops() -> impl Iterator<Item = (u64, Loop, Vec<i32>, Rng)> {
+    (0..LOOPS)
+        .map(|seed| {
+            let (drawn, cells, rng) = draw(seed);
+            (seed, drawn, cells, rng)
+        })
+        .filter(|(_, drawn, _, _)| drawn.text().len() <= 2048)
+}
+
+fn show(text: &[u8]) -> String {
+    String::from_utf8_lossy(text).into_owned()
+}
+
+#[test]
+fn random_loops_are_accepted_and_loaded_as_drawn() {
+    for (seed, drawn, _, _) in loops() {
+        let text = drawn.text();
+        let expected = Ok((drawn.cells.len(), drawn.processors));
+        assert_eq!(check(&text), expected, "seed {seed}\n{}", show(&text));
+        let mut cells = vec![77; drawn.cells.len()];
+        assert_eq!(load(&text, &mut cells), Ok(()));
+        assert_eq!(cells, drawn.cells, "seed {seed}\n{}", show(&text));
+    }
+}
+
+/// What the serial run settles: Run's answer and the cells it leaves.
+fn settled(serial: &Serial, lent: &[i32]) -> (Result<Answer, Refusal>, Vec<i32>) {
+    match serial.outcome {
+        Err(fault) => (Err(fault), lent.to_vec()),
+        Ok(()) => {
+            let answer = Answer {
+                passed: serial.passes(),
+                pairs: serial.pairs,
+                cells: serial.cells,
+            };
+            (Ok(answer), serial.cells_after.clone())
+        }
+    }
+}
+
+/// Demand 3: under every schedule and for every P, Run does what the serial run settles.
+#[test]
+fn run_does_what_the_serial_run_settles() {
+    let mut ran = 0;
+    for (seed, drawn, lent, mut rng) in loops() {
+        let settled = settled(&serial(&drawn.text(), &lent).unwrap(), &lent);
+        for processors in [drawn.processors, 1, 2, 3, 8] {
+            let text = drawn.with_processors(processors).text();
+            if text.len() > 2048 {
+                continue;
+            }
+            for schedule in schedules(&mut rng, processors) {
+                let mut cells = lent.clone();
+                let mut workspace = vec![1; workspace_needed(lent.len(), processors)];
+                let answer = run(&text, &mut cells, &mut workspace, &schedule);
+                assert_eq!(
+                    (answer, cells),
+                    settled,
+                    "seed {seed} {schedule:?}\n{}",
+                    show(&text)
+                );
+                assert!(workspace.iter().all(|&word| word == 0));
+                ran += 1;
+            }
+        }
+    }
+    println!("{ran} runs");
+}
+
+fn schedules(rng: &mut Rng, processors: usize) -> Vec<Vec<u8>> {
+    vec![
+        Vec::new(),
+        lend::backward_turns(processors, 12),
+        lend::schedule(rng, processors),
+        lend::schedule(rng, processors),
+    ]
+}
+
+/// The mixture has a good share of each end, and of speculation and serial run at odds.
+#[test]
+fn all_ends_are_frequent() {
+    let mut ends = [0; 4];
+    let mut at_odds = [0; 2];
+    for (_, drawn, lent, _) in loops() {
+        let text = drawn.text();
+        let serial = serial(&text, &lent).unwrap();
+        let end = match serial.outcome {
+            Err(fault) if fault.number == 9 => 2,
+            Err(_) => 3,
+            Ok(()) if serial.passes() => 0,
+            Ok(()) => 1,
+        };
+        ends[end] += 1;
+        let schedule = lend::backward_turns(drawn.processors, 30);
+        let trial = trial(&text, &lent, usize::MAX, &schedule).unwrap();
+        let faults = trial.processors.iter().any(|p| p.fault.is_some());
+        at_odds[0] += u32::from(faults && serial.outcome.is_ok());
+        at_odds[1] += u32::from(!faults && serial.outcome.is_err());
+    }
+    println!("passed, rerun, 9, 10: {ends:?}; only trial, only serial faults: {at_odds:?}");
+    assert!(ends[0] > 1000 && ends[1] > 500 && ends[2] > 200 && ends[3] > 80);
+    assert!(at_odds[0] > 80 && at_odds[1] > 80);
+}
+
+/// Running on iteration by iteration is running on by steps.
+#[test]
+fn running_on_is_taking_steps() {
+    for (seed, drawn, lent, mut rng) in loops() {
+        let program = read(&drawn.text()).unwrap();
+        let schedule = lend::schedule(&mut rng, drawn.processors);
+        let mut one = Speculation::begin(&program, &lent);
+        one.follow(&schedule);
+        let mut other = one.clone();
+        one.run_on();
+        other.run_on_by_steps();
+        assert_eq!(Trial::of(one), Trial::of(other), "seed {seed}");
+    }
+}
+
+/// Look shows the shared cells and marks of the stepped state, and a schedule long enough for all
+/// processors, whatever its order, ends where the trial ends under the same schedule.
+#[test]
+fn look_shows_the_stepped_state() {
+    for (seed, drawn, lent, mut rng) in loops() {
+        let text = drawn.text();
+        let schedule = lend::schedule(&mut rng, drawn.processors);
+        let words = workspace_needed(lent.len(), drawn.processors);
+        let state = stepped(&text, &lent, words, &schedule).unwrap();
+        let mut view = vec![9; 2 * lent.len()];
+        look(&text, &lent, &mut vec![1; words], &schedule, &mut view).unwrap();
+        let expected: Vec<u32> = state
+            .shared
+            .iter()
+            .zip(&state.marks)
+            .flat_map(|(&value, &marks)| [value as u32, marks])
+            .collect();
+        assert_eq!(view, expected, "seed {seed}");
+        if state.processors.iter().all(|processor| processor.is_idle()) {
+            assert_eq!(state, trial(&text, &lent, words, &schedule).unwrap());
+        }
+    }
+}
+
+/// What the trial's parts have to do with one another.
+#[test]
+fn the_parts_of_a_trial_agree() {
+    for (seed, drawn, lent, mut rng) in loops() {
+        let text = drawn.text();
+        let schedule = lend::schedule(&mut rng, drawn.processors);
+        let words = workspace_needed(lent.len(), drawn.processors);
+        let trial = trial(&text, &lent, words, &schedule).unwrap();
+        let written = trial.marks.iter().filter(|&&marks| marks & 9 != 0).count();
+        assert_eq!(trial.cells as usize, written, "seed {seed}");
+        assert!(trial.pairs >= trial.cells);
+        for processor in &trial.processors {
+            assert!(processor.is_idle(), "seed {seed}");
+            assert!(processor.fault.is_some() || processor.is_finished());
+        }
+    }
+}
+
+/// `lrpd` prints what Load and Run with an empty schedule give.
+#[test]
+fn lrpd_prints_the_run() {
+    for (_, drawn, _, _) in loops().take(500) {
+        let text = drawn.text();
+        let printed = show(&lrpd(&text));
+        let mut cells = drawn.cells.clone();
+        let words = workspace_needed(cells.len(), drawn.processors);
+        let first = match run(&text, &mut cells, &mut vec![0; words], &[]) {
+            _ if cells.len() > 128 => "! refused 5 0 0".to_string(),
+            Ok(answer) if answer.passed => format!("! passed {} {}", answer.pairs, answer.cells),
+            Ok(answer) => format!("! rerun {} {}", answer.pairs, answer.cells),
+            Err(Refusal { number, line, v }) => format!("! refused {number} {line} {v}"),
+        };
+        assert_eq!(printed.lines().next(), Some(first.as_str()));
+        let values: Vec<i32> = printed
+            .lines()
+            .skip(1)
+            .flat_map(|line| line.split('/').nth(1).unwrap().split(','))
+            .map(|value| value.parse().unwrap())
+            .collect();
+        assert!(first.starts_with("! refused") && values.is_empty() || values == cells);
+    }
+}
+
+/// Damaged texts and noise: some answer, never a panic, and the same refusal from every service.
+#[test]
+fn any_bytes_get_an_answer() {
+    let mut refused = [0; 5];
+    for seed in 0..20_000u64 {
+        let mut rng = Rng::new(seed);
+        let text = match seed % 10 {
+            0 => noise::bytes(&mut rng),
+            1 => noise::soup(&mut rng),
+            _ => damage(&draw(seed).0.text(), &mut rng),
+        };
+        match check(&text) {
+            Ok((cells, processors)) => {
+                refused[0] += 1;
+                assert!((1..=4096).contains(&cells) && (1..=8).contains(&processors));
+            }
+            Err(Refusal { number, line, v }) => {
+                refused[number as usize] += 1;
+                let newlines = text.iter().filter(|&&byte| byte == b'\n').count() as u32;
+                assert!(number == 1 && line == 0 || (1..=newlines + 1).contains(&line));
+                assert_eq!(v, 0);
+                let refusal = Err(Refusal { number, line, v });
+                assert_eq!(load(&text, &mut [0; 5000]), refusal);
+            }
+        }
+    }
+    println!("good, 1, 2, 3, 4: {refused:?}");
+    assert!(refused.iter().all(|&count| count > 10));
+}

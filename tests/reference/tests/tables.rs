@@ -1,0 +1,222 @@
+//! The tables written by hand, row by row.
+
+use generate::tables::{arguments, data, looks, prints, runs, text_rows};
+use generate::{lend, Rng};
+use reference::{
+    check, load, look, lrpd, run, serial, stepped, trial, workspace_needed, Answer, Refusal,
+};
+
+/// Reports all rows that differ, not just the first.
+fn assert_none(wrong: Vec<String>) {
+    assert!(
+        wrong.is_empty(),
+        "{} rows:\n{}",
+        wrong.len(),
+        wrong.join("\n")
+    );
+}
+
+#[test]
+fn check_answers_as_the_table_says() {
+    let mut wrong = Vec::new();
+    for row in text_rows() {
+        let expected = row
+            .expected
+            .map_err(|(number, line)| Refusal { number, line, v: 0 });
+        let answer = check(&row.text);
+        if answer != expected {
+            wrong.push(format!("{:?}: {answer:?}, not {expected:?}", row.name));
+        }
+    }
+    assert_none(wrong);
+}
+
+#[test]
+fn load_fills_the_cells_as_the_table_says() {
+    for row in data::load_rows() {
+        let mut cells = vec![77; row.cells.len()];
+        assert_eq!(load(&row.text, &mut cells), Ok(()), "{}", row.name);
+        assert_eq!(cells, row.cells, "{}", row.name);
+    }
+}
+
+#[test]
+fn refused_texts_leave_everything_as_found() {
+    for row in text_rows().iter().filter(|row| row.expected.is_err()) {
+        let mut cells = vec![77; 3];
+        let mut workspace = vec![5; 10];
+        let mut view = vec![9; 6];
+        let expected = check(&row.text).unwrap_err();
+        assert_eq!(load(&row.text, &mut cells), Err(expected));
+        assert_eq!(
+            run(&row.text, &mut cells, &mut workspace, &[9]).unwrap_err(),
+            expected
+        );
+        assert_eq!(
+            look(&row.text, &cells, &mut workspace, &[9], &mut view).unwrap_err(),
+            expected
+        );
+        assert_eq!(
+            (cells, workspace, view),
+            (vec![77; 3], vec![5; 10], vec![9; 6])
+        );
+    }
+}
+
+/// A row of [`runs`] under one schedule, with a workspace of anything and some words to spare.
+fn run_row(row: &runs::RunRow, schedule: &[u8], rng: &mut Rng) -> Result<(), String> {
+    let (needed, processors) = check(&row.text).expect("a good text");
+    let mut cells = row.cells.clone();
+    let spare = rng.below(3);
+    let mut workspace = lend::workspace(rng, workspace_needed(needed, processors) + spare);
+    let answer = run(&row.text, &mut cells, &mut workspace, schedule);
+    let ran = match answer {
+        Ok(Answer {
+            passed: true,
+            pairs,
+            cells: written,
+        }) => runs::Ran::Passed(pairs, written, cells),
+        Ok(Answer {
+            pairs,
+            cells: written,
+            ..
+        }) => runs::Ran::Rerun(pairs, written, cells),
+        Err(Refusal { number, line, v }) => {
+            assert_eq!(cells, row.cells, "a fault leaves the cells: {:?}", row.name);
+            runs::Ran::Fault(number, line, v)
+        }
+    };
+    if workspace.iter().any(|&word| word != 0) {
+        return Err(format!("{:?} leaves its workspace", row.name));
+    }
+    if ran != row.expected {
+        return Err(format!("{:?} {schedule:?}: {ran:?}", row.name));
+    }
+    Ok(())
+}
+
+#[test]
+fn run_answers_as_the_table_says_under_many_schedules() {
+    let mut rng = Rng::new(1);
+    let mut wrong = Vec::new();
+    for row in runs::rows() {
+        let (_, processors) = check(&row.text).expect("a good text");
+        let mut schedules = vec![Vec::new(), lend::backward_turns(processors, 20)];
+        schedules.extend((0..20).map(|_| lend::schedule(&mut rng, processors)));
+        for schedule in schedules {
+            wrong.extend(run_row(&row, &schedule, &mut rng).err());
+        }
+    }
+    assert_none(wrong);
+}
+
+/// All schedules of ten bytes for the loops with two processors.
+#[test]
+fn run_answers_as_the_table_says_under_all_short_schedules() {
+    let mut rng = Rng::new(2);
+    let mut wrong = Vec::new();
+    let two = |row: &runs::RunRow| matches!(check(&row.text), Ok((_, 2)));
+    let short = |row: &runs::RunRow| row.cells.len() < 10;
+    for row in runs::rows().iter().filter(|row| two(row) && short(row)) {
+        for bits in 0..1u32 << 10 {
+            let schedule: Vec<u8> = (0..10).map(|place| (bits >> place & 1) as u8).collect();
+            wrong.extend(run_row(row, &schedule, &mut rng).err());
+        }
+    }
+    assert_none(wrong);
+}
+
+#[test]
+fn look_shows_what_the_table_says() {
+    let mut wrong = Vec::new();
+    for row in looks::rows() {
+        let (needed, processors) = check(&row.text).expect("a good text");
+        let mut workspace = vec![3; workspace_needed(needed, processors) + 1];
+        let mut view = vec![9; 2 * needed];
+        let answer = look(
+            &row.text,
+            &row.cells,
+            &mut workspace,
+            &row.schedule,
+            &mut view,
+        );
+        assert_eq!(answer, Ok(()), "{}", row.name);
+        assert!(workspace.iter().all(|&word| word == 0), "{}", row.name);
+        let seen: Vec<_> = view
+            .chunks(2)
+            .map(|words| (words[0] as i32, words[1]))
+            .collect();
+        if seen != row.view {
+            wrong.push(format!("{}: {seen:?}, not {:?}", row.name, row.view));
+        }
+    }
+    assert_none(wrong);
+}
+
+#[test]
+fn lrpd_prints_what_the_table_says() {
+    for (name, input, output) in prints::ROWS {
+        let printed = String::from_utf8(lrpd(input.as_bytes())).expect("text");
+        assert_eq!(printed, *output, "{name}");
+    }
+    assert_eq!(lrpd(&[b'!'; 2049]), b"! refused 1 0 0\n");
+}
+
+fn number_of<T>(answer: Result<T, Refusal>) -> u32 {
+    answer.map_or_else(|refusal| refusal.number, |_| 0)
+}
+
+#[test]
+fn arguments_are_refused_as_the_table_says() {
+    for row in arguments::rows() {
+        let text = row.text.as_bytes();
+        let found = vec![1; row.cells];
+        let mut cells = found.clone();
+        assert_eq!(number_of(load(text, &mut cells)), row.load, "{}", row.name);
+        assert!(row.load == 0 || cells == found, "{}", row.name);
+
+        let mut workspace = vec![3; row.workspace];
+        let mut view = vec![9; row.view];
+        let answer = look(text, &found, &mut workspace, &row.schedule, &mut view);
+        assert_eq!(number_of(answer), row.look, "{}", row.name);
+        let untouched = row.look != 0;
+        assert_eq!(
+            workspace,
+            vec![if untouched { 3 } else { 0 }; row.workspace]
+        );
+        assert!(!untouched || view.iter().all(|&word| word == 9));
+
+        let mut cells = found.clone();
+        let mut workspace = vec![3; row.workspace];
+        let answer = run(text, &mut cells, &mut workspace, &row.schedule);
+        assert_eq!(number_of(answer), row.run, "{}", row.name);
+        let untouched = row.run != 0;
+        assert_eq!(
+            workspace,
+            vec![if untouched { 3 } else { 0 }; row.workspace]
+        );
+        assert!(!untouched || cells == found);
+
+        // READING 93: the parts that Run is made of refuse the same way.
+        let tried = trial(text, &found, row.workspace, &row.schedule);
+        assert_eq!(number_of(tried), row.run, "{}", row.name);
+        let taken = stepped(text, &found, row.workspace, &row.schedule);
+        assert_eq!(number_of(taken), row.run, "{}", row.name);
+        assert_eq!(number_of(serial(text, &found)), row.load, "{}", row.name);
+    }
+}
+
+/// How large the tables are; they are not to shrink unnoticed.
+#[test]
+fn the_tables_have_many_rows() {
+    let counts = (
+        text_rows().len(),
+        data::load_rows().len(),
+        runs::rows().len(),
+        looks::rows().len(),
+        prints::ROWS.len(),
+        arguments::rows().len(),
+    );
+    println!("texts, loads, runs, looks, prints, arguments: {counts:?}");
+    assert!(counts.0 > 900 && counts.2 > 200 && counts.3 > 150);
+}
