@@ -1,0 +1,92 @@
+-- An accepted text meets what a run asks.
+use mathlib.Core.Path.{_≡_, refl, sym, _∙_, ap, subst}
+use mathlib.Core.List.{List, [], _∷_, _++_, append-nil}
+use Prim.Native.Nat.{ℕ, _+_, _*_, _≤_, _<_}
+use native.Mathlib.Omega.{arith}
+use borrow.Author.Tests.{leb-true}
+use mir.Syntax.{w32}
+use mir.Val.{SFits}
+use lib.ListN.{length, getD, take}
+use lib.IntN.{ℤ, pos, _+ℤ_}
+use Rattle.int32.specs.Integers.{sum}
+use Rattle.rules.specs.Cells.{cellOf, listed}
+use Rattle.rules.specs.Loop.{Loop, done}
+use Rattle.rules.proofs.CellsLaws.{listed-cells}
+use Rattle.syntax.specs.Known.{State, cells}
+use Rattle.syntax.specs.Text.{good, read}
+use Rattle.syntax.specs.Meaning.{exec, class-of, loopOf, partitionOf}
+use Rattle.syntax.proofs.Sane.{Sane, accepted-sane, accepted-finished}
+use Rattle.syntax.proofs.ProperLoop.{accepted-proper}
+use Rattle.code.specs.Instr.{Instr, instructions, words, resume}
+use Rattle.code.specs.Compile.{codeOf}
+use Rattle.code.proofs.Words.{instructions-words}
+use Rattle.code.proofs.RangedCode.{code-ranged}
+use Rattle.code.proofs.Compiled.{compiled-text}
+use Rattle.names.specs.Table.{Tabled}
+use Rattle.lines.specs.declared.Progress.{Progress}
+use Rattle.lines.specs.Progress.{Represents}
+use Rattle.tables.specs.Layout.{row-at, class-number}
+use Rattle.trial.specs.declared.Setting.{Setting}
+use Rattle.trial.specs.Standing.{dealt, Suits, Coded}
+use Rattle.trial.specs.Start.{Entry, Starts}
+use Rattle.setup.specs.Classes.{Classifies}
+
+-- a finished text has every kind of line
+late : (text : List ℕ) (s : State) → read text ≡ good s → 6 ≤ s .stage
+late text s e = leb-true 6 (s .stage) (accepted-finished text s e)
+
+-- the words of the code are the code
+pub code-is : (text : List ℕ) (s : State) → read text ≡ good s → instructions (words (codeOf s)) ≡ codeOf s
+unfolding instructions
+code-is text s e =
+    ap instructions (sym (append-nil (words (codeOf s))))
+    ∙ instructions-words (codeOf s) [] (code-ranged s (accepted-sane text s e) (omega (arith, late text s e)))
+    ∙ append-nil (codeOf s)
+
+module _ (text : List ℕ) (s : State) (e : read text ≡ good s) (M : List ℤ) where
+  abbrev sane : Sane s
+  sane = accepted-sane text s e
+
+  coded : Coded (words (codeOf s)) (s .from) (loopOf s M)
+  unfolding loopOf
+  coded = record {
+    body = λ i b. sym (ap (λ (is : List Instr). resume is 0 [] (s .from +ℤ pos i)) (code-is text s e) ∙ compiled-text text s e (s .from +ℤ pos i));
+    fits = λ i b. sane .loop (omega (arith, late text s e)) .values-fit i b;
+  }
+
+  suits : Suits (s .processors) (loopOf s M)
+  unfolding loopOf partitionOf
+  suits = record {
+    proper = accepted-proper text s M e;
+    plus = refl;
+    nought = refl;
+    cells-most = sane .table .few-cells;
+    iterations-most = sane .loop (omega (arith, late text s e)) .few-iterations;
+    some = sane .some-processors (omega (arith, late text s e));
+    most = sane .few-processors (omega (arith, late text s e));
+  }
+
+  size-is : loopOf s M .size ≡ cells (s .table)
+  unfolding loopOf
+  size-is = refl
+
+  -- the cells as lent, their classes and n words
+  module _ (size : length M ≡ cells (s .table)) (T C₀ C : List ℕ) (tab : Tabled T (s .table)) (cl : Classifies T (cells (s .table)) C₀ C) (long : cells (s .table) ≤ length C₀) (n : ℕ) (room : row-at (s .processors) (cells (s .table)) ≤ n) where
+    entry : Entry (s .processors) (loopOf s M) M C n
+    unfolding loopOf
+    entry = record {
+      suits = suits;
+      cells = sym (ap (λ (k : ℕ). listed k (cellOf M)) (sym size) ∙ listed-cells M);
+      number = omega (arith, cl .size, long);
+      classes = λ c b. cl .numbers (s .table) tab c b;
+      room = room;
+    }
+
+    -- the code and the numbers that the reader found
+    pub starts : (K : List ℕ) (g : Setting) → K ≡ words (codeOf s) → g .processors ≡ s .processors → g .iterations ≡ s .count → g .from ≡ s .from → Starts K g (loopOf s M) M C n
+    unfolding loopOf
+    starts K g ek ep ei ef = record {
+      coded = subst (λ (k : List ℕ). Coded k (g .from) (loopOf s M)) (sym ek) (subst (λ (m : ℤ). Coded (words (codeOf s)) m (loopOf s M)) (sym ef) coded);
+      iterations = sym ei;
+      entry = subst (λ (k : ℕ). Entry k (loopOf s M) M C n) (sym ep) entry;
+    }
