@@ -7,7 +7,7 @@ use native.Mathlib.Omega.{arith}
 use borrow.Author.Tests.{eq-eqb, ne-eqb}
 use lib.Dec.{eqb}
 use lib.ListN.{length, getD, set, take, drop, replicate, length-append}
-use lib.Seq.{take-at}
+use lib.Seq.{take-at, take-length}
 use lib.IntN.{ℤ, pos}
 use Rattle.syntax.specs.Known.{State, cells}
 use Rattle.syntax.specs.Text.{Verdict, refused, good, loaded, read}
@@ -38,6 +38,9 @@ copied-all m l c a b = let e : c ≡ length m = omega arith in ap (λ (n : ℕ).
     drop-all : (u : List ℤ) → drop (length u) u ≡ []
     drop-all [] = refl
     drop-all (y ∷ u) = drop-all u
+
+pub copied-front : (m l u : List ℤ) (c : ℕ) → u ≡ take c l ++ drop c m → c ≡ length l → take (length l) u ≡ l
+copied-front m l u c e q = ap (take (length l)) (e ∙ ap (λ (n : ℕ). take n l ++ drop n m) q ∙ ap (λ (k : List ℤ). k ++ drop (length l) m) (take-length l)) ∙ take-at l (drop (length l) m) (length l) refl
 
 -- ---- by the verdict on the text
 

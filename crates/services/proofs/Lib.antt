@@ -1,1 +1,4 @@
 pub mod Copies
+pub mod Preparing
+pub mod Looking
+pub mod Answering

@@ -30,15 +30,23 @@ checkOf (good s) = Sizes (cells (s .table)) (s .processors)
 abbrev pub needed : ℕ → ℕ → ℕ
 needed n p = 4352 + 64 * p + n * (4 + 6 * p)
 
--- m cells and w words are lent, and the schedule's bytes are ps
+-- of n cells, where m are lent
+abbrev pub cellsNumber : ℕ → ℕ → ℕ
+cellsNumber n m = cond (eqb m n) 0 5
+
+-- and p processors, where w words are lent
+abbrev pub wordsNumber : ℕ → ℕ → ℕ → ℕ → ℕ
+wordsNumber n p m w = cond (eqb m n) (cond (leb (needed n p) w) 0 6) 5
+
+-- and ps are the schedule's bytes: "a schedule byte of P or more"
+abbrev pub fitNumber : ℕ → ℕ → ℕ → ℕ → List ℕ → ℕ
+fitNumber n p m w ps = cond (eqb m n) (cond (leb (needed n p) w) (cond (all (λ b. ltb b p) ps) 0 7) 6) 5
+
 abbrev pub loadNumber : State → ℕ → ℕ
-loadNumber s m = cond (eqb m (cells (s .table))) 0 5
+loadNumber s m = cellsNumber (cells (s .table)) m
 
 abbrev pub runNumber : State → ℕ → ℕ → List ℕ → ℕ
-runNumber s m w ps =
-    cond (eqb m (cells (s .table)))
-    (cond (leb (needed (cells (s .table)) (s .processors)) w)
-    (cond (all (λ b. ltb b (s .processors)) ps) 0 7) 6) 5
+runNumber s m w ps = fitNumber (cells (s .table)) (s .processors) m w ps
 
 -- and v words of a view
 abbrev pub viewNumber : State → ℕ → ℕ → ℕ

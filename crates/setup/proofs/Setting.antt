@@ -22,14 +22,10 @@ use Rattle.code.specs.Compile.{codeOf}
 use Rattle.code.proofs.Words.{instructions-words}
 use Rattle.code.proofs.RangedCode.{code-ranged}
 use Rattle.code.proofs.Compiled.{compiled-text}
-use Rattle.names.specs.Table.{Tabled}
-use Rattle.lines.specs.declared.Progress.{Progress}
-use Rattle.lines.specs.Progress.{Represents}
 use Rattle.tables.specs.Layout.{row-at, class-number}
 use Rattle.trial.specs.declared.Setting.{Setting}
 use Rattle.trial.specs.Standing.{dealt, Suits, Coded}
 use Rattle.trial.specs.Start.{Entry, Starts}
-use Rattle.setup.specs.Classes.{Classifies}
 
 -- a finished text has every kind of line
 late : (text : List ℕ) (s : State) → read text ≡ good s → 6 ≤ s .stage
@@ -71,21 +67,21 @@ module _ (text : List ℕ) (s : State) (e : read text ≡ good s) (M : List ℤ)
   size-is = refl
 
   -- the cells as lent, their classes and n words
-  module _ (size : length M ≡ cells (s .table)) (T C₀ C : List ℕ) (tab : Tabled T (s .table)) (cl : Classifies T (cells (s .table)) C₀ C) (long : cells (s .table) ≤ length C₀) (n : ℕ) (room : row-at (s .processors) (cells (s .table)) ≤ n) where
+  module _ (size : length M ≡ cells (s .table)) (C : List ℕ) (long : cells (s .table) ≤ length C) (cl : (c : ℕ) → c < cells (s .table) → getD C c 0 ≡ class-number (class-of (s .table) c)) (n : ℕ) (room : row-at (s .processors) (cells (s .table)) ≤ n) where
     entry : Entry (s .processors) (loopOf s M) M C n
     unfolding loopOf
     entry = record {
       suits = suits;
       cells = sym (ap (λ (k : ℕ). listed k (cellOf M)) (sym size) ∙ listed-cells M);
-      number = omega (arith, cl .size, long);
-      classes = λ c b. cl .numbers (s .table) tab c b;
+      number = long;
+      classes = cl;
       room = room;
     }
 
     -- the code and the numbers that the reader found
-    pub starts : (K : List ℕ) (g : Setting) → K ≡ words (codeOf s) → g .processors ≡ s .processors → g .iterations ≡ s .count → g .from ≡ s .from → Starts K g (loopOf s M) M C n
+    pub starts-by : (K : List ℕ) (g : Setting) → K ≡ words (codeOf s) → g .processors ≡ s .processors → g .iterations ≡ s .count → g .from ≡ s .from → Starts K g (loopOf s M) M C n
     unfolding loopOf
-    starts K g ek ep ei ef = record {
+    starts-by K g ek ep ei ef = record {
       coded = subst (λ (k : List ℕ). Coded k (g .from) (loopOf s M)) (sym ek) (subst (λ (m : ℤ). Coded (words (codeOf s)) m (loopOf s M)) (sym ef) coded);
       iterations = sym ei;
       entry = subst (λ (k : ℕ). Entry k (loopOf s M) M C n) (sym ep) entry;
