@@ -2,3 +2,4 @@ pub mod Copies
 pub mod Preparing
 pub mod Looking
 pub mod Answering
+pub mod Trying

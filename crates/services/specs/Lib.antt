@@ -1,3 +1,4 @@
 pub mod Answers
 pub mod Prepared
 pub mod Running
+pub mod Trial

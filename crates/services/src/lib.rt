@@ -8,11 +8,14 @@ ghost use Rattle.syntax.specs.Text.{read as readText};
 ghost use Rattle.syntax.specs.Bytes.{all};
 ghost use Rattle.services.specs.Answers.{checkOf, needed, fitNumber, loadOf, cellsLoaded, lookOf, viewShown, lookWorkspace};
 ghost use Rattle.services.specs.Running.{ShowsAfter};
+ghost use Rattle.services.specs.Trial.{TrialOf};
 ghost use Rattle.trial.specs.Start.{CanTry};
 ghost use Rattle.services.specs.Prepared.{Prepared};
 use lines::Progress;
 use reader::Reading;
+use rules::Iteration;
 use trial::Setting;
+use trial::Worker;
 
 // What Check answers: N and P, or a refusal with its number and line.
 pub enum Checked {
@@ -30,6 +33,24 @@ pub enum Completed {
 pub enum Ran {
     Passed { pairs: u32, cells: u32 },
     Rerun { pairs: u32, cells: u32 },
+    Faulted { number: u32, line: u32, v: i32 },
+    Refused { number: u32, line: u32 },
+}
+
+// What the trial answers: a refusal's number (0: none) and line; P; whether a fault stopped a processor, and whether a cell has an obstacle; the processors'
+// records.
+pub struct Tried {
+    pub number: u32,
+    pub line: u32,
+    pub processors: u32,
+    pub faulty: bool,
+    pub obstructed: bool,
+    pub workers: [Worker; 8],
+}
+
+// What the serial run answers.
+pub enum Served {
+    Finished { pairs: u32, cells: u32 },
     Faulted { number: u32, line: u32, v: i32 },
     Refused { number: u32, line: u32 },
 }
@@ -279,4 +300,65 @@ pub fn look(
         view,
     );
     Completed::Done
+}
+
+// ---- the trial
+
+// No trial was made.
+fn untried(number: u32, line: u32) -> Tried
+    ensures { λ r. ⌜ (r .number ≡ number) × (r .line ≡ line) ⌝ }
+{
+    let first = Iteration(0);
+    let none = Worker {
+        pending: [0; 32],
+        depth: 0,
+        place: 0,
+        iteration: first,
+        fault: 0,
+        line: 0,
+    };
+    Tried {
+        number,
+        line,
+        processors: 0,
+        faulty: false,
+        obstructed: false,
+        workers: [none; 8],
+    }
+}
+
+// The schedule's steps, and then all processors to their end, by the step that Look uses. The cells and the workspace are left as the trial leaves them.
+pub fn trial(text: &[u8], cells: &mut [i32], workspace: &mut [u32], schedule: &[u8]) -> Tried
+    ensures { λ r. ⌜ TrialOf (readText (now (text .entry))) (now (cells .entry)) (now (workspace .entry)) (now (schedule .entry)) r (now (cells .exit)) (now (workspace .exit)) ⌝ }
+{
+    let mut code = [0; 8194];
+    let mut classes = [0; 4096];
+    let r = prepare(text, &mut code, &mut classes);
+    if r.number != 0 {
+        return untried(r.number, r.line);
+    }
+    let setting = r.setting;
+    let number = unfit(
+        r.cells,
+        setting.processors,
+        cells.len(),
+        workspace.len(),
+        schedule,
+    );
+    if number != 0 {
+        return untried(number, 0);
+    }
+    let end = r.end;
+    let processors = setting.processors;
+    let workers = trial::trial(&code[0..end], setting, &classes, schedule, cells, workspace);
+    let faulty = trial::result::is_faulty(processors as usize, workers);
+    let obstructed = trial::result::is_obstructed(processors as usize, cells, workspace);
+    Tried {
+        number: 0,
+        line: 0,
+        processors,
+        faulty,
+        obstructed,
+        workers,
+    }
 }
