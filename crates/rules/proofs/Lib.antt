@@ -1,6 +1,7 @@
 -- Order decides nothing.
 pub mod Theorem
-pub mod Examples
+-- Marks by computing.
+pub mod MarkExamples
 -- The argument, bottom up: what holds of obstacles and of a group's work, a group by itself, runs of any kind,
 pub mod ObstacleLaws
 pub mod Job

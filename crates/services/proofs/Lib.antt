@@ -3,3 +3,5 @@ pub mod Preparing
 pub mod Looking
 pub mod Answering
 pub mod Trying
+-- The examples of document 01.
+pub mod Examples
