@@ -5,7 +5,7 @@ use mathlib.Core.List.{List, [], _∷_}
 use Prim.Native.Nat.{ℕ, zero, suc, _+_, _-_, _*_, _≤_, _<_}
 use native.Mathlib.Nat.{mul-le-mul}
 use native.Mathlib.Omega.{arith}
-use borrow.Author.Tests.{eqb-true, leb-true, ltb-true, eq-eqb, ne-eqb}
+use borrow.Author.Tests.{eqb-true, leb-true, ltb-true, eq-eqb, ne-eqb, le-leb}
 use lib.Dec.{eqb, leb, ltb}
 use lib.ListN.{length, getD, take, drop, replicate}
 use lib.IntN.{ℤ}
@@ -80,6 +80,9 @@ fit-zero n p m w ps = go (eqb m n) (leb (needed n p) w) (all (λ b. ltb b p) ps)
     go true true false ea eb ec z = absurd (omega (arith, z))
     go true false c ea eb ec z = absurd (omega (arith, z))
     go false b c ea eb ec z = absurd (omega (arith, z))
+
+pub fits-none : (n p m w : ℕ) → m ≡ n → needed n p ≤ w → fitNumber n p m w [] ≡ 0
+fits-none n p m w e h = λ i. cond (eq-eqb m n e i) (cond (le-leb (needed n p) w h i) 0 6) 5
 
 row-room : (n p : ℕ) → row-at p n ≤ needed n p
 row-room n p = let q : n * (4 + 5 * p) ≤ n * (4 + 6 * p) = (let a : n ≤ n = omega arith in let b : 4 + 5 * p ≤ 4 + 6 * p = omega arith in mul-le-mul a b) in omega (arith, q)

@@ -5,3 +5,6 @@ pub mod Answering
 pub mod Trying
 -- The examples of document 01.
 pub mod Examples
+pub mod Serially
+pub mod Concluding
+pub mod Settling

@@ -33,9 +33,9 @@ use Rattle.services.specs.Trial.{settingOf, Tries, TriesBy, TrialOf}
 use Rattle.services.proofs.Answering.{Accepted, Fits, fit-zero, begins}
 
 module _ (text : List ℕ) (M : List ℤ) (W ps : List ℕ) (t : Tried) where
-  pub try-refused : (n k : ℕ) → read text ≡ refused n k → t .number ≡ n → t .line ≡ k → TrialOf (read text) M W ps t M W
+  pub try-refused : (n k : ℕ) → (n ≡ 0 → ⊥) → read text ≡ refused n k → t .number ≡ n → t .line ≡ k → TrialOf (read text) M W ps t M W
   unfolding TrialOf
-  try-refused n k e en ek = subst (λ (v : Verdict). TrialOf v M W ps t M W) (sym e) (en, ek, refl, refl)
+  try-refused n k nz e en ek = subst (λ (v : Verdict). TrialOf v M W ps t M W) (sym e) (en, ek, refl, refl, omega (arith, nz))
 
   by-number : (s : State) (n : ℕ) (M′ : List ℤ) (W′ : List ℕ) → read text ≡ good s → runNumber s (length M) (length W) ps ≡ n → TriesBy s n M W ps t M′ W′ → TrialOf (read text) M W ps t M′ W′
   unfolding TrialOf
@@ -53,7 +53,7 @@ module _ (text : List ℕ) (M : List ℤ) (W ps : List ℕ) (t : Tried) where
       where
         go : (k : ℕ) → n ≡ k → (k ≡ 0 → ⊥) → TrialOf (read text) M W ps t M W
         go zero q z = absurd (z refl)
-        go (suc k) q z = by-number s (suc k) M W (a .verdict) (number-is ∙ q) (e ∙ q, el, refl, refl)
+        go (suc k) q z = by-number s (suc k) M W (a .verdict) (number-is ∙ q) (e ∙ q, el, refl, refl, omega arith)
 
     module _ (z : n ≡ 0) where
       abbrev fit : Fits (r .cells) (r .setting .processors) (length M) (length W) ps

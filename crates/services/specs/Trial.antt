@@ -3,7 +3,7 @@ use mathlib.Core.Path.{_≡_}
 use mathlib.Core.Logic.{_↔_}
 use mathlib.Core.Bool.{true}
 use mathlib.Core.List.{List, []}
-use Prim.Native.Nat.{ℕ, zero, suc}
+use Prim.Native.Nat.{ℕ, zero, suc, _<_}
 use lib.ListN.{length}
 use lib.IntN.{ℤ, pos, _+ℤ_}
 use Rattle.rules.specs.Cells.{listed}
@@ -44,7 +44,7 @@ pub record Tries (s : State) (M : List ℤ) (ps : List ℕ) (r : Tried) (M′ : 
   pub run : Run (words (codeOf s)) (settingOf s) (loopOf s M) M′ W′ (r .workers) (trial (loopOf s M) (partitionOf s) ps)
 
 abbrev pub Found : ℕ → ℕ → List ℤ → List ℕ → Tried → List ℤ → List ℕ → Type 0
-Found n k M W r M′ W′ = (r .number ≡ n) × (r .line ≡ k) × (M′ ≡ M) × (W′ ≡ W)
+Found n k M W r M′ W′ = (r .number ≡ n) × (r .line ≡ k) × (M′ ≡ M) × (W′ ≡ W) × (0 < n)
 
 abbrev pub TriesBy : State → ℕ → List ℤ → List ℕ → List ℕ → Tried → List ℤ → List ℕ → Type 0
 TriesBy s zero M W ps r M′ W′ = Tries s M ps r M′ W′

@@ -1,14 +1,15 @@
 // The services (document 01, Services and answers). Each takes any text and whatever is lent, and refuses what it can't take; a refusal leaves all that is
 // lent as it came.
 ghost use mathlib.Core.Path.{_≡_};
+ghost use mathlib.Core.Bool.{_||_};
 ghost use Prim.Native.Nat.{_≤_, _*_};
 ghost use lib.Dec.{ltb};
 ghost use lib.ListN.{length, take, replicate};
 ghost use Rattle.syntax.specs.Text.{read as readText};
 ghost use Rattle.syntax.specs.Bytes.{all};
-ghost use Rattle.services.specs.Answers.{checkOf, needed, fitNumber, loadOf, cellsLoaded, lookOf, viewShown, lookWorkspace};
-ghost use Rattle.services.specs.Running.{ShowsAfter};
-ghost use Rattle.services.specs.Trial.{TrialOf};
+ghost use Rattle.services.specs.Answers.{checkOf, needed, fitNumber, loadOf, cellsLoaded, lookOf, viewShown, lookWorkspace, runOf, cellsRun, runWorkspace};
+ghost use Rattle.services.specs.Running.{ShowsAfter, CanConclude, ConcludesBy};
+ghost use Rattle.services.specs.Trial.{TrialOf, SerialOf};
 ghost use Rattle.trial.specs.Start.{CanTry};
 ghost use Rattle.services.specs.Prepared.{Prepared};
 use lines::Progress;
@@ -360,5 +361,105 @@ pub fn trial(text: &[u8], cells: &mut [i32], workspace: &mut [u32], schedule: &[
         faulty,
         obstructed,
         workers,
+    }
+}
+
+// ---- the serial run
+
+// The serial run, in place over the cells: the text and the cells alone decide it. The workspace is left with the cells at entry and the accesses.
+pub fn run_serially(text: &[u8], cells: &mut [i32], workspace: &mut [u32]) -> Served
+    ensures { λ r. ⌜ SerialOf (readText (now (text .entry))) (now (cells .entry)) (now (workspace .entry)) r (now (cells .exit)) (now (workspace .exit)) ⌝ }
+    ensures { λ _. ⌜ length (now (workspace .exit)) ≡ length (now (workspace .entry)) ⌝ }
+{
+    let mut code = [0; 8194];
+    let mut classes = [0; 4096];
+    let r = prepare(text, &mut code, &mut classes);
+    if r.number != 0 {
+        return Served::Refused {
+            number: r.number,
+            line: r.line,
+        };
+    }
+    let setting = r.setting;
+    let number = unfit(
+        r.cells,
+        setting.processors,
+        cells.len(),
+        workspace.len(),
+        b"",
+    );
+    if number != 0 {
+        return Served::Refused { number, line: 0 };
+    }
+    let end = r.end;
+    let from = setting.from;
+    let t = serial::run(&code[0..end], setting, &classes, cells, workspace);
+    if t.fault == 0 {
+        return Served::Finished {
+            pairs: tables::pair_count(workspace),
+            cells: tables::cell_count(workspace),
+        };
+    }
+    let i = t.iteration;
+    Served::Faulted {
+        number: t.fault,
+        line: t.line,
+        v: trial::value_at(from, i),
+    }
+}
+
+// ---- Run
+
+// What Run answers after the serial run: a fault brings the cells back to entry. The workspace is left all zero.
+fn conclude(s: Served, cells: &mut [i32], workspace: &mut [u32]) -> Ran
+    requires { ⌜ CanConclude s (now cells) (now workspace) ⌝ }
+    ensures { λ r. ⌜ ConcludesBy s (now (cells .entry)) (now (workspace .entry)) r (now (cells .exit)) (now (workspace .exit)) ⌝ }
+{
+    match s {
+        Served::Finished { pairs: a, cells: b } => {
+            tables::clear(workspace);
+            Ran::Rerun { pairs: a, cells: b }
+        }
+        Served::Faulted { number, line, v } => {
+            trial::result::restore(1, cells, workspace);
+            tables::clear(workspace);
+            Ran::Faulted { number, line, v }
+        }
+        Served::Refused { number, line } => Ran::Refused { number, line },
+    }
+}
+
+// Whether a trial is rejected: a fault stopped a processor, or a cell has an obstacle.
+fn is_rejected(faulty: bool, obstructed: bool) -> bool
+    ensures { λ r. ⌜ r ≡ faulty || obstructed ⌝ }
+{
+    if faulty { true } else { obstructed }
+}
+
+pub fn run(text: &[u8], cells: &mut [i32], workspace: &mut [u32], schedule: &[u8]) -> Ran
+    ensures { λ r. ⌜ r ≡ runOf (readText (now (text .entry))) (now (cells .entry)) (length (now (workspace .entry))) (now (schedule .entry)) ⌝ }
+    ensures { λ _. ⌜ now (cells .exit) ≡ cellsRun (readText (now (text .entry))) (now (cells .entry)) (length (now (workspace .entry))) (now (schedule .entry)) ⌝ }
+    ensures { λ _. ⌜ now (workspace .exit) ≡ runWorkspace (readText (now (text .entry))) (now (cells .entry)) (now (workspace .entry)) (now (schedule .entry)) ⌝ }
+{
+    let t = trial(text, cells, workspace, schedule);
+    if t.number != 0 {
+        return Ran::Refused {
+            number: t.number,
+            line: t.line,
+        };
+    }
+    let processors = t.processors as usize;
+    if is_rejected(t.faulty, t.obstructed) {
+        trial::result::restore(processors, cells, workspace);
+        let s = run_serially(text, cells, workspace);
+        return conclude(s, cells, workspace);
+    }
+    trial::result::merge(processors, cells, workspace);
+    let pairs = tables::pair_count(workspace);
+    let written = tables::cell_count(workspace);
+    tables::clear(workspace);
+    Ran::Passed {
+        pairs,
+        cells: written,
     }
 }

@@ -29,7 +29,7 @@ untried-requires : tie.Need-untried-requires
 untried-requires c κs = search needs
 
 returns : tie.Need-returns
-returns c = try-refused _ (c .before .before .before .before .before .before .before .before .before .before .before .args .cells .now) (c .before .before .before .before .before .before .before .before .before .before .before .args .workspace .now) (c .before .before .before .before .before .before .before .before .before .before .before .args .schedule .now) _ _ _ (ready-bad _ _ _ _ (c .before .before .before .before .before .prepare .ensures) (c .before .if1 .taken)) (c .untried .ensures .0) (c .untried .ensures .1)
+returns c = try-refused _ (c .before .before .before .before .before .before .before .before .before .before .before .args .cells .now) (c .before .before .before .before .before .before .before .before .before .before .before .args .workspace .now) (c .before .before .before .before .before .before .before .before .before .before .before .args .schedule .now) _ _ _ (c .before .if1 .taken) (ready-bad _ _ _ _ (c .before .before .before .before .before .prepare .ensures) (c .before .if1 .taken)) (c .untried .ensures .0) (c .untried .ensures .1)
 
 unfit-requires : tie.Need-unfit-requires
 unfit-requires c κs = ready-few _ _ _ _ (c .before .before .before .before .before .prepare .ensures) (ready-fine _ _ _ _ (c .before .before .before .before .before .prepare .ensures) (c .before .if1 .left))
