@@ -5,7 +5,10 @@ use Rattle.services.specs.declared.Checked.the-variants.{Sizes, Refused}
 use Rattle.services.specs.declared.Completed.{Completed}
 use Rattle.services.specs.declared.Completed.the-variants.{Done, Refused as Rejected}
 use Rattle.exports.specs.declared.CheckAnswer.{CheckAnswer}
+use Rattle.services.specs.declared.Ran.{Ran}
+use Rattle.services.specs.declared.Ran.the-variants.{Passed, Rerun, Faulted, Refused as Unfit}
 use Rattle.exports.specs.declared.DoneAnswer.{DoneAnswer}
+use Rattle.exports.specs.declared.RunAnswer.{RunAnswer}
 
 unfoldable pub checkNumbers : Checked → CheckAnswer
 checkNumbers (Sizes n p) = record { number = 0; line = 0; v = pos 0; cells = n; processors = p }
@@ -14,3 +17,9 @@ checkNumbers (Refused k l) = record { number = k; line = l; v = pos 0; cells = 0
 unfoldable pub doneNumbers : Completed → DoneAnswer
 doneNumbers Done = record { number = 0; line = 0; v = pos 0 }
 doneNumbers (Rejected k l) = record { number = k; line = l; v = pos 0 }
+
+unfoldable pub runNumbers : Ran → RunAnswer
+runNumbers (Passed a b) = record { number = 0; line = 0; v = pos 0; rerun = 0; pairs = a; cells = b }
+runNumbers (Rerun a b) = record { number = 0; line = 0; v = pos 0; rerun = 1; pairs = a; cells = b }
+runNumbers (Faulted n k x) = record { number = n; line = k; v = x; rerun = 0; pairs = 0; cells = 0 }
+runNumbers (Unfit n k) = record { number = n; line = k; v = pos 0; rerun = 0; pairs = 0; cells = 0 }

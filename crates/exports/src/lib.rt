@@ -3,10 +3,11 @@
 ghost use mathlib.Core.Path.{_≡_};
 ghost use lib.ListN.{length};
 ghost use Rattle.syntax.specs.Text.{read};
-ghost use Rattle.services.specs.Answers.{checkOf, loadOf, cellsLoaded};
-ghost use Rattle.exports.specs.Numbers.{checkNumbers, doneNumbers};
+ghost use Rattle.services.specs.Answers.{checkOf, loadOf, cellsLoaded, lookOf, viewShown, lookWorkspace, runOf, cellsRun, runWorkspace};
+ghost use Rattle.exports.specs.Numbers.{checkNumbers, doneNumbers, runNumbers};
 use services::Checked;
 use services::Completed;
+use services::Ran;
 
 // Check's answer: a refusal's number (0: none), line and v; N and P (0 after a refusal).
 #[repr(C)]
@@ -24,6 +25,17 @@ pub struct DoneAnswer {
     pub number: u32,
     pub line: u32,
     pub v: i32,
+}
+
+// Run's answer: a refusal's number (0: none), line and v; 1 if the loop was run again serially; both write counts.
+#[repr(C)]
+pub struct RunAnswer {
+    pub number: u32,
+    pub line: u32,
+    pub v: i32,
+    pub rerun: u32,
+    pub pairs: u32,
+    pub cells: u32,
 }
 
 #[no_mangle]
@@ -74,4 +86,79 @@ pub extern "C" fn lrpd_load(text: &[u8], cells: &mut [i32]) -> DoneAnswer
 {
     let r = services::load(text, cells);
     done_answer(r)
+}
+
+#[no_mangle]
+pub extern "C" fn lrpd_look(
+    text: &[u8],
+    cells: &[i32],
+    workspace: &mut [u32],
+    schedule: &[u8],
+    view: &mut [u32],
+) -> DoneAnswer
+    ensures { λ r. ⌜ r ≡ doneNumbers (lookOf (read (now (text .entry))) (now (cells .entry)) (length (now (workspace .entry))) (now (schedule .entry)) (length (now (view .entry)))) ⌝ }
+    ensures { λ _. ⌜ now (view .exit) ≡ viewShown (read (now (text .entry))) (now (cells .entry)) (length (now (workspace .entry))) (now (schedule .entry)) (now (view .entry)) ⌝ }
+    ensures { λ _. ⌜ now (workspace .exit) ≡ lookWorkspace (read (now (text .entry))) (now (cells .entry)) (now (workspace .entry)) (now (schedule .entry)) (length (now (view .entry))) ⌝ }
+{
+    let r = services::look(text, cells, workspace, schedule, view);
+    done_answer(r)
+}
+
+// Run's answer in numbers.
+fn run_answer(r: Ran) -> RunAnswer
+    ensures { λ a. ⌜ a ≡ runNumbers r ⌝ }
+{
+    match r {
+        Ran::Passed { pairs: a, cells: b } => RunAnswer {
+            number: 0,
+            line: 0,
+            v: 0,
+            rerun: 0,
+            pairs: a,
+            cells: b,
+        },
+        Ran::Rerun { pairs: a, cells: b } => RunAnswer {
+            number: 0,
+            line: 0,
+            v: 0,
+            rerun: 1,
+            pairs: a,
+            cells: b,
+        },
+        Ran::Faulted {
+            number: n,
+            line: k,
+            v: x,
+        } => RunAnswer {
+            number: n,
+            line: k,
+            v: x,
+            rerun: 0,
+            pairs: 0,
+            cells: 0,
+        },
+        Ran::Refused { number: n, line: k } => RunAnswer {
+            number: n,
+            line: k,
+            v: 0,
+            rerun: 0,
+            pairs: 0,
+            cells: 0,
+        },
+    }
+}
+
+#[no_mangle]
+pub extern "C" fn lrpd_run(
+    text: &[u8],
+    cells: &mut [i32],
+    workspace: &mut [u32],
+    schedule: &[u8],
+) -> RunAnswer
+    ensures { λ r. ⌜ r ≡ runNumbers (runOf (read (now (text .entry))) (now (cells .entry)) (length (now (workspace .entry))) (now (schedule .entry))) ⌝ }
+    ensures { λ _. ⌜ now (cells .exit) ≡ cellsRun (read (now (text .entry))) (now (cells .entry)) (length (now (workspace .entry))) (now (schedule .entry)) ⌝ }
+    ensures { λ _. ⌜ now (workspace .exit) ≡ runWorkspace (read (now (text .entry))) (now (cells .entry)) (now (workspace .entry)) (now (schedule .entry)) ⌝ }
+{
+    let r = services::run(text, cells, workspace, schedule);
+    run_answer(r)
 }

@@ -1,0 +1,29 @@
+-- `exports::lrpd_look` meets its contract.
+use mathlib.Core.Path.{ap, _∙_}
+use Rattle.exports.specs.Numbers.{doneNumbers}
+use borrow.Author.Needs.{needs}
+use Rattle.exports.proofs.lrpd_look.Statement.{statement}
+use Rattle.exports.proofs.lrpd_look.Tie as tie
+use Rattle.exports.proofs.lrpd_look.Reads as reads
+use Rattle.exports.proofs.lrpd_look.Lts as lts
+use Rattle.exports.proofs.done_answer.Reads as done-answer-reads
+use Rattle.services.proofs.look.Reads as look-reads
+
+look-requires : tie.Need-look-requires
+look-requires c κs = search needs
+
+done-answer-requires : tie.Need-done-answer-requires
+done-answer-requires c κs = search needs
+
+same-length : tie.Need-same-length
+same-length c = search needs
+
+same-length-2 : tie.Need-same-length-2
+same-length-2 c = search needs
+
+returns : tie.Need-returns
+returns c = (c .done-answer .ensures ∙ ap doneNumbers (c .before .before .before .before .before .look .ensures .0), c .before .before .before .before .before .look .ensures .1)
+
+pub lrpd-look-spec : {M : Type 1} → statement M
+lrpd-look-spec =
+    tie.close (tie.spec look-requires done-answer-requires same-length same-length-2 returns)
