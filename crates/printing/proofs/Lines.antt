@@ -117,12 +117,12 @@ module _ (T : List ℕ) (m : List ℤ) (t : List Entry) (k : Tabled T t) where
 
 -- ---- how long they are
 
-cells-take : (t : List Entry) (i : ℕ) → i < length t → cells (take (suc i) t) ≡ cells (take i t) + getD t i nowhere .size
+pub cells-take : (t : List Entry) (i : ℕ) → i < length t → cells (take (suc i) t) ≡ cells (take i t) + getD t i nowhere .size
 cells-take [] i h = absurd (omega arith)
 cells-take (e ∷ t) zero h = omega arith
 cells-take (e ∷ t) (suc i) h = omega (arith, cells-take t i (omega arith))
 
-cells-part : (t : List Entry) (i : ℕ) → cells (take i t) ≤ cells t
+pub cells-part : (t : List Entry) (i : ℕ) → cells (take i t) ≤ cells t
 cells-part t zero = omega arith
 cells-part [] (suc i) = omega arith
 cells-part (e ∷ t) (suc i) = omega (arith, cells-part t i)
