@@ -1,5 +1,5 @@
 -- The names of an accepted text are made of bytes: every byte of its lines is 32 to 126, and a name is a token of one of them.
-use mathlib.Core.Path.{_≡_, refl, sym, ap, subst}
+use mathlib.Core.Path.{_≡_, subst}
 use mathlib.Core.Bool.{Bool, true, false, cond, _&&_}
 use mathlib.Core.List.{List, [], _∷_, _++_, map}
 use mathlib.Core.Option.{some}
@@ -8,8 +8,8 @@ use native.Mathlib.Omega.{arith}
 use borrow.Author.Tests.{leb-true}
 use lib.Dec.{leb, eqb}
 use lib.ListN.{length, getD, take}
-use Rattle.syntax.specs.Bytes.{choose, all, any, same, lower, printable, letter, digit, lines, Token, name, word, digits, sign, bytesOf, reserved, word-of, token-size, token-of, tokens-after, tokens, skipped-line, sound-line}
-use Rattle.syntax.specs.Grammar.{Declared, one, array, Item, Clause, Statement, assign, when, otherwise, end-if, Line, declare, give, direct, loop, inside, end-do, close, showDeclared, showMore, showLine}
+use Rattle.syntax.specs.Bytes.{choose, all, lower, printable, letter, digit, lines, Token, name, word, digits, sign, bytesOf, token-size, token-of, tokens-after, tokens, skipped-line, sound-line}
+use Rattle.syntax.specs.Grammar.{Declared, one, array, assign, when, otherwise, end-if, Line, declare, give, direct, loop, inside, end-do, close, showDeclared, showMore, showLine}
 use Rattle.syntax.specs.Known.{Entry, Open, State, nothing, nowhere, named, cells, declaredName, declaredSize, entries, values, give-to, classify, otherwise-after, end-if-after, after}
 use Rattle.syntax.specs.Text.{read, good}
 use Rattle.syntax.specs.Follows.{Program, spoken, written, learnt}
