@@ -26,37 +26,83 @@ put-bytes-requires : tie.Need-put-bytes-requires
 put-bytes-requires c κs = omega (arith, c .before .before .before .before .pre .2)
 
 put-name-requires : tie.Need-put-name-requires
-put-name-requires c κs = (omega (arith, c .before .put-bytes .ensures .place, c .before .before .before .before .before .before .pre .2), c .before .before .before .before .before .before .pre .0)
+put-name-requires c κs =
+    let pre = c .before .before .before .before .before .before .pre in
+    let put-bytes = c .before .put-bytes in
+    (omega (arith, put-bytes .ensures .place, pre .2), pre .0)
 
 slice-aggregate-put-bytes-2 : tie.Need-slice-aggregate-put-bytes-2
 slice-aggregate-put-bytes-2 c = search needs
 
 put-bytes-requires-2 : tie.Need-put-bytes-requires-2
-put-bytes-requires-2 c κs = omega (arith, c .before .before .before .before .put-bytes .ensures .place, c .before .before .put-name .ensures .place, name-length (c .before .before .before .before .before .before .before .before .before .args .table .now) (c .before .before .before .before .before .before .before .before .before .args .i), c .before .before .before .before .before .before .before .before .before .pre .0 .short, c .before .before .before .before .before .before .before .before .before .pre .2)
+put-bytes-requires-2 c κs =
+    let args = c .before .before .before .before .before .before .before .before .before .args in
+    let pre = c .before .before .before .before .before .before .before .before .before .pre in
+    let put-bytes = c .before .before .before .before .put-bytes in
+    let put-name = c .before .before .put-name in
+    omega (arith, put-bytes .ensures .place, put-name .ensures .place, name-length (args .table .now) (args .i), pre .0 .short, pre .2)
 
 mul-put-values : tie.Need-mul-put-values
 mul-put-values c = search needs
 
 sub-put-values : tie.Need-sub-put-values
-sub-put-values c = omega (arith, c .before .before .before .before .before .before .before .before .before .before .word-at .ensures, c .before .before .before .before .before .before .before .before .before .word-at2 .ensures, c .before .before .before .before .before .before .before .before .before .before .before .pre .1, c .before .before .before .before .before .before .before .before .before .before .before .pre .2)
+sub-put-values c =
+    let pre = c .before .before .before .before .before .before .before .before .before .before .before .pre in
+    let word-at = c .before .before .before .before .before .before .before .before .before .before .word-at in
+    let word-at2 = c .before .before .before .before .before .before .before .before .before .word-at2 in
+    omega (arith, word-at .ensures, word-at2 .ensures, pre .1, pre .2)
 
 part-put-values-start : tie.Need-part-put-values-start
-part-put-values-start c = omega (arith, c .before .before .before .before .before .before .before .before .before .before .word-at .ensures, c .before .before .before .before .before .before .before .before .before .word-at2 .ensures, c .before .before .before .before .before .before .before .before .before .before .before .pre .1, c .before .before .before .before .before .before .before .before .before .before .before .pre .2)
+part-put-values-start c =
+    let pre = c .before .before .before .before .before .before .before .before .before .before .before .pre in
+    let word-at = c .before .before .before .before .before .before .before .before .before .before .word-at in
+    let word-at2 = c .before .before .before .before .before .before .before .before .before .word-at2 in
+    omega (arith, word-at .ensures, word-at2 .ensures, pre .1, pre .2)
 
 part-put-values-end : tie.Need-part-put-values-end
-part-put-values-end c = omega (arith, c .before .before .before .before .before .before .before .before .before .before .word-at .ensures, c .before .before .before .before .before .before .before .before .before .word-at2 .ensures, c .before .before .before .before .before .before .before .before .before .before .before .pre .1, c .before .before .before .before .before .before .before .before .before .before .before .pre .2)
+part-put-values-end c =
+    let pre = c .before .before .before .before .before .before .before .before .before .before .before .pre in
+    let word-at = c .before .before .before .before .before .before .before .before .before .before .word-at in
+    let word-at2 = c .before .before .before .before .before .before .before .before .before .word-at2 in
+    omega (arith, word-at .ensures, word-at2 .ensures, pre .1, pre .2)
 
 put-values-requires : tie.Need-put-values-requires
-put-values-requires c κs = omega (arith, c .before .before .before .before .before .before .before .put-bytes .ensures .place, c .before .before .before .before .before .put-name .ensures .place, name-length (c .before .before .before .before .before .before .before .before .before .before .before .before .args .table .now) (c .before .before .before .before .before .before .before .before .before .before .before .before .args .i), c .before .before .before .before .before .before .before .before .before .before .before .before .pre .0 .short, c .before .before .put-bytes2 .ensures .place, c .before .before .before .before .before .before .before .before .before .before .word-at2 .ensures, c .before .before .before .before .before .before .before .before .before .before .before .before .pre .2, part-few (c .before .before .before .before .before .before .before .before .before .before .before .before .args .cells .now) (c .before .before .before .before .before .before .before .before .before .before .before .word-at .result) (c .before .before .before .before .before .before .before .before .before .before .word-at2 .result))
+put-values-requires c κs =
+    let args = c .before .before .before .before .before .before .before .before .before .before .before .before .args in
+    let pre = c .before .before .before .before .before .before .before .before .before .before .before .before .pre in
+    let word-at = c .before .before .before .before .before .before .before .before .before .before .before .word-at in
+    let word-at2 = c .before .before .before .before .before .before .before .before .before .before .word-at2 in
+    let put-bytes = c .before .before .before .before .before .before .before .put-bytes in
+    let put-name = c .before .before .before .before .before .put-name in
+    let put-bytes2 = c .before .before .put-bytes2 in
+    omega (arith, put-bytes .ensures .place, put-name .ensures .place, name-length (args .table .now) (args .i), pre .0 .short, put-bytes2 .ensures .place, word-at2 .ensures, pre .2, part-few (args .cells .now) (word-at .result) (word-at2 .result))
 
 slice-aggregate-put-bytes-3 : tie.Need-slice-aggregate-put-bytes-3
 slice-aggregate-put-bytes-3 c = search needs
 
 put-bytes-requires-3 : tie.Need-put-bytes-requires-3
-put-bytes-requires-3 c κs = omega (arith, c .before .before .before .before .before .before .before .before .before .before .put-bytes .ensures .place, c .before .before .before .before .before .before .before .before .put-name .ensures .place, name-length (c .before .before .before .before .before .before .before .before .before .before .before .before .before .before .before .args .table .now) (c .before .before .before .before .before .before .before .before .before .before .before .before .before .before .before .args .i), c .before .before .before .before .before .before .before .before .before .before .before .before .before .before .before .pre .0 .short, c .before .before .before .before .before .put-bytes2 .ensures .place, c .before .before .put-values .ensures .place, values-few (take (c .before .before .before .before .before .before .before .before .before .before .before .before .before .before .word-at .result + c .before .before .before .before .before .before .before .before .before .before .before .before .before .word-at2 .result - c .before .before .before .before .before .before .before .before .before .before .before .before .before .before .word-at .result) (drop (c .before .before .before .before .before .before .before .before .before .before .before .before .before .before .word-at .result) (c .before .before .before .before .before .before .before .before .before .before .before .before .before .before .before .args .cells .now))), c .before .before .before .before .before .before .before .before .before .before .before .before .before .word-at2 .ensures, c .before .before .before .before .before .before .before .before .before .before .before .before .before .before .before .pre .2, part-few (c .before .before .before .before .before .before .before .before .before .before .before .before .before .before .before .args .cells .now) (c .before .before .before .before .before .before .before .before .before .before .before .before .before .before .word-at .result) (c .before .before .before .before .before .before .before .before .before .before .before .before .before .word-at2 .result))
+put-bytes-requires-3 c κs =
+    let args = c .before .before .before .before .before .before .before .before .before .before .before .before .before .before .before .args in
+    let pre = c .before .before .before .before .before .before .before .before .before .before .before .before .before .before .before .pre in
+    let word-at = c .before .before .before .before .before .before .before .before .before .before .before .before .before .before .word-at in
+    let word-at2 = c .before .before .before .before .before .before .before .before .before .before .before .before .before .word-at2 in
+    let put-bytes = c .before .before .before .before .before .before .before .before .before .before .put-bytes in
+    let put-name = c .before .before .before .before .before .before .before .before .put-name in
+    let put-bytes2 = c .before .before .before .before .before .put-bytes2 in
+    let put-values = c .before .before .put-values in
+    omega (arith, put-bytes .ensures .place, put-name .ensures .place, name-length (args .table .now) (args .i), pre .0 .short, put-bytes2 .ensures .place, put-values .ensures .place, values-few (take (word-at .result + word-at2 .result - word-at .result) (drop (word-at .result) (args .cells .now))), word-at2 .ensures, pre .2, part-few (args .cells .now) (word-at .result) (word-at2 .result))
 
 returns : tie.Need-returns
-returns c = line-written (c .before .before .before .before .before .before .before .before .before .before .before .before .before .before .before .before .args .table .now) (c .before .before .before .before .before .before .before .before .before .before .before .before .before .before .before .before .args .cells .now) _ (c .before .before .before .before .before .before .before .before .before .before .before .before .before .before .before .before .args .i) (c .before .before .before .before .before .before .before .before .before .before .before .before .before .before .before .word-at .result) (c .before .before .before .before .before .before .before .before .before .before .before .before .before .before .before .word-at .result + c .before .before .before .before .before .before .before .before .before .before .before .before .before .before .word-at2 .result) (c .before .before .before .before .before .before .before .before .before .before .before .before .before .before .before .word-at .ensures) (ap (λ (n : ℕ). c .before .before .before .before .before .before .before .before .before .before .before .before .before .before .before .word-at .result + n) (c .before .before .before .before .before .before .before .before .before .before .before .before .before .before .word-at2 .ensures)) refl (c .before .before .before .before .before .before .before .before .before .before .before .put-bytes .ensures) (c .before .before .before .before .before .before .before .before .before .put-name .ensures) (c .before .before .before .before .before .before .put-bytes2 .ensures) (c .before .before .before .put-values .ensures) (c .put-bytes3 .ensures)
+returns c =
+    let args = c .before .before .before .before .before .before .before .before .before .before .before .before .before .before .before .before .args in
+    let word-at = c .before .before .before .before .before .before .before .before .before .before .before .before .before .before .before .word-at in
+    let word-at2 = c .before .before .before .before .before .before .before .before .before .before .before .before .before .before .word-at2 in
+    let put-bytes = c .before .before .before .before .before .before .before .before .before .before .before .put-bytes in
+    let put-name = c .before .before .before .before .before .before .before .before .before .put-name in
+    let put-bytes2 = c .before .before .before .before .before .before .put-bytes2 in
+    let put-values = c .before .before .before .put-values in
+    let put-bytes3 = c .put-bytes3 in
+    line-written (args .table .now) (args .cells .now) _ (args .i) (word-at .result) (word-at .result + word-at2 .result) (word-at .ensures) (ap (λ (n : ℕ). word-at .result + n) (word-at2 .ensures)) refl (put-bytes .ensures) (put-name .ensures) (put-bytes2 .ensures) (put-values .ensures) (put-bytes3 .ensures)
 
 pub put-data-spec : {M : Type 1} → statement M
 put-data-spec =

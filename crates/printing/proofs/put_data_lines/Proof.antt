@@ -21,7 +21,13 @@ loop-holds : tie.Need-loop-holds Inv-loop μ-loop
 loop-holds c = (omega arith, lines-none _ _ (c .before .args .table .now) (c .before .args .cells .now))
 
 put-data-requires : tie.Need-put-data-requires Inv-loop μ-loop
-put-data-requires c κs = let h = c .before .before .before .before .pre .1 .1 in let l : c .before .before .loop .i < length (c .before .before .before .before .pre .1 .0) = omega (arith, c .before .before .before .count .ensures, h .tabled .count, h .tabled .few) in (named _ _ _ h (c .before .before .loop .i) l, cells-held _ _ _ h (c .before .before .loop .i) l, room _ _ _ h (c .before .before .loop .i) l (c .before .before .before .before .pre .0) (c .before .before .loop .inv .1))
+put-data-requires c κs =
+    let pre = c .before .before .before .before .pre in
+    let count = c .before .before .before .count in
+    let loop = c .before .before .loop in
+    let h = pre .1 .1 in
+    let l : loop .i < length (pre .1 .0) = omega (arith, count .ensures, h .tabled .count, h .tabled .few) in
+    (named _ _ _ h (loop .i) l, cells-held _ _ _ h (loop .i) l, room _ _ _ h (loop .i) l (pre .0) (loop .inv .1))
 
 add-i : tie.Need-add-i Inv-loop μ-loop
 add-i c = search needs
@@ -30,7 +36,11 @@ loop-less : tie.Need-loop-less Inv-loop μ-loop
 loop-less c = search needs
 
 loop-again : tie.Need-loop-again Inv-loop μ-loop
-loop-again c = (omega arith, lines-more (c .before .before .before .before .before .args .table .now) (c .before .before .before .before .before .args .cells .now) (c .before .before .before .loop .i) (c .before .before .before .loop .inv .1) (c .put-data .ensures))
+loop-again c =
+    let args = c .before .before .before .before .before .args in
+    let loop = c .before .before .before .loop in
+    let put-data = c .put-data in
+    (omega arith, lines-more (args .table .now) (args .cells .now) (loop .i) (loop .inv .1) (put-data .ensures))
 
 returns : tie.Need-returns Inv-loop μ-loop
 returns c = λ t k. lines-all _ _ t k (c .before .loop .i) (omega (arith, c .before .before .count .ensures)) (c .before .loop .inv .1)

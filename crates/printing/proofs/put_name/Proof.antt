@@ -22,7 +22,11 @@ loop-holds : tie.Need-loop-holds Inv-loop μ-loop
 loop-holds c = (omega arith, name-none _ _ (c .before .args .table .now) (c .before .args .i))
 
 byte-at-requires : tie.Need-byte-at-requires Inv-loop μ-loop
-byte-at-requires c κs = (c .before .before .before .pre .1 .low, omega (arith, c .before .before .word-at .ensures, c .before .before .before .pre .1 .short), c .before .before .before .pre .1 .plain (c .before .loop .k) (omega (arith, c .before .before .word-at .ensures)))
+byte-at-requires c κs =
+    let pre = c .before .before .before .pre in
+    let word-at = c .before .before .word-at in
+    let loop = c .before .loop in
+    (pre .1 .low, omega (arith, word-at .ensures, pre .1 .short), pre .1 .plain (loop .k) (omega (arith, word-at .ensures)))
 
 add-out : tie.Need-add-out Inv-loop μ-loop
 add-out c = omega (arith, c .before .before .before .word-at .ensures, c .before .before .before .before .pre .1 .short)
@@ -37,13 +41,21 @@ loop-less : tie.Need-loop-less Inv-loop μ-loop
 loop-less c = search needs
 
 loop-again : tie.Need-loop-again Inv-loop μ-loop
-loop-again c = (omega arith, name-more (c .before .before .before .before .args .table .now) (c .before .before .before .before .args .i) (c .before .before .loop .k) (c .byte-at .result) (c .byte-at .ensures) (c .before .before .loop .inv .1))
+loop-again c =
+    let args = c .before .before .before .before .args in
+    let loop = c .before .before .loop in
+    let byte-at = c .byte-at in
+    (omega arith, name-more (args .table .now) (args .i) (loop .k) (byte-at .result) (byte-at .ensures) (loop .inv .1))
 
 add-result : tie.Need-add-result Inv-loop μ-loop
 add-result c = omega (arith, c .before .before .word-at .ensures, c .before .before .before .pre .1 .short)
 
 returns : tie.Need-returns Inv-loop μ-loop
-returns c = name-all (c .before .before .before .args .table .now) (c .before .before .before .args .i) (c .before .loop .k) (omega (arith, c .before .before .word-at .ensures)) (c .before .loop .inv .1)
+returns c =
+    let args = c .before .before .before .args in
+    let word-at = c .before .before .word-at in
+    let loop = c .before .loop in
+    name-all (args .table .now) (args .i) (loop .k) (omega (arith, word-at .ensures)) (loop .inv .1)
 
 pub put-name-spec : {M : Type 1} → statement M
 put-name-spec =

@@ -15,22 +15,63 @@ put-digits-requires : tie.Need-put-digits-requires
 put-digits-requires c κs = omega (arith, c .before .put-bytes .ensures .place)
 
 put-requires : tie.Need-put-requires
-put-requires c κs = omega (arith, c .before .before .before .put-bytes .ensures .place, c .before .put-digits .ensures .place, digits-few 10 (c .before .before .before .before .before .before .args .number))
+put-requires c κs =
+    let args = c .before .before .before .before .before .before .args in
+    let put-bytes = c .before .before .before .put-bytes in
+    let put-digits = c .before .put-digits in
+    omega (arith, put-bytes .ensures .place, put-digits .ensures .place, digits-few 10 (args .number))
 
 put-digits-requires-2 : tie.Need-put-digits-requires-2
-put-digits-requires-2 c κs = omega (arith, c .before .before .before .before .before .put-bytes .ensures .place, c .before .before .before .put-digits .ensures .place, digits-few 10 (c .before .before .before .before .before .before .before .before .args .number), c .before .put .ensures .place)
+put-digits-requires-2 c κs =
+    let args = c .before .before .before .before .before .before .before .before .args in
+    let put-bytes = c .before .before .before .before .before .put-bytes in
+    let put-digits = c .before .before .before .put-digits in
+    let put = c .before .put in
+    omega (arith, put-bytes .ensures .place, put-digits .ensures .place, digits-few 10 (args .number), put .ensures .place)
 
 put-requires-2 : tie.Need-put-requires-2
-put-requires-2 c κs = omega (arith, c .before .before .before .before .before .before .before .put-bytes .ensures .place, c .before .before .before .before .before .put-digits .ensures .place, digits-few 10 (c .before .before .before .before .before .before .before .before .before .before .args .number), c .before .before .before .put .ensures .place, c .before .put-digits2 .ensures .place, digits-few 10 (c .before .before .before .before .before .before .before .before .before .before .args .line))
+put-requires-2 c κs =
+    let args = c .before .before .before .before .before .before .before .before .before .before .args in
+    let put-bytes = c .before .before .before .before .before .before .before .put-bytes in
+    let put-digits = c .before .before .before .before .before .put-digits in
+    let put = c .before .before .before .put in
+    let put-digits2 = c .before .put-digits2 in
+    omega (arith, put-bytes .ensures .place, put-digits .ensures .place, digits-few 10 (args .number), put .ensures .place, put-digits2 .ensures .place, digits-few 10 (args .line))
 
 put-signed-requires : tie.Need-put-signed-requires
-put-signed-requires c κs = omega (arith, c .before .before .before .before .before .before .before .before .before .put-bytes .ensures .place, c .before .before .before .before .before .before .before .put-digits .ensures .place, digits-few 10 (c .before .before .before .before .before .before .before .before .before .before .before .before .args .number), c .before .before .before .before .before .put .ensures .place, c .before .before .before .put-digits2 .ensures .place, digits-few 10 (c .before .before .before .before .before .before .before .before .before .before .before .before .args .line), c .before .put2 .ensures .place)
+put-signed-requires c κs =
+    let args = c .before .before .before .before .before .before .before .before .before .before .before .before .args in
+    let put-bytes = c .before .before .before .before .before .before .before .before .before .put-bytes in
+    let put-digits = c .before .before .before .before .before .before .before .put-digits in
+    let put = c .before .before .before .before .before .put in
+    let put-digits2 = c .before .before .before .put-digits2 in
+    let put2 = c .before .put2 in
+    omega (arith, put-bytes .ensures .place, put-digits .ensures .place, digits-few 10 (args .number), put .ensures .place, put-digits2 .ensures .place, digits-few 10 (args .line), put2 .ensures .place)
 
 put-requires-3 : tie.Need-put-requires-3
-put-requires-3 c κs = omega (arith, c .before .before .before .before .before .before .before .before .before .before .before .put-bytes .ensures .place, c .before .before .before .before .before .before .before .before .before .put-digits .ensures .place, digits-few 10 (c .before .before .before .before .before .before .before .before .before .before .before .before .before .before .args .number), c .before .before .before .before .before .before .before .put .ensures .place, c .before .before .before .before .before .put-digits2 .ensures .place, digits-few 10 (c .before .before .before .before .before .before .before .before .before .before .before .before .before .before .args .line), c .before .before .before .put2 .ensures .place, signed-seen (c .before .before .before .before .before .before .before .before .before .before .before .before .before .before .args .v) (c .before .before .before .before .before .before .before .before .before .before .before .before .before .before .fits .v) (c .before .put-signed .ensures) .place, signed-few (c .before .before .before .before .before .before .before .before .before .before .before .before .before .before .args .v))
+put-requires-3 c κs =
+    let args = c .before .before .before .before .before .before .before .before .before .before .before .before .before .before .args in
+    let fits = c .before .before .before .before .before .before .before .before .before .before .before .before .before .before .fits in
+    let put-bytes = c .before .before .before .before .before .before .before .before .before .before .before .put-bytes in
+    let put-digits = c .before .before .before .before .before .before .before .before .before .put-digits in
+    let put = c .before .before .before .before .before .before .before .put in
+    let put-digits2 = c .before .before .before .before .before .put-digits2 in
+    let put2 = c .before .before .before .put2 in
+    let put-signed = c .before .put-signed in
+    omega (arith, put-bytes .ensures .place, put-digits .ensures .place, digits-few 10 (args .number), put .ensures .place, put-digits2 .ensures .place, digits-few 10 (args .line), put2 .ensures .place, signed-seen (args .v) (fits .v) (put-signed .ensures) .place, signed-few (args .v))
 
 returns : tie.Need-returns
-returns c = writes-then (c .before .before .before .before .before .before .before .before .before .before .before .before .put-bytes .ensures) (writes-then (c .before .before .before .before .before .before .before .before .before .before .put-digits .ensures) (writes-then (c .before .before .before .before .before .before .before .before .put .ensures) (writes-then (c .before .before .before .before .before .before .put-digits2 .ensures) (writes-then (c .before .before .before .before .put2 .ensures) (writes-then (signed-seen (c .before .before .before .before .before .before .before .before .before .before .before .before .before .before .before .args .v) (c .before .before .before .before .before .before .before .before .before .before .before .before .before .before .before .fits .v) (c .before .before .put-signed .ensures)) (c .put3 .ensures))))))
+returns c =
+    let args = c .before .before .before .before .before .before .before .before .before .before .before .before .before .before .before .args in
+    let fits = c .before .before .before .before .before .before .before .before .before .before .before .before .before .before .before .fits in
+    let put-bytes = c .before .before .before .before .before .before .before .before .before .before .before .before .put-bytes in
+    let put-digits = c .before .before .before .before .before .before .before .before .before .before .put-digits in
+    let put = c .before .before .before .before .before .before .before .before .put in
+    let put-digits2 = c .before .before .before .before .before .before .put-digits2 in
+    let put2 = c .before .before .before .before .put2 in
+    let put-signed = c .before .before .put-signed in
+    let put3 = c .put3 in
+    writes-then (put-bytes .ensures) (writes-then (put-digits .ensures) (writes-then (put .ensures) (writes-then (put-digits2 .ensures) (writes-then (put2 .ensures) (writes-then (signed-seen (args .v) (fits .v) (put-signed .ensures)) (put3 .ensures))))))
 
 pub put-refusal-spec : {M : Type 1} → statement M
 put-refusal-spec =

@@ -16,7 +16,13 @@ put-digits-requires : tie.Need-put-digits-requires
 put-digits-requires c κs = search needs
 
 returns : tie.Need-returns
-returns c = signed-plain _ _ (c .before .before .before .before .fits .v) (c .before .before .before .to-word .ensures ∙ ap word (toZ-ofZ w32 (c .before .before .before .before .args .v) (c .before .before .before .before .fits .v))) (c .before .before .if1 .taken) (c .put-digits .ensures)
+returns c =
+    let fits = c .before .before .before .before .fits in
+    let args = c .before .before .before .before .args in
+    let to-word = c .before .before .before .to-word in
+    let if1 = c .before .before .if1 in
+    let put-digits = c .put-digits in
+    signed-plain _ _ (fits .v) (to-word .ensures ∙ ap word (toZ-ofZ w32 (args .v) (fits .v))) (if1 .taken) (put-digits .ensures)
 
 put-requires : tie.Need-put-requires
 put-requires c κs = search needs
@@ -31,7 +37,14 @@ put-digits-requires-2 : tie.Need-put-digits-requires-2
 put-digits-requires-2 c κs = omega (arith, c .before .put .ensures .place)
 
 returns-2 : tie.Need-returns-2
-returns-2 c = signed-negative _ _ (c .before .before .before .before .before .before .fits .v) (c .before .before .before .before .before .to-word .ensures ∙ ap word (toZ-ofZ w32 (c .before .before .before .before .before .before .args .v) (c .before .before .before .before .before .before .fits .v))) (c .before .before .before .before .if1 .left) (c .before .before .put .ensures) (c .put-digits2 .ensures)
+returns-2 c =
+    let fits = c .before .before .before .before .before .before .fits in
+    let args = c .before .before .before .before .before .before .args in
+    let to-word = c .before .before .before .before .before .to-word in
+    let if1 = c .before .before .before .before .if1 in
+    let put = c .before .before .put in
+    let put-digits2 = c .put-digits2 in
+    signed-negative _ _ (fits .v) (to-word .ensures ∙ ap word (toZ-ofZ w32 (args .v) (fits .v))) (if1 .left) (put .ensures) (put-digits2 .ensures)
 
 pub put-signed-spec : {M : Type 1} → statement M
 put-signed-spec =

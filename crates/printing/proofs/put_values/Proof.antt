@@ -29,7 +29,10 @@ shared-slice-copy-out-put-value : tie.Need-shared-slice-copy-out-put-value Inv-l
 shared-slice-copy-out-put-value c = search needs
 
 put-value-requires : tie.Need-put-value-requires Inv-loop μ-loop
-put-value-requires c κs = omega (arith, values-reach (c .before .before .before .before .args .vs .now) (c .before .before .before .loop .k) (c .before .before .before .loop .inv .0) (c .before .before .before .loop .inv .1))
+put-value-requires c κs =
+    let args = c .before .before .before .before .args in
+    let loop = c .before .before .before .loop in
+    omega (arith, values-reach (args .vs .now) (loop .k) (loop .inv .0) (loop .inv .1))
 
 add-k : tie.Need-add-k Inv-loop μ-loop
 add-k c = search needs
@@ -38,7 +41,12 @@ loop-less : tie.Need-loop-less Inv-loop μ-loop
 loop-less c = search needs
 
 loop-again : tie.Need-loop-again Inv-loop μ-loop
-loop-again c = let e : toZ w32 (ofZ w32 (getD (c .before .before .before .before .before .args .vs .now) (c .before .before .before .before .loop .k) (pos 0))) ≡ getD (c .before .before .before .before .before .args .vs .now) (c .before .before .before .before .loop .k) (pos 0) = search needs in (omega arith, values-more (c .before .before .before .before .before .args .vs .now) (c .before .before .before .before .loop .k) _ (omega arith) e (c .before .before .before .before .loop .inv .1) (c .put-value .ensures))
+loop-again c =
+    let args = c .before .before .before .before .before .args in
+    let loop = c .before .before .before .before .loop in
+    let put-value = c .put-value in
+    let e : toZ w32 (ofZ w32 (getD (args .vs .now) (loop .k) (pos 0))) ≡ getD (args .vs .now) (loop .k) (pos 0) = search needs in
+    (omega arith, values-more (args .vs .now) (loop .k) _ (omega arith) e (loop .inv .1) (put-value .ensures))
 
 returns : tie.Need-returns Inv-loop μ-loop
 returns c = values-all _ (c .before .loop .k) (omega arith) (c .before .loop .inv .1)

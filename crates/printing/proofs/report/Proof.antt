@@ -15,13 +15,23 @@ enum-told : tie.Need-enum-told
 enum-told c = search needs
 
 put-data-lines-requires : tie.Need-put-data-lines-requires
-put-data-lines-requires c κs = (omega (arith, comment-few (c .before .before .before .before .before .args .answer), c .before .before .before .put-comment .ensures .place), c .before .before .before .before .before .pre .1 (subst Completes (sym (c .before .enum-told .given .1)) tt))
+put-data-lines-requires c κs =
+    let args = c .before .before .before .before .before .args in
+    let pre = c .before .before .before .before .before .pre in
+    let put-comment = c .before .before .before .put-comment in
+    let enum-told = c .before .enum-told in
+    (omega (arith, comment-few (args .answer), put-comment .ensures .place), pre .1 (subst Completes (sym (enum-told .given .1)) tt))
 
 enum-told-2 : tie.Need-enum-told-2
 enum-told-2 c = search needs
 
 put-data-lines-requires-2 : tie.Need-put-data-lines-requires-2
-put-data-lines-requires-2 c κs = (omega (arith, comment-few (c .before .before .before .before .before .args .answer), c .before .before .before .put-comment .ensures .place), c .before .before .before .before .before .pre .1 (subst Completes (sym (c .before .enum-told2 .given .1)) tt))
+put-data-lines-requires-2 c κs =
+    let args = c .before .before .before .before .before .args in
+    let pre = c .before .before .before .before .before .pre in
+    let put-comment = c .before .before .before .put-comment in
+    let enum-told2 = c .before .enum-told2 in
+    (omega (arith, comment-few (args .answer), put-comment .ensures .place), pre .1 (subst Completes (sym (enum-told2 .given .1)) tt))
 
 enum-told-3 : tie.Need-enum-told-3
 enum-told-3 c = search needs
@@ -30,16 +40,40 @@ enum-told-4 : tie.Need-enum-told-4
 enum-told-4 c = search needs
 
 returns : tie.Need-returns
-returns c = let k = c .before .before .before .before .before .before .pre .1 (subst Completes (sym (c .before .before .enum-told .given .1)) tt) in reports-lines (c .before .before .before .before .before .before .args .answer) (c .before .before .before .before .before .before .args .table .now) (c .before .before .before .before .before .before .args .cells .now) _ (c .before .before .before .before .before .before .pre .0) (subst Completes (sym (c .before .before .enum-told .given .1)) tt) (k .0) (k .1) (c .before .before .before .before .put-comment .ensures) (c .put-data-lines .ensures)
+returns c =
+    let args = c .before .before .before .before .before .before .args in
+    let pre = c .before .before .before .before .before .before .pre in
+    let put-comment = c .before .before .before .before .put-comment in
+    let enum-told = c .before .before .enum-told in
+    let put-data-lines = c .put-data-lines in
+    let k = pre .1 (subst Completes (sym (enum-told .given .1)) tt) in
+    reports-lines (args .answer) (args .table .now) (args .cells .now) _ (pre .0) (subst Completes (sym (enum-told .given .1)) tt) (k .0) (k .1) (put-comment .ensures) (put-data-lines .ensures)
 
 returns-2 : tie.Need-returns-2
-returns-2 c = let k = c .before .before .before .before .before .before .pre .1 (subst Completes (sym (c .before .before .enum-told2 .given .1)) tt) in reports-lines (c .before .before .before .before .before .before .args .answer) (c .before .before .before .before .before .before .args .table .now) (c .before .before .before .before .before .before .args .cells .now) _ (c .before .before .before .before .before .before .pre .0) (subst Completes (sym (c .before .before .enum-told2 .given .1)) tt) (k .0) (k .1) (c .before .before .before .before .put-comment .ensures) (c .put-data-lines2 .ensures)
+returns-2 c =
+    let args = c .before .before .before .before .before .before .args in
+    let pre = c .before .before .before .before .before .before .pre in
+    let put-comment = c .before .before .before .before .put-comment in
+    let enum-told2 = c .before .before .enum-told2 in
+    let put-data-lines2 = c .put-data-lines2 in
+    let k = pre .1 (subst Completes (sym (enum-told2 .given .1)) tt) in
+    reports-lines (args .answer) (args .table .now) (args .cells .now) _ (pre .0) (subst Completes (sym (enum-told2 .given .1)) tt) (k .0) (k .1) (put-comment .ensures) (put-data-lines2 .ensures)
 
 returns-3 : tie.Need-returns-3
-returns-3 c = reports-refusal (c .before .before .before .before .args .answer) (c .before .before .before .before .args .table .now) (c .before .before .before .before .args .cells .now) _ (c .before .before .before .before .pre .0) (λ (z : Completes (c .before .before .before .before .args .answer)). subst Completes (c .enum-told3 .given .1) z) (c .before .before .put-comment .ensures)
+returns-3 c =
+    let args = c .before .before .before .before .args in
+    let pre = c .before .before .before .before .pre in
+    let put-comment = c .before .before .put-comment in
+    let enum-told3 = c .enum-told3 in
+    reports-refusal (args .answer) (args .table .now) (args .cells .now) _ (pre .0) (λ (z : Completes (args .answer)). subst Completes (enum-told3 .given .1) z) (put-comment .ensures)
 
 returns-4 : tie.Need-returns-4
-returns-4 c = reports-refusal (c .before .before .before .before .args .answer) (c .before .before .before .before .args .table .now) (c .before .before .before .before .args .cells .now) _ (c .before .before .before .before .pre .0) (λ (z : Completes (c .before .before .before .before .args .answer)). subst Completes (c .enum-told4 .given .1) z) (c .before .before .put-comment .ensures)
+returns-4 c =
+    let args = c .before .before .before .before .args in
+    let pre = c .before .before .before .before .pre in
+    let put-comment = c .before .before .put-comment in
+    let enum-told4 = c .enum-told4 in
+    reports-refusal (args .answer) (args .table .now) (args .cells .now) _ (pre .0) (λ (z : Completes (args .answer)). subst Completes (enum-told4 .given .1) z) (put-comment .ensures)
 
 pub report-spec : {M : Type 1} → statement M
 report-spec =
