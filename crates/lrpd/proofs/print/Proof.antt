@@ -1,0 +1,40 @@
+-- `lrpd::print` meets its contract.
+use mathlib.Core.Path.{sym}
+use lib.ListN.{replicate}
+use lib.Seq.{length-take-le}
+use lib.IntN.{pos}
+use Rattle.lrpd.proofs.Answering.{lent-few, prints-lent}
+use native.Mathlib.Omega.{arith}
+use borrow.Author.Needs.{needs}
+use borrow.Author.Needs.{needs}
+use Rattle.lrpd.proofs.print.Statement.{statement}
+use Rattle.lrpd.proofs.print.Tie as tie
+
+check-requires : tie.Need-check-requires
+check-requires c κs = search needs
+
+lent-requires : tie.Need-lent-requires
+lent-requires c κs = search needs
+
+array-borrow-prefix-cells : tie.Need-array-borrow-prefix-cells
+array-borrow-prefix-cells c = omega (arith, lent-few (c .before .check .result), c .lent .ensures)
+
+slice-aggregate-print-over : tie.Need-slice-aggregate-print-over
+slice-aggregate-print-over c = sym (length-take-le (c .before .lent .result) (replicate 128 (pos 0)) (omega (arith, lent-few (c .before .before .check .result), c .before .lent .ensures)))
+
+print-over-requires : tie.Need-print-over-requires
+print-over-requires c κs = (c .before .before .before .before .before .pre, omega (arith, lent-few (c .before .before .before .check .result), c .before .before .lent .ensures, length-take-le (c .before .before .lent .result) (replicate 128 (pos 0)) (omega (arith, lent-few (c .before .before .before .check .result), c .before .before .lent .ensures))))
+
+returns : tie.Need-returns
+returns c = prints-lent _ (c .before .before .before .before .before .check .result) (c .before .before .before .before .lent .result) (c .before .before .before .before .before .check .ensures) (c .before .before .before .before .lent .ensures) (c .before .print-over .ensures)
+
+pub print-spec : {M : Type 1} → statement M
+print-spec =
+    tie.close
+    (tie.spec
+    check-requires
+    lent-requires
+    array-borrow-prefix-cells
+    slice-aggregate-print-over
+    print-over-requires
+    returns)

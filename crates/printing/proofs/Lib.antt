@@ -1,0 +1,4 @@
+pub mod Writing
+pub mod Lines
+pub mod NameBytes
+pub mod Examples

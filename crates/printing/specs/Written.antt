@@ -1,0 +1,53 @@
+-- What the functions leave in the buffer, and what they ask of the table of names and the cells.
+use mathlib.Core.Path.{_≡_}
+use mathlib.Core.List.{List, _++_}
+use Prim.Native.Nat.{ℕ, zero, suc, _+_, _≤_, _<_}
+use lib.ListN.{length, getD, take, drop}
+use lib.Seq.{sets}
+use lib.IntN.{ℤ}
+use Rattle.syntax.specs.Known.{Entry, nowhere, cells}
+use Rattle.names.specs.Table.{wordAt, nameAt, Tabled}
+use Rattle.services.specs.declared.Ran.{Ran}
+use Rattle.services.specs.declared.Ran.the-variants.{Passed, Rerun, Faulted, Refused}
+use Rattle.syntax.specs.Bytes.{bytes}
+use Rattle.printing.specs.Printed.{signed, data-line, report}
+
+-- the bytes xs stand in the buffer from a place on, and r is the place after them; all else is as it was
+pub record Writes (before : List ℕ) (at : ℕ) (xs after : List ℕ) (r : ℕ) : Type 0 where
+  pub place : r ≡ at + length xs
+  pub bytes : after ≡ sets before at xs
+
+-- entry i has a name of at most 32 bytes
+pub record Named (T : List ℕ) (i : ℕ) : Type 0 where
+  pub low : i < 16
+  pub short : wordAt T i 32 ≤ 32
+  pub plain : (k : ℕ) → k < wordAt T i 32 → wordAt T i k < 256
+
+-- the table stands for the names t, whose cells are among m, at most 128 in all
+pub record Holds (T : List ℕ) (m : List ℤ) (t : List Entry) : Type 0 where
+  pub tabled : Tabled T t
+  pub few : cells t ≤ 128
+  pub held : (i : ℕ) → i < length t → getD t i nowhere .first + getD t i nowhere .size ≤ length m
+  pub plain : (i k : ℕ) → i < length t → getD (getD t i nowhere .name) k 0 < 256
+
+-- the value of a number in its line, with a comma before it unless it is the first
+unfoldable pub valueAt : ℕ → ℤ → List ℕ
+valueAt zero v = signed v
+valueAt (suc k) v = bytes "," ++ signed v
+
+-- the data line of entry i of the table
+unfoldable pub lineAt : List ℕ → List ℤ → ℕ → List ℕ
+lineAt T m i = data-line (nameAt T i) (take (wordAt T i 34) (drop (wordAt T i 33) m))
+
+-- an answer with cells to print
+abbrev pub Completes : Ran → Type 0
+Completes (Passed a b) = Unit {0}
+Completes (Rerun a b) = Unit {0}
+Completes (Faulted n k v) = ⊥
+Completes (Refused n k) = ⊥
+
+-- the first r bytes of the buffer are the report
+pub record Reports (answer : Ran) (T : List ℕ) (m : List ℤ) (after : List ℕ) (r : ℕ) : Type 0 where
+  pub within : r ≤ length after
+  pub counted : r ≡ length (take r after)
+  pub bytes : (t : List Entry) → (Completes answer → Tabled T t) → take r after ≡ report answer t m
