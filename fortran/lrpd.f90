@@ -3,10 +3,10 @@
 !
 ! The lines of a text are parted by new_line('a'). All of the string is the text: of a padded variable pass trim(text).
 module lrpd
-  use, intrinsic :: iso_c_binding, only: c_char, c_int32_t, c_size_t
+  use, intrinsic :: iso_c_binding, only: c_char, c_int8_t, c_int32_t, c_size_t
   implicit none
   private
-  public :: lrpd_check_answer, lrpd_done_answer, lrpd_check, lrpd_load
+  public :: lrpd_check_answer, lrpd_done_answer, lrpd_run_answer, lrpd_workspace, lrpd_check, lrpd_load, lrpd_look, lrpd_run
 
   ! The most characters of a text and the most cells of a loop.
   integer, parameter, public :: lrpd_most_bytes = 2048, lrpd_most_cells = 4096
@@ -19,6 +19,11 @@ module lrpd
   ! A refusal's number, or 0, its line and v.
   type, bind(C) :: lrpd_done_answer
     integer(c_int32_t) :: number, line, v
+  end type
+
+  ! A refusal's number, or 0, its line and v; then 1 if the loop was run again serially, and both write counts.
+  type, bind(C) :: lrpd_run_answer
+    integer(c_int32_t) :: number, line, v, rerun, pairs, cells
   end type
 
   interface
@@ -35,6 +40,26 @@ module lrpd
       integer(c_size_t), value :: length, count
       integer(c_int32_t), intent(inout) :: cells(*)
       type(lrpd_done_answer) :: answer
+    end function
+
+    function c_look(text, length, cells, count, workspace, words, schedule, steps, view, shown) &
+        bind(C, name="lrpd_look") result(answer)
+      import :: c_char, c_int8_t, c_int32_t, c_size_t, lrpd_done_answer
+      character(kind=c_char), intent(in) :: text(*)
+      integer(c_size_t), value :: length, count, words, steps, shown
+      integer(c_int32_t), intent(in) :: cells(*)
+      integer(c_int32_t), intent(inout) :: workspace(*), view(*)
+      integer(c_int8_t), intent(in) :: schedule(*)
+      type(lrpd_done_answer) :: answer
+    end function
+
+    function c_run(text, length, cells, count, workspace, words, schedule, steps) bind(C, name="lrpd_run") result(answer)
+      import :: c_char, c_int8_t, c_int32_t, c_size_t, lrpd_run_answer
+      character(kind=c_char), intent(in) :: text(*)
+      integer(c_size_t), value :: length, count, words, steps
+      integer(c_int32_t), intent(inout) :: cells(*), workspace(*)
+      integer(c_int8_t), intent(in) :: schedule(*)
+      type(lrpd_run_answer) :: answer
     end function
   end interface
 
@@ -55,6 +80,37 @@ contains
     type(lrpd_done_answer) :: answer
 
     answer = c_load(text, len(text, c_size_t), cells, size(cells, kind=c_size_t))
+  end function
+
+  ! The words of workspace that lrpd_look and lrpd_run ask for.
+  pure function lrpd_workspace(sizes) result(words)
+    type(lrpd_check_answer), intent(in) :: sizes
+    integer :: words
+
+    words = 4352 + 64 * sizes%processors + sizes%cells * (4 + 6 * sizes%processors)
+  end function
+
+  ! The shared values and marks after the schedule's bytes, two words for each cell.
+  function lrpd_look(text, cells, workspace, schedule, view) result(answer)
+    character(len=*), intent(in) :: text
+    integer(c_int32_t), contiguous, intent(in) :: cells(:)
+    integer(c_int32_t), contiguous, intent(inout) :: workspace(:), view(:)
+    integer(c_int8_t), contiguous, intent(in) :: schedule(:)
+    type(lrpd_done_answer) :: answer
+
+    answer = c_look(text, len(text, c_size_t), cells, size(cells, kind=c_size_t), workspace, size(workspace, kind=c_size_t), &
+      schedule, size(schedule, kind=c_size_t), view, size(view, kind=c_size_t))
+  end function
+
+  ! Runs the loop on the cells.
+  function lrpd_run(text, cells, workspace, schedule) result(answer)
+    character(len=*), intent(in) :: text
+    integer(c_int32_t), contiguous, intent(inout) :: cells(:), workspace(:)
+    integer(c_int8_t), contiguous, intent(in) :: schedule(:)
+    type(lrpd_run_answer) :: answer
+
+    answer = c_run(text, len(text, c_size_t), cells, size(cells, kind=c_size_t), workspace, size(workspace, kind=c_size_t), &
+      schedule, size(schedule, kind=c_size_t))
   end function
 
 end module

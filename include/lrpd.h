@@ -22,6 +22,10 @@ extern "C" {
 #define LRPD_MOST_BYTES 2048
 #define LRPD_MOST_CELLS 4096
 
+/* The words of workspace that Look and Run ask for. */
+#define LRPD_WORKSPACE(cells, processors) \
+    (4352 + 64 * (size_t)(processors) + (size_t)(cells) * (4 + 6 * (size_t)(processors)))
+
 /* An answer begins with the three numbers of a refusal; the number 0 means none, and then line and v are 0 too.
 
    number, line, v
@@ -29,7 +33,12 @@ extern "C" {
     2,     line, 0   the form of the line is broken; an unfinished text at its last line
     3,     line, 0   a name unknown, given twice or used wrongly, or data of the wrong count
     4,     line, 0   over a limit
-    5,     0,    0   not exactly as many cells lent as the loop has */
+    5,     0,    0   not exactly as many cells lent as the loop has
+    6,     0,    0   a workspace under LRPD_WORKSPACE words
+    7,     0,    0   a schedule byte that names no processor
+    8,     0,    0   a view of not exactly two words for each cell
+    9,     line, v   the serial run met a subscript outside its array
+   10,     line, v   the serial run met a zero divisor */
 
 /* The loop has so many cells and processors; both are 0 after a refusal. */
 struct lrpd_check_answer {
@@ -47,12 +56,35 @@ struct lrpd_done_answer {
     int32_t v;
 };
 
+/* Whether the loop was run again serially (1) or passed (0), and how many different pairs of iteration and cell, and different cells,
+   were written; all are 0 after a refusal. */
+struct lrpd_run_answer {
+    uint32_t number;
+    uint32_t line;
+    int32_t v;
+    uint32_t rerun;
+    uint32_t pairs;
+    uint32_t cells;
+};
+
 /* Check: whether the text is a loop, and how many cells and processors it has. Numbers 1 to 4. */
 struct lrpd_check_answer lrpd_check(const uint8_t *text, size_t length);
 
 /* Load: fills the cells, in declared order, from the text's data, with 0 where it gives none. Numbers 1 to 5; a refusal leaves the
    cells as found. */
 struct lrpd_done_answer lrpd_load(const uint8_t *text, size_t length, int32_t *cells, size_t count);
+
+/* Look: takes one step of the processor that each byte of the schedule names, and writes two words for each cell: its shared value,
+   as 32 bits, and its marks. It leaves the cells. Numbers 1 to 8; a refusal leaves view and workspace as found. Else the workspace is
+   zero afterwards. */
+struct lrpd_done_answer lrpd_look(const uint8_t *text, size_t length, const int32_t *cells, size_t count, uint32_t *workspace,
+                                  size_t words, const uint8_t *schedule, size_t steps, uint32_t *view, size_t shown);
+
+/* Run: runs the loop on the cells, speculatively under the schedule and then to its end, and serially if that meets a fault or an
+   obstacle. No schedule changes the answer or the cells. Numbers 1 to 7, 9 and 10; a refusal leaves the cells as found, 1 to 7 the
+   workspace too. Else the workspace is zero afterwards. */
+struct lrpd_run_answer lrpd_run(const uint8_t *text, size_t length, int32_t *cells, size_t count, uint32_t *workspace, size_t words,
+                                const uint8_t *schedule, size_t steps);
 
 #ifdef __cplusplus
 }

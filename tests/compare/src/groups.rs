@@ -1,19 +1,24 @@
 //! The groups of texts that are compared.
 
 use generate::tables::{arguments, data, text_rows};
-use generate::{damage, hostile, noise, Knobs, Loop, Rng};
+use generate::{damage, hostile, lend, noise, Knobs, Loop, Rng};
 use reference::Refusal;
 
-use crate::services::{check, check_and_load, load};
+use crate::runs;
+use crate::services::{check, check_and_load, load, look, run, Lent};
 use crate::tally::Tally;
 
 /// A group by its name; whether nothing differed.
 pub type Group = (&'static str, fn() -> bool);
 
 /// All groups.
-pub const GROUPS: [Group; 5] = [
+pub const GROUPS: [Group; 9] = [
     ("tables", tables),
     ("lent", lent),
+    ("run-table", runs::table),
+    ("look-table", runs::views),
+    ("runs", runs::random_runs),
+    ("looks", runs::random_looks),
     ("loops", loops),
     ("damaged", damaged),
     ("noise", any_bytes),
@@ -24,7 +29,7 @@ const LOOPS: u64 = 25_000;
 const DAMAGED: u64 = 35_000;
 const NOISE: u64 = 20_000;
 
-fn refused(number: u32, line: u32) -> Refusal {
+pub fn refused(number: u32, line: u32) -> Refusal {
     Refusal { number, line, v: 0 }
 }
 
@@ -46,24 +51,41 @@ fn tables() -> bool {
     tally.report()
 }
 
-/// Numbers 1 to 5 of Load, by the table of what is lent.
+/// Numbers 1 to 8, by the table of what is lent.
 fn lent() -> bool {
     let mut tally = Tally::new("what is lent");
+    let mut rng = Rng::new(2);
     for row in arguments::rows() {
         let mut text = tally.next(row.name, row.text.as_bytes());
+        let line = u32::from(row.load == 3);
         let before = vec![77; row.cells];
-        let (expected, after) = match row.load {
-            0 => (Ok(()), vec![0; row.cells]),
-            5 => (Err(refused(5, 0)), before.clone()),
-            number => (Err(refused(number, 1)), before.clone()),
+        match row.load {
+            0 => load(&mut text, &before, Ok(()), &vec![0; row.cells]),
+            number => load(&mut text, &before, Err(refused(number, line)), &before),
+        }
+        let lent = Lent {
+            cells: &before,
+            workspace: &lend::workspace(&mut rng, row.workspace),
+            schedule: &row.schedule,
         };
-        load(&mut text, &before, expected, &after);
+        if row.look != 0 {
+            look(&mut text, &lent, row.view, Err(refused(row.look, line)));
+        }
+        if row.run != 0 {
+            run(&mut text, &lent, Err(refused(row.run, line)), &before);
+        }
+        if row.look == 0 {
+            runs::look_as_reference(&mut text, &lent);
+        }
+        if row.run == 0 {
+            runs::run_as_reference(&mut text, &lent);
+        }
     }
     tally.report()
 }
 
 /// A random loop, at times a hostile one.
-fn drawn(rng: &mut Rng) -> Loop {
+pub fn drawn(rng: &mut Rng) -> Loop {
     if rng.chance(10) {
         return hostile::hostile(rng);
     }

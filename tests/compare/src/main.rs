@@ -1,7 +1,8 @@
 //! Compares the product, linked as C links it, with the reference.
 //!
 //!     compare              every group of texts
-//!     compare GROUP..      some of them: tables, lent, loops, damaged, noise
+//!     compare GROUP..      some of them: tables, lent, run-table, look-table, runs, looks, loops,
+//!                          damaged, noise
 //!     compare stack KIB    how much stack the services need; whether it is at most so much
 //!     compare text FILE    what both answer for one text
 //!
@@ -9,6 +10,7 @@
 
 mod groups;
 mod product;
+mod runs;
 mod services;
 mod stack;
 mod tally;

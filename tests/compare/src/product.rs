@@ -1,7 +1,7 @@
 //! The product as C calls it (include/lrpd.h), behind functions with the reference's signatures. All
 //! foreign calls of the tests stand here.
 
-use reference::Refusal;
+use reference::{Answer, Refusal};
 
 #[repr(C)]
 struct CheckAnswer {
@@ -19,9 +19,41 @@ struct DoneAnswer {
     v: i32,
 }
 
+#[repr(C)]
+struct RunAnswer {
+    number: u32,
+    line: u32,
+    v: i32,
+    rerun: u32,
+    pairs: u32,
+    cells: u32,
+}
+
 extern "C" {
     fn lrpd_check(text: *const u8, length: usize) -> CheckAnswer;
     fn lrpd_load(text: *const u8, length: usize, cells: *mut i32, count: usize) -> DoneAnswer;
+    fn lrpd_look(
+        text: *const u8,
+        length: usize,
+        cells: *const i32,
+        count: usize,
+        workspace: *mut u32,
+        words: usize,
+        schedule: *const u8,
+        steps: usize,
+        view: *mut u32,
+        shown: usize,
+    ) -> DoneAnswer;
+    fn lrpd_run(
+        text: *const u8,
+        length: usize,
+        cells: *mut i32,
+        count: usize,
+        workspace: *mut u32,
+        words: usize,
+        schedule: *const u8,
+        steps: usize,
+    ) -> RunAnswer;
 }
 
 /// Check: N and P.
@@ -41,6 +73,66 @@ pub fn load(text: &[u8], cells: &mut [i32]) -> Result<(), Refusal> {
     // SAFETY: each pointer and length are one slice's; the cells are lent alone.
     let answer = unsafe { lrpd_load(text.as_ptr(), text.len(), cells.as_mut_ptr(), cells.len()) };
     refusal(answer.number, answer.line, answer.v)
+}
+
+/// Look: the view after the schedule's bytes.
+pub fn look(
+    text: &[u8],
+    cells: &[i32],
+    workspace: &mut [u32],
+    schedule: &[u8],
+    view: &mut [u32],
+) -> Result<(), Refusal> {
+    // SAFETY: each pointer and length are one slice's; the workspace and the view are lent alone.
+    let answer = unsafe {
+        lrpd_look(
+            text.as_ptr(),
+            text.len(),
+            cells.as_ptr(),
+            cells.len(),
+            workspace.as_mut_ptr(),
+            workspace.len(),
+            schedule.as_ptr(),
+            schedule.len(),
+            view.as_mut_ptr(),
+            view.len(),
+        )
+    };
+    refusal(answer.number, answer.line, answer.v)
+}
+
+/// Run: passed or rerun, and the write counts.
+pub fn run(
+    text: &[u8],
+    cells: &mut [i32],
+    workspace: &mut [u32],
+    schedule: &[u8],
+) -> Result<Answer, Refusal> {
+    // SAFETY: each pointer and length are one slice's; the cells and the workspace are lent alone.
+    let answer = unsafe {
+        lrpd_run(
+            text.as_ptr(),
+            text.len(),
+            cells.as_mut_ptr(),
+            cells.len(),
+            workspace.as_mut_ptr(),
+            workspace.len(),
+            schedule.as_ptr(),
+            schedule.len(),
+        )
+    };
+    let ran = Answer {
+        passed: answer.rerun == 0,
+        pairs: answer.pairs,
+        cells: answer.cells,
+    };
+    assert!(answer.rerun <= 1, "rerun is 0 or 1");
+    let refused = refusal(answer.number, answer.line, answer.v);
+    if refused.is_err() {
+        let numbers = (answer.rerun, answer.pairs, answer.cells);
+        assert_eq!(numbers, (0, 0, 0), "counts beside a refusal");
+    }
+    refused.map(|()| ran)
 }
 
 /// Number 0 is no refusal, and then line and v are 0.

@@ -2,7 +2,7 @@
 //! in the slices lent.
 
 use generate::{lend, Rng};
-use reference::Refusal;
+use reference::{Answer, Refusal};
 
 use crate::product;
 use crate::tally::Text;
@@ -13,6 +13,7 @@ fn guarded<T: Copy>(elements: &[T], guard: T) -> Vec<T> {
 }
 
 const GUARD: i32 = 0x5eed_5eed;
+const GUARD_WORD: u32 = 0x5eed_5eed;
 
 /// Check.
 pub fn check(text: &mut Text, expected: Result<(usize, usize), Refusal>) {
@@ -44,4 +45,63 @@ pub fn check_and_load(text: &mut Text, rng: &mut Rng) {
         let expected = reference::load(text.text, &mut after);
         load(text, &before, expected, &after);
     }
+}
+
+/// What Look and Run are lent: cells, words of workspace with anything in them, and a schedule.
+pub struct Lent<'l> {
+    pub cells: &'l [i32],
+    pub workspace: &'l [u32],
+    pub schedule: &'l [u8],
+}
+
+/// The workspace after an answer: as found after 1 to 8, else zero.
+fn workspace_after(before: &[u32], number: Option<u32>) -> Vec<u32> {
+    match number {
+        Some(1..=8) => before.to_vec(),
+        _ => vec![0; before.len()],
+    }
+}
+
+/// Run, which leaves `after` in the cells.
+pub fn run(text: &mut Text, lent: &Lent, expected: Result<Answer, Refusal>, after: &[i32]) {
+    let mut cells = guarded(lent.cells, GUARD);
+    let mut workspace = guarded(lent.workspace, GUARD_WORD);
+    let answer = product::run(
+        text.text,
+        &mut cells[1..=lent.cells.len()],
+        &mut workspace[1..=lent.workspace.len()],
+        lent.schedule,
+    );
+    let word = |answer: Answer| if answer.passed { "passed" } else { "rerun" };
+    text.count("Run", answer.map(word));
+    let number = expected.err().map(|refusal| refusal.number);
+    let left = guarded(&workspace_after(lent.workspace, number), GUARD_WORD);
+    let service = format!("Run under {:?}", lent.schedule);
+    text.compare(
+        &service,
+        &(answer, cells),
+        &(expected, guarded(after, GUARD)),
+    );
+    text.compare("Run's workspace", &workspace, &left);
+}
+
+/// Look into so many words, which hold `view` in the end where Look is done.
+pub fn look(text: &mut Text, lent: &Lent, shown: usize, expected: Result<&[u32], Refusal>) {
+    let before = vec![99; shown];
+    let mut view = guarded(&before, GUARD_WORD);
+    let mut workspace = guarded(lent.workspace, GUARD_WORD);
+    let answer = product::look(
+        text.text,
+        lent.cells,
+        &mut workspace[1..=lent.workspace.len()],
+        lent.schedule,
+        &mut view[1..=shown],
+    );
+    text.count("Look", answer.map(|()| "done"));
+    let number = expected.err().map(|refusal| refusal.number);
+    let left = guarded(&workspace_after(lent.workspace, number), GUARD_WORD);
+    let seen = guarded(expected.unwrap_or(&before), GUARD_WORD);
+    let service = format!("Look after {:?}", lent.schedule);
+    text.compare(&service, &(answer, view), &(expected.map(|_| ()), seen));
+    text.compare("Look's workspace", &workspace, &left);
 }

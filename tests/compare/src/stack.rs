@@ -3,7 +3,7 @@
 
 use generate::tables::limits::deep_rows;
 use generate::tables::{text_rows, TextRow};
-use reference::Refusal;
+use reference::{workspace_needed, Refusal};
 use std::io;
 use std::process::{Command, Stdio};
 
@@ -78,13 +78,19 @@ fn enough(index: usize, stack: u64) -> io::Result<bool> {
     Ok(status.success())
 }
 
-/// Check and Load of one of the texts on this process's own stack; whether both answer as the table
+/// Every service on one of the texts, on this process's own stack; whether each answers as the table
 /// says.
 pub fn child(index: usize) -> bool {
     let row = &rows()[index];
     let numbers = |refusal: Refusal| (refusal.number, refusal.line);
+    let done = row.expected.map(|_| ());
+    let (count, processors) = row.expected.unwrap_or((0, 0));
+    let mut cells = vec![0; count];
+    let mut view = vec![0; 2 * count];
+    let mut workspace = vec![0; workspace_needed(count, processors)];
     let checked = product::check(&row.text).map_err(numbers);
-    let mut cells = vec![0; row.expected.map_or(0, |(cells, _)| cells)];
     let loaded = product::load(&row.text, &mut cells).map_err(numbers);
-    checked == row.expected && loaded == row.expected.map(|_| ())
+    let looked = product::look(&row.text, &cells, &mut workspace, &[], &mut view).map_err(numbers);
+    let ran = product::run(&row.text, &mut cells, &mut workspace, &[]).map_err(numbers);
+    checked == row.expected && [loaded, looked, ran.map(|_| ())] == [done; 3]
 }
