@@ -8,3 +8,4 @@ pub mod Examples
 pub mod Serially
 pub mod Concluding
 pub mod Settling
+pub mod Theorem
