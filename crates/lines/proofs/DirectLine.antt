@@ -30,7 +30,7 @@ use Rattle.headings.proofs.ClauseLines.{claim-names, claims-names, frees-known,
 use Rattle.lines.specs.declared.Progress.{Progress}
 use Rattle.lines.specs.Progress.{Opened, Represents, numberOf, numbered, whole, Concludes, Numbers}
 use Rattle.lines.specs.Lines.{readOpening}
-use Rattle.lines.proofs.Verdicts.{ending, concludes-lands, concludes-word, concludes-sign, number-by, numbered-zero, follows-most}
+use Rattle.lines.proofs.Verdicts.{ending, concludes-lands, concludes-word, concludes-sign, number-by, numbered-zero, follows-most, good-order}
 use Rattle.lines.proofs.DeclareLine.{heading-code, implied}
 
 -- ---- names
@@ -262,11 +262,6 @@ opening-by f s = sign (expects peek-in skip-in "!$omp" s)
     sign (done x o) = word (wants peek-in skip-in "parallel" o)
 
 -- ---- what it adds
-
-good-order : (a b : Bool) → order a b ≡ 0 → (a ≡ true) × (b ≡ true)
-good-order true true e = (refl, refl)
-good-order true false e = absurd (omega (arith, e))
-good-order false b e = absurd (omega (arith, e))
 
 module _ (k : ℕ) (s : List ℕ) (p : Progress) (T : List ℕ) (I : List ℤ) (C O T′ : List ℕ) (x y a : ℕ) (gx : Goes Any s 0 (passes (bytes "!$omp")) x) (gy : Goes Any s x (passes (bytes "parallel")) y) (g : Goes Any s y (passes (bytes "do")) a) (r : Directed) (h : Directive T s a T′ r) (kp : Keeps T T′) (n : ℕ) (hn : Numbers s (r .next) (r .rank) n) where
   abbrev after-line : Progress

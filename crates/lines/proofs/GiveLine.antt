@@ -33,7 +33,7 @@ use Rattle.headings.specs.declared.Headed.{Headed}
 use Rattle.headings.proofs.Lists.{Nonempty}
 use Rattle.lines.specs.declared.Progress.{Progress}
 use Rattle.lines.specs.Progress.{Opened, Represents, numberOf, numbered, whole, Concludes, Numbers}
-use Rattle.lines.proofs.Verdicts.{ending, concludes-lands, concludes-word, number-by, numbered-zero, follows-most}
+use Rattle.lines.proofs.Verdicts.{ending, concludes-lands, concludes-word, number-by, numbered-zero, follows-most, good-order}
 use Rattle.lines.proofs.DeclareLine.{heading-code}
 
 -- ---- what is read
@@ -228,11 +228,6 @@ values-length : (is : List Item) → length (values is) ≡ total copies is
 unfolding values
 values-length [] = refl
 values-length (item r l d ∷ is) = length-append (replicate (copiesOf r) (signed l (number d))) (values is) ∙ (λ i. length-replicate (copiesOf r) (signed l (number d)) i + values-length is i)
-
-good-order : (a b : Bool) → order a b ≡ 0 → (a ≡ true) × (b ≡ true)
-good-order true true e = (refl, refl)
-good-order true false e = absurd (omega (arith, e))
-good-order false b e = absurd (omega (arith, e))
 
 -- values within the first part
 sets-front : (xs ys : List ℤ) (k : ℕ) (vs : List ℤ) → k + length vs ≤ length xs → sets (xs ++ ys) k vs ≡ sets xs k vs ++ ys

@@ -95,6 +95,12 @@ numbered-zero zero h = refl
 numbered-zero (suc zero) h = absurd (omega (arith, h))
 numbered-zero (suc (suc n)) h = absurd (omega (arith, h))
 
+-- a part in order has right names and is within the limits
+pub good-order : (a b : Bool) → order a b ≡ 0 → (a ≡ true) × (b ≡ true)
+good-order true true e = (refl, refl)
+good-order true false e = absurd (omega (arith, e))
+good-order false b e = absurd (omega (arith, e))
+
 -- ---- the order of lines
 
 pub follows-most : (k n : ℕ) → follows k n ≡ true → k ≤ n

@@ -87,6 +87,14 @@ fits-none n p m w e h = λ i. cond (eq-eqb m n e i) (cond (le-leb (needed n p) w
 row-room : (n p : ℕ) → row-at p n ≤ needed n p
 row-room n p = let q : n * (4 + 5 * p) ≤ n * (4 + 6 * p) = (let a : n ≤ n = omega arith in let b : 4 + 5 * p ≤ 4 + 6 * p = omega arith in mul-le-mul a b) in omega (arith, q)
 
+-- the number by what the reader found, and by the text
+pub number-as : (text : List ℕ) (r : Ready) (K C : List ℕ) (a : Accepted text r K C) (m w : ℕ) (ps : List ℕ) (n : ℕ) → n ≡ fitNumber (r .cells) (r .setting .processors) m w ps → runNumber (a .state) m w ps ≡ n
+number-as text r K C a m w ps n e = (λ i. fitNumber (sym (a .prepares .cells-are) i) (sym (a .prepares .processors) i) m w ps) ∙ sym e
+
+-- the code that the reader emitted
+pub code-as : (text : List ℕ) (r : Ready) (K C : List ℕ) (a : Accepted text r K C) → take (r .end - 0) (drop 0 K) ≡ words (codeOf (a .state))
+code-as text r K C a = let z : r .end - 0 ≡ r .end = omega arith in ap (λ (n : ℕ). take n K) z ∙ a .prepares .code
+
 -- ---- a run can begin
 
 module _ (text : List ℕ) (r : Ready) (K C : List ℕ) (a : Accepted text r K C) (M : List ℤ) (w : ℕ) (ps : List ℕ) (f : Fits (r .cells) (r .setting .processors) (length M) w ps) where
@@ -106,16 +114,10 @@ module _ (text : List ℕ) (r : Ready) (K C : List ℕ) (a : Accepted text r K C
       le-trans p q = omega arith
 
   pub begins : Starts (take (r .end - 0) (drop 0 K)) (r .setting) (loopOf s M) M C w
-  begins = starts-by text s (a .verdict) M sized C (pr .few-cells) (pr .classes) w enough (take (r .end - 0) (drop 0 K)) (r .setting) code (pr .processors) (pr .iterations) (pr .from)
-    where
-      code : take (r .end - 0) (drop 0 K) ≡ words (codeOf s)
-      code = let z : r .end - 0 ≡ r .end = omega arith in ap (λ (n : ℕ). take n K) z ∙ pr .code
+  begins = starts-by text s (a .verdict) M sized C (pr .few-cells) (pr .classes) w enough (take (r .end - 0) (drop 0 K)) (r .setting) (code-as text r K C a) (pr .processors) (pr .iterations) (pr .from)
 
   pub can-try : CanTry (take (r .end - 0) (drop 0 K)) (r .setting) M C ps w
   can-try = (loopOf s M, begins, f .names)
-
-  run-zero : runNumber s (length M) w ps ≡ fitNumber (r .cells) (r .setting .processors) (length M) w ps
-  run-zero = λ i. fitNumber (sym (pr .cells-are) i) (sym (pr .processors) i) (length M) w ps
 
   pub as-dealt : dealt (loopOf s M) (r .setting .processors) ≡ partitionOf s
   unfolding loopOf partitionOf
@@ -149,7 +151,7 @@ module _ (text : List ℕ) (r : Ready) (K C : List ℕ) (M : List ℤ) (W ps U :
     st = a .state
 
     number-is : runNumber st (length M) (length W) ps ≡ n
-    number-is = (λ i. fitNumber (sym (a .prepares .cells-are) i) (sym (a .prepares .processors) i) (length M) (length W) ps) ∙ sym en
+    number-is = number-as text r K C a (length M) (length W) ps n en
 
     pub look-unfit : (n ≡ 0 → ⊥) → Looks (Rejected n 0) U W
     look-unfit nz = go n refl nz

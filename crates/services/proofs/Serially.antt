@@ -26,7 +26,7 @@ use Rattle.services.specs.declared.Served.{Served}
 use Rattle.services.specs.declared.Served.the-variants.{Finished, Faulted, Refused}
 use Rattle.services.specs.Answers.{fitNumber, runNumber}
 use Rattle.services.specs.Trial.{servedBy, Serves, ServesBy, SerialOf}
-use Rattle.services.proofs.Answering.{Accepted, Fits, fit-zero, begins}
+use Rattle.services.proofs.Answering.{Accepted, Fits, fit-zero, number-as, begins}
 
 -- ---- a fault lies in an iteration
 
@@ -73,7 +73,7 @@ module _ (text : List ℕ) (M : List ℤ) (W : List ℕ) where
     l = loopOf s M
 
     number-is : runNumber s (length M) (length W) [] ≡ n
-    number-is = (λ i. fitNumber (sym (a .prepares .cells-are) i) (sym (a .prepares .processors) i) (length M) (length W) []) ∙ sym en
+    number-is = number-as text r K C a (length M) (length W) [] n en
 
     pub serial-unfit : (n ≡ 0 → ⊥) → SerialOf (read text) M W (Refused n 0) M W
     serial-unfit nz = go n refl nz

@@ -30,7 +30,7 @@ use Rattle.services.specs.declared.Tried.{Tried}
 use Rattle.services.specs.Answers.{fitNumber, runNumber}
 use Rattle.services.specs.Prepared.{Prepares}
 use Rattle.services.specs.Trial.{settingOf, Tries, TriesBy, TrialOf}
-use Rattle.services.proofs.Answering.{Accepted, Fits, fit-zero, begins}
+use Rattle.services.proofs.Answering.{Accepted, Fits, fit-zero, number-as, code-as, begins}
 
 module _ (text : List ℕ) (M : List ℤ) (W ps : List ℕ) (t : Tried) where
   pub try-refused : (n k : ℕ) → (n ≡ 0 → ⊥) → read text ≡ refused n k → t .number ≡ n → t .line ≡ k → TrialOf (read text) M W ps t M W
@@ -46,7 +46,7 @@ module _ (text : List ℕ) (M : List ℤ) (W ps : List ℕ) (t : Tried) where
     s = a .state
 
     number-is : runNumber s (length M) (length W) ps ≡ n
-    number-is = (λ i. fitNumber (sym (a .prepares .cells-are) i) (sym (a .prepares .processors) i) (length M) (length W) ps) ∙ sym en
+    number-is = number-as text r K C a (length M) (length W) ps n en
 
     pub try-unfit : (n ≡ 0 → ⊥) → t .number ≡ n → t .line ≡ 0 → TrialOf (read text) M W ps t M W
     try-unfit nz e el = go n refl nz
@@ -69,7 +69,7 @@ module _ (text : List ℕ) (M : List ℤ) (W ps : List ℕ) (t : Tried) where
       starts-now = begins text r K C a M (length W) ps fit
 
       code-is : K′ ≡ words (codeOf s)
-      code-is = let q : r .end - 0 ≡ r .end = omega arith in ap (λ (k : ℕ). take k K) q ∙ a .prepares .code
+      code-is = code-as text r K C a
 
       setting-is : r .setting ≡ settingOf s
       setting-is = λ i. record { processors = a .prepares .processors i; iterations = a .prepares .iterations i; from = a .prepares .from i }

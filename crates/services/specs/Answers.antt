@@ -34,11 +34,7 @@ needed n p = 4352 + 64 * p + n * (4 + 6 * p)
 abbrev pub cellsNumber : ℕ → ℕ → ℕ
 cellsNumber n m = cond (eqb m n) 0 5
 
--- and p processors, where w words are lent
-abbrev pub wordsNumber : ℕ → ℕ → ℕ → ℕ → ℕ
-wordsNumber n p m w = cond (eqb m n) (cond (leb (needed n p) w) 0 6) 5
-
--- and ps are the schedule's bytes: "a schedule byte of P or more"
+-- and p processors, where w words are lent and ps are the schedule's bytes: "a schedule byte of P or more"
 abbrev pub fitNumber : ℕ → ℕ → ℕ → ℕ → List ℕ → ℕ
 fitNumber n p m w ps = cond (eqb m n) (cond (leb (needed n p) w) (cond (all (λ b. ltb b p) ps) 0 7) 6) 5
 
