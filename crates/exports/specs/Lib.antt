@@ -1,1 +1,2 @@
+-- The numbers of each answer.
 pub mod Numbers

@@ -1,3 +1,4 @@
+-- What the functions on the lines before the statements yield.
 pub mod Lists
 pub mod Integer
 pub mod Data

@@ -1,3 +1,4 @@
+-- What a line comes to, and then each kind of line.
 pub mod Verdicts
 pub mod DeclareLine
 pub mod GiveLine

@@ -1,2 +1,3 @@
+-- What is printed, and that it is never cut.
 mod Answering
 mod Refusals

@@ -1,2 +1,3 @@
+-- Rows of the table.
 pub mod Laws
 pub mod Rows

@@ -1,1 +1,2 @@
+-- The table of names as words, and what its functions promise.
 pub mod Table

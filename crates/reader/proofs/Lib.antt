@@ -1,3 +1,4 @@
+-- Whole lines, kinds, one line, and then all lines of a text.
 pub mod WholeLines
 pub mod Starts
 pub mod Parses

@@ -1,2 +1,3 @@
+-- Kinds of lines, and the verdict on a line and on a text.
 pub mod Kinds
 pub mod Judged

@@ -1,3 +1,4 @@
+-- From the reader's findings to each service's answer; the theorem on the number of processors.
 pub mod Copies
 pub mod Preparing
 pub mod Looking

@@ -1,1 +1,2 @@
+-- The classes of cells as numbers.
 pub mod Classes

@@ -1,3 +1,4 @@
+-- What the readers of assignments and conditions answer and emit.
 pub mod Statement
 pub mod Comparison
 pub mod Alike

@@ -1,4 +1,4 @@
--- Document 01, Services and answers: the whole text, the first bad line with its number; what Check and Load answer.
+-- Document 01, Services and answers: the whole text, the first bad line with its number; the cells from the data.
 use mathlib.Core.Bool.{Bool, true, false, cond, _&&_, _||_, not}
 use mathlib.Core.List.{List, [], _∷_, map}
 use mathlib.Core.Option.{Option, none, some}
@@ -9,7 +9,7 @@ use lib.IntN.{ℤ, pos}
 use Rattle.syntax.specs.Bytes.{choose, lower, lines, tokens, skipped-line, sound-line}
 use Rattle.syntax.specs.Grammar.{Line}
 use Rattle.syntax.specs.Reader.{parse}
-use Rattle.syntax.specs.Known.{Entry, State, nothing, cells, after}
+use Rattle.syntax.specs.Known.{Entry, State, nothing, after}
 use Rattle.syntax.specs.Conditions.{concat, names, limits, stageOf, stands, finished}
 
 -- what the lines make known, or the number and the line of the first bad one
@@ -48,16 +48,7 @@ judge k s (l ∷ ls) = go-on (judge-line k (is-last ls) s l) (λ t. judge (suc k
 unfoldable pub read : List ℕ → Verdict
 read text = choose (ltb 2048 (length text)) (λ _. refused 1 0) (λ _. judge 1 nothing (lines (map lower text)))
 
--- ---- Check and Load
-
--- "Check takes the text and answers N and P"; a refusal with its number and its line
-pub data Checked : Type 0 where
-  sizes : ℕ → ℕ → Checked
-  refusal : ℕ → ℕ → Checked
-
-abbrev pub checked : Verdict → Checked
-checked (refused n k) = refusal n k
-checked (good s) = sizes (cells (s .table)) (s .processors)
+-- ---- Load
 
 -- "Cells without data start at 0"
 abbrev pub initial : Entry → Option (List ℤ) → List ℤ
