@@ -1,9 +1,12 @@
 //! Run's time beside that of a plain serial interpreter, and how it grows.
+//!
+//!     bench                 the times
+//!     bench profile LOOP    Run alone, many times, for a profiler; LOOP is turns or shortest
 
 mod loops;
+mod postfix;
 mod product;
 mod reader;
-mod tree;
 
 use loops::{shortest, turns, Timed};
 use std::time::{Duration, Instant};
@@ -13,9 +16,16 @@ const ITERATIONS: u32 = 65_535;
 const CELLS: usize = 4_096;
 
 /// How often each is timed; the least time counts.
-const TIMES: usize = 15;
+const TIMES: usize = 60;
+/// How often a profiler sees the loop run.
+const PROFILED: usize = 300;
 
 fn main() {
+    let words: Vec<String> = std::env::args().skip(1).collect();
+    if let [command, name] = &words[..] {
+        assert_eq!(command, "profile");
+        return profile(name);
+    }
     println!("Run and the plain interpreter, P = 1, {CELLS} cells, {ITERATIONS} iterations; best of {TIMES}:");
     compare("turns", &turns(ITERATIONS, CELLS, 1));
     compare("shortest", &shortest(ITERATIONS, CELLS, 1));
@@ -29,6 +39,18 @@ fn main() {
     }
     for processors in [1, 2, 4, 8] {
         grown(ITERATIONS, CELLS, processors);
+    }
+}
+
+/// Runs a loop of the measure often, for a profiler.
+fn profile(name: &str) {
+    let timed = match name {
+        "turns" => turns(ITERATIONS, CELLS, 1),
+        "shortest" => shortest(ITERATIONS, CELLS, 1),
+        _ => panic!("no loop has the name {name}"),
+    };
+    for _ in 0..PROFILED {
+        time_run(&timed);
     }
 }
 
@@ -78,9 +100,9 @@ fn time_run(timed: &Timed) -> (Duration, Vec<i32>) {
 fn time_plain(timed: &Timed) -> (Duration, Vec<i32>) {
     let mut cells = timed.cells.clone();
     let start = Instant::now();
-    let tree = reader::read(&timed.text);
-    assert_eq!(tree.cells, cells.len());
-    let outcome = tree.run(&mut cells);
+    let read = reader::read(&timed.text);
+    assert_eq!(read.cells, cells.len());
+    let outcome = read.run(&mut cells);
     let time = start.elapsed();
     assert_eq!(outcome, Ok(()));
     (time, cells)
