@@ -1,7 +1,8 @@
 //! Run's time beside that of a plain serial interpreter, and how it grows.
 //!
-//!     bench                 the times
-//!     bench profile LOOP    Run alone, many times, for a profiler; LOOP is turns or shortest
+//!     bench                     the times
+//!     bench WHICH LOOP TIMES    one alone, so many times, for a profiler: WHICH is run or plain,
+//!                               LOOP is turns or shortest
 
 mod loops;
 mod postfix;
@@ -17,14 +18,11 @@ const CELLS: usize = 4_096;
 
 /// How often each is timed; the least time counts.
 const TIMES: usize = 60;
-/// How often a profiler sees the loop run.
-const PROFILED: usize = 300;
 
 fn main() {
     let words: Vec<String> = std::env::args().skip(1).collect();
-    if let [command, name] = &words[..] {
-        assert_eq!(command, "profile");
-        return profile(name);
+    if let [which, name, times] = &words[..] {
+        return profile(which, name, times.parse().expect("how often"));
     }
     println!("Run and the plain interpreter, P = 1, {CELLS} cells, {ITERATIONS} iterations; best of {TIMES}:");
     compare("turns", &turns(ITERATIONS, CELLS, 1));
@@ -42,15 +40,19 @@ fn main() {
     }
 }
 
-/// Runs a loop of the measure often, for a profiler.
-fn profile(name: &str) {
+/// One of the two on a loop of the measure, so many times, for a profiler.
+fn profile(which: &str, name: &str, times: usize) {
     let timed = match name {
         "turns" => turns(ITERATIONS, CELLS, 1),
         "shortest" => shortest(ITERATIONS, CELLS, 1),
         _ => panic!("no loop has the name {name}"),
     };
-    for _ in 0..PROFILED {
-        time_run(&timed);
+    for _ in 0..times {
+        match which {
+            "run" => time_run(&timed),
+            "plain" => time_plain(&timed),
+            _ => panic!("{which} is neither run nor plain"),
+        };
     }
 }
 
