@@ -4,6 +4,7 @@ use generate::tables::{arguments, data, text_rows};
 use generate::{damage, hostile, lend, noise, Knobs, Loop, Rng};
 use reference::Refusal;
 
+use crate::fortran;
 use crate::runs;
 use crate::services::{check, check_and_load, load, look, run, Lent};
 use crate::tally::Tally;
@@ -12,13 +13,15 @@ use crate::tally::Tally;
 pub type Group = (&'static str, fn() -> bool);
 
 /// All groups.
-pub const GROUPS: [Group; 9] = [
+pub const GROUPS: [Group; 11] = [
     ("tables", tables),
     ("lent", lent),
     ("run-table", runs::table),
     ("look-table", runs::views),
     ("runs", runs::random_runs),
     ("looks", runs::random_looks),
+    ("refusals", runs::random_refusals),
+    ("fortran", fortran::second_opinion),
     ("loops", loops),
     ("damaged", damaged),
     ("noise", any_bytes),

@@ -1,13 +1,14 @@
 //! Compares the product, linked as C links it, with the reference.
 //!
 //!     compare              every group of texts
-//!     compare GROUP..      some of them: tables, lent, run-table, look-table, runs, looks, loops,
-//!                          damaged, noise
+//!     compare GROUP..      some of them: tables, lent, run-table, look-table, runs, looks,
+//!                          refusals, fortran, loops, damaged, noise
 //!     compare stack KIB    how much stack the services need; whether it is at most so much
 //!     compare text FILE    what both answer for one text
 //!
 //! The exit status is 0 only if nothing differs.
 
+mod fortran;
 mod groups;
 mod product;
 mod runs;

@@ -2,8 +2,8 @@
 
 use generate::tables::looks;
 use generate::tables::runs::{rows, Ran};
-use generate::{lend, Loop, Rng};
-use reference::{workspace_needed, Answer, Refusal};
+use generate::{damage, hostile, lend, Loop, Rng};
+use reference::{workspace_needed, Answer, Refusal, Serial};
 
 use crate::groups::drawn;
 use crate::services::{look, run, Lent};
@@ -11,8 +11,10 @@ use crate::tally::{Tally, Text};
 
 /// How many random loops are run and looked at, each for several numbers of processors and under
 /// several schedules.
-const RUNS: u64 = 6_000;
+const RUNS: u64 = 9_000;
 const LOOKS: u64 = 3_000;
+/// How many random texts, damaged or not, are run and looked at with too little lent or too much.
+const REFUSALS: u64 = 10_000;
 
 /// A workspace large enough, with anything in it and at times some words to spare.
 fn workspace(rng: &mut Rng, cells: usize, processors: usize) -> Vec<u32> {
@@ -83,6 +85,10 @@ pub fn views() -> bool {
 /// Run as the serial run settles it: demand 3.
 pub fn run_as_reference(text: &mut Text, lent: &Lent) {
     let serial = reference::serial(text.text, lent.cells).expect("a good text");
+    run_as_settled(text, lent, &serial);
+}
+
+fn run_as_settled(text: &mut Text, lent: &Lent, serial: &Serial) {
     match serial.outcome {
         Err(fault) => run(text, lent, Err(fault), lent.cells),
         Ok(()) => {
@@ -105,13 +111,21 @@ pub fn look_as_reference(text: &mut Text, lent: &Lent) {
     look(text, lent, view.len(), Ok(&view));
 }
 
-/// Each loop of the seeds, for its own and other numbers of processors, with the cells of its data or
-/// any others, under schedules.
+/// A random loop, often one in which speculation and the serial run meet different faults.
+pub fn drawn_to_run(rng: &mut Rng) -> Loop {
+    if rng.chance(20) {
+        return hostile::hostile(rng);
+    }
+    drawn(rng)
+}
+
+/// Each loop of the seeds, for its own and two other numbers of processors, with the cells of its data
+/// or any others, under schedules.
 fn random(tally: &mut Tally, seeds: u64, compare: fn(&mut Text, &Lent)) {
     for seed in 0..seeds {
         let mut rng = Rng::new(seed);
-        let made: Loop = drawn(&mut rng);
-        for processors in [made.processors, 1 + rng.below(8)] {
+        let made = drawn_to_run(&mut rng);
+        for processors in [made.processors, 1 + rng.below(8), 1 + rng.below(8)] {
             let bytes = made.with_processors(processors).text();
             if bytes.len() > 2048 {
                 continue;
@@ -119,7 +133,7 @@ fn random(tally: &mut Tally, seeds: u64, compare: fn(&mut Text, &Lent)) {
             let name = format!("seed {seed}, {processors} processors");
             let mut text = tally.next(&name, &bytes);
             let count = made.cells.len();
-            for schedule in schedules(&mut rng, processors, 3) {
+            for schedule in schedules(&mut rng, processors, 2) {
                 let any = lend::cells(&mut rng, count);
                 let lent = Lent {
                     cells: if rng.chance(80) { &made.cells } else { &any },
@@ -132,16 +146,84 @@ fn random(tally: &mut Tally, seeds: u64, compare: fn(&mut Text, &Lent)) {
     }
 }
 
-/// Random loops: Run against the serial run.
+/// Run as the serial run settles it; counted is which of speculation and serial run meet a fault.
+fn run_and_count(text: &mut Text, lent: &Lent) {
+    let serial = reference::serial(text.text, lent.cells).expect("a good text");
+    run_as_settled(text, lent, &serial);
+    let words = lent.workspace.len();
+    let trial = reference::trial(text.text, lent.cells, words, lent.schedule);
+    let records = trial.expect("a good text and enough lent").processors;
+    let speculation = records.iter().any(|record| record.fault.is_some());
+    let word = match (speculation, serial.outcome.is_err()) {
+        (false, false) => "in neither",
+        (true, false) => "in speculation alone",
+        (false, true) => "in the serial run alone",
+        (true, true) => "in both",
+    };
+    text.count("A fault", Ok(word));
+}
+
+/// Random loops: Run against the serial run. Each end, and each way in which speculation and the serial
+/// run are at odds, must be frequent.
 pub fn random_runs() -> bool {
     let mut tally = Tally::new(&format!("runs of the seeds 0 to {}", RUNS - 1));
-    random(&mut tally, RUNS, run_as_reference);
-    tally.report()
+    random(&mut tally, RUNS, run_and_count);
+    let good = tally.report();
+    let has = |service, answers: &[&str], percent| tally.has(service, answers, percent);
+    let frequent = has("Run", &["passed"], 20)
+        & has("Run", &["rerun"], 20)
+        & has("Run", &["refused  9", "refused 10"], 20)
+        & has("A fault", &["in speculation alone"], 2)
+        & has("A fault", &["in the serial run alone"], 2);
+    good & frequent
 }
 
 /// Random loops: Look against the reference's.
 pub fn random_looks() -> bool {
     let mut tally = Tally::new(&format!("views of the seeds 0 to {}", LOOKS - 1));
     random(&mut tally, LOOKS, look_as_reference);
+    tally.report()
+}
+
+/// As many as wanted, or at times one less or one more.
+fn about(rng: &mut Rng, wanted: usize) -> usize {
+    match rng.below(8) {
+        0 => wanted.saturating_sub(1),
+        1 => wanted + 1,
+        _ => wanted,
+    }
+}
+
+/// Random loops, every other one damaged, with what is lent at times too short or too long and schedules
+/// that at times name a processor too many: Look and Run against the reference's.
+pub fn random_refusals() -> bool {
+    let mut tally = Tally::new(&format!("things lent, seeds 0 to {}", REFUSALS - 1));
+    for seed in 0..REFUSALS {
+        let mut rng = Rng::new(seed);
+        let mut bytes = drawn_to_run(&mut rng).text();
+        if rng.chance(50) {
+            bytes = damage::damage(&bytes, &mut rng);
+        }
+        let (count, processors) = reference::check(&bytes).unwrap_or((3, 2));
+        let named = processors + usize::from(rng.chance(20));
+        let lent_cells = about(&mut rng, count);
+        let words = about(&mut rng, workspace_needed(count, processors));
+        let shown = about(&mut rng, 2 * count);
+        let lent = Lent {
+            cells: &lend::cells(&mut rng, lent_cells),
+            workspace: &lend::workspace(&mut rng, words),
+            schedule: &lend::schedule(&mut rng, named),
+        };
+        let name = format!("seed {seed}");
+        let mut text = tally.next(&name, &bytes);
+        let mut cells = lent.cells.to_vec();
+        let mut left = lent.workspace.to_vec();
+        let expected = reference::run(&bytes, &mut cells, &mut left, lent.schedule);
+        run(&mut text, &lent, expected, &cells);
+        let mut left = lent.workspace.to_vec();
+        let mut view = vec![0; shown];
+        let expected = reference::look(&bytes, lent.cells, &mut left, lent.schedule, &mut view);
+        look(&mut text, &lent, shown, expected.map(|()| &view[..]));
+    }
     tally.report()
 }

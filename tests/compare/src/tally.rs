@@ -50,6 +50,24 @@ impl Tally {
         }
         self.differences == 0
     }
+
+    /// Whether these answers of a service have at least so many hundredths of all its answers; says so
+    /// if not.
+    pub fn has(&self, service: &str, answers: &[&str], percent: usize) -> bool {
+        let of_service = || {
+            self.answers
+                .iter()
+                .filter(|((name, _), _)| *name == service)
+        };
+        let all: usize = of_service().map(|(_, times)| times).sum();
+        let wanted = of_service().filter(|((_, answer), _)| answers.contains(&answer.as_str()));
+        let share: usize = wanted.map(|(_, times)| times).sum();
+        let enough = 100 * share >= percent * all;
+        if !enough {
+            println!("  {service} {answers:?}: {share} of {all}, under {percent} hundredths");
+        }
+        enough
+    }
 }
 
 /// A text of a group, with a name to find it by.

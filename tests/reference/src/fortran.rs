@@ -1,6 +1,7 @@
-//! A loop as a Fortran program: the given cells are set, the loop runs serially without its
-//! directive, and every cell is printed on a line of its own. For `gfortran -fwrapv -fcheck=bounds`;
-//! a subscript outside its array ends the program with status 2, a zero divisor with status 10.
+//! A loop as a Fortran program, or as a procedure of one: the given cells are set, the loop runs
+//! serially without its directive, and every cell is printed on a line of its own. For
+//! `gfortran -fwrapv -fcheck=bounds`; a subscript outside its array ends the program with status 2, a
+//! zero divisor with status 10.
 
 use crate::program::{Action, Declared, Place, Program, Statement};
 use crate::reader::read;
@@ -10,18 +11,40 @@ use crate::syntax::{Condition, Expression, Factor, Joint, Named, Relation, Scali
 /// where Fortran has no such loop: an end of 2147483647, which the variable would pass
 /// (READING 97), and a variable `concurrent`, for `do concurrent` begins another statement.
 pub fn fortran(text: &[u8], cells: &[i32]) -> Option<String> {
-    let program = read(text).ok()?;
-    let passes_the_end = program.iteration_count() > 0 && program.last == i32::MAX;
-    if cells.len() != program.cell_count() || passes_the_end || program.variable == "concurrent" {
-        return None;
-    }
-    Some(Printer::of(&program).program(cells))
+    let program = for_fortran(text, cells)?;
+    let main = unused_name("loop", &program);
+    Some(Printer::of(&program).unit("program", &main, cells))
 }
 
-/// What the printed functions and the program are called: names that the text does not use.
+/// The loops of several texts in one Fortran program, which prints a line `loop` before each loop's
+/// cells; `None` for a loop that `fortran` refuses.
+pub fn fortran_of_all(loops: &[(&[u8], &[i32])]) -> Option<String> {
+    let mut procedures = String::new();
+    let mut lines = Lines::default();
+    lines.put(0, "program loops");
+    for ((text, cells), number) in loops.iter().zip(1..) {
+        let program = for_fortran(text, cells)?;
+        // Longer than any name of a text.
+        let name = format!("the_loop_with_the_number_in_this_list_{number}");
+        lines.put(1, "write (*, '(a)') 'loop'");
+        lines.put(1, &format!("call {name}()"));
+        procedures += &Printer::of(&program).unit("subroutine", &name, cells);
+    }
+    lines.put(0, "end program loops");
+    Some(lines.text + &procedures)
+}
+
+/// The loop of an accepted text, if Fortran has such a loop and the cells are as many as it has.
+fn for_fortran(text: &[u8], cells: &[i32]) -> Option<Program> {
+    let program = read(text).ok()?;
+    let passes_the_end = program.iteration_count() > 0 && program.last == i32::MAX;
+    let has_none = passes_the_end || program.variable == "concurrent";
+    (cells.len() == program.cell_count() && !has_none).then_some(program)
+}
+
+/// What the printed functions are called: names that the text does not use.
 struct Printer<'a> {
     program: &'a Program,
-    main: String,
     /// `/`, with its zero divisor and the one quotient that traps.
     quotient: String,
     /// The identity, so that the compiler does not fold, and refuse, constants that wrap.
@@ -41,16 +64,15 @@ impl<'a> Printer<'a> {
     fn of(program: &'a Program) -> Self {
         Printer {
             program,
-            main: unused_name("loop", program),
             quotient: unused_name("quot", program),
             same: unused_name("same", program),
         }
     }
 
-    fn program(&self, cells: &[i32]) -> String {
-        let main = &self.main;
+    /// A program or a subroutine of this name.
+    fn unit(&self, kind: &str, name: &str, cells: &[i32]) -> String {
         let mut lines = Lines::default();
-        lines.put(0, &format!("program {main}"));
+        lines.put(0, &format!("{kind} {name}"));
         lines.put(1, "implicit none");
         for declared in &self.program.names {
             lines.put(1, &declaration(declared));
@@ -73,7 +95,7 @@ impl<'a> Printer<'a> {
         lines.text += &QUOTIENT.replace("QUOTIENT", &self.quotient);
         lines.text += ROUNDED;
         lines.text += &SAME.replace("SAME", &self.same);
-        lines.put(0, &format!("end program {main}"));
+        lines.put(0, &format!("end {kind} {name}"));
         lines.text
     }
 

@@ -27,7 +27,7 @@ mod tokens;
 mod trial;
 
 pub use accesses::{Access, Kind};
-pub use fortran::fortran;
+pub use fortran::{fortran, fortran_of_all};
 pub use integers::{divide_rounded, divide_truncated};
 pub use print::lrpd;
 pub use reader::read;
