@@ -11,3 +11,5 @@ pub mod RunningOut
 mod Stepping
 mod Leaving
 mod Viewing
+-- A record in a local, which is lent for a step.
+mod Local

@@ -131,12 +131,12 @@ fn go_on(
 
 // One step of a processor by its record. A finished or stopped one does nothing.
 pub fn step(
+    worker: Worker,
     code: &[u32],
     setting: Setting,
     p: Processor,
     cells: &mut [i32],
     w: &mut [u32],
-    worker: Worker,
 ) -> Worker
     requires { ⌜ HasTurn (now code) setting (now cells) (now w) (p .0) worker ⌝ }
     ensures { λ r. ⌜ TakesTurn (now (code .entry)) setting (now (cells .entry)) (now (w .entry)) (p .0) worker (now (cells .exit)) (now (w .exit)) r ⌝ }
@@ -170,6 +170,39 @@ pub fn step(
     }
 }
 
+// The same step on the record of the one processor that it names, which is lent; no other record is.
+pub fn step_record(
+    worker: &mut Worker,
+    code: &[u32],
+    setting: Setting,
+    p: Processor,
+    cells: &mut [i32],
+    w: &mut [u32],
+)
+    requires { ⌜ HasTurn (now code) setting (now cells) (now w) (p .0) (now worker) ⌝ }
+    ensures { λ _. ⌜ TakesTurn (now (code .entry)) setting (now (cells .entry)) (now (w .entry)) (p .0) (now (worker .entry)) (now (cells .exit)) (now (w .exit)) (now (worker .exit)) ⌝ }
+{
+    let r = step(*worker, code, setting, p, cells, w);
+    *worker = r;
+}
+
+// The step from record to record that a schedule takes: a copy is lent.
+pub fn turn(
+    worker: Worker,
+    code: &[u32],
+    setting: Setting,
+    p: Processor,
+    cells: &mut [i32],
+    w: &mut [u32],
+) -> Worker
+    requires { ⌜ HasTurn (now code) setting (now cells) (now w) (p .0) worker ⌝ }
+    ensures { λ r. ⌜ TakesTurn (now (code .entry)) setting (now (cells .entry)) (now (w .entry)) (p .0) worker (now (cells .exit)) (now (w .exit)) r ⌝ }
+{
+    let mut u = worker;
+    step_record(&mut u, code, setting, p, cells, w);
+    u
+}
+
 // The steps of a schedule, in order.
 pub fn follow(
     code: &[u32],
@@ -189,7 +222,7 @@ pub fn follow(
         let named = Processor(b);
         let q = b as usize;
         let x = ws[q];
-        let y = step(code, setting, named, cells, w, x);
+        let y = turn(x, code, setting, named, cells, w);
         ws[q] = y;
         j += 1;
     }

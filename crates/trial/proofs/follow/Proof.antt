@@ -50,8 +50,8 @@ array-copy-out-x c =
     let (l, s, r, n) = c .before .before .before .before .before .before .pre in
     omega (arith, n (c .before .before .loop .j) (c .before .loop-test .taken), r .running .standing .suits .most)
 
-step-requires : tie.Need-step-requires Inv-loop μ-loop
-step-requires c κs =
+turn-requires : tie.Need-turn-requires Inv-loop μ-loop
+turn-requires c κs =
     let a = c .before .before .before .before .before .before .before .before .before .args in
     let (l, s, r, n) = c .before .before .before .before .before .before .before .before .before .pre in
     let u = c .before .before .before .before .before .loop in
@@ -88,7 +88,7 @@ loop-again c =
       λ l s r.
           rw (add-one, steps-more (a .code .now) (a .setting) l (a .schedule .now) (u .j) s lt)
           (run-stepped (a .code .now) (a .setting) l (u .cells) (u .w) (u .ws) _ (getD (a .schedule .now) (u .j) 0) (u .inv .4 l s r) h _ _ _
-          (c .before .before .before .step .ensures l _ (run-turn (a .code .now) (a .setting) l (u .cells) (u .w) (u .ws) _ (getD (a .schedule .now) (u .j) 0) (u .inv .4 l s r) b))),
+          (c .before .before .before .turn .ensures l _ (run-turn (a .code .now) (a .setting) l (u .cells) (u .w) (u .ws) _ (getD (a .schedule .now) (u .j) 0) (u .inv .4 l s r) b))),
     )
 
 same-length : tie.Need-same-length Inv-loop μ-loop
@@ -116,7 +116,7 @@ follow-spec =
     cast-q
     mul-x
     array-copy-out-x
-    step-requires
+    turn-requires
     mul-ws
     array-set-from-ws
     add-j
