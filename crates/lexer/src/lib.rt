@@ -12,6 +12,8 @@ ghost use Rattle.syntax.specs.Reader.{readName, readDigits, readLead, peek-in, 
 ghost use Rattle.lexer.specs.Places.{Goes, Any, passes, Spells, leadOf};
 ghost use Rattle.lexer.specs.Lex.{goes, part, Lexed, ended, tens};
 
+pub mod cursor;
+
 // A token: its kind (0 the end of the line, 1 a word that may be a name, 2 a word that is no name, 3 digits, 4 a sign) and where it lies.
 pub struct Tok {
     pub kind: u32,
