@@ -179,3 +179,10 @@ module _ {B : Type 0} (R : B → Type 0) (s : List ℕ) (t : String) (m k : ℕ)
 
   pub lands-past-word : lettered (bytes t) ≡ true → Lands R s (next (wants peek-in skip-in t (drop m s)) (λ _. rest)) z
   lands-past-word h = subst (λ (p : Parsed (List ℕ) (Unit {0})). Lands R s (next p (λ _. rest)) z) (sym (wants-passes t h (drop m s))) past
+
+-- the place n after a token that was taken
+pub taken-next : {s : List ℕ} {at n : ℕ} {t : Tok} → Lexed s at t → n ≡ t .stop → skip-in (drop at s) ≡ drop n s
+taken-next h e = rw e (h .next)
+
+pub taken-within : {s : List ℕ} {at n : ℕ} {t : Tok} → Lexed s at t → n ≡ t .stop → n ≤ length s
+taken-within h e = rw e (h .within)

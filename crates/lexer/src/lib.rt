@@ -266,8 +266,9 @@ pub fn pass(s: &[u8], at: usize, w: &[u8]) -> usize
     if s.len() < at {
         return s.len() + 1;
     }
-    let t = token(s, at);
-    let e = t.stop;
+    let r = cursor::take(s, at);
+    let t = r.token;
+    let e = r.next;
     if reads(s, t, w) { e } else { s.len() + 1 }
 }
 
@@ -332,11 +333,12 @@ pub fn name(s: &[u8], at: usize) -> Word
             start: 0,
         };
     }
-    let t = token(s, at);
+    let r = cursor::take(s, at);
+    let t = r.token;
     let k = t.kind;
     if k == 1 {
         Word {
-            next: t.stop,
+            next: r.next,
             start: t.start,
         }
     } else {
@@ -357,9 +359,10 @@ pub fn digits(s: &[u8], at: usize) -> Number
             number: 0,
         };
     }
-    let t = token(s, at);
+    let r = cursor::take(s, at);
+    let t = r.token;
     let k = t.kind;
-    let e = t.stop;
+    let e = r.next;
     if k == 3 {
         Number {
             next: e,
