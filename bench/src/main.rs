@@ -2,14 +2,14 @@
 //!
 //!     bench                     the times
 //!     bench WHICH LOOP TIMES    one alone, so many times, for a profiler: WHICH is run or plain,
-//!                               LOOP is turns or shortest
+//!                               LOOP is turns, shortest or forms
 
 mod loops;
 mod postfix;
 mod product;
 mod reader;
 
-use loops::{shortest, turns, Timed};
+use loops::{forms, shortest, turns, Timed};
 use std::time::{Duration, Instant};
 
 /// The loop of the measure.
@@ -27,6 +27,7 @@ fn main() {
     println!("Run and the plain interpreter, P = 1, {CELLS} cells, {ITERATIONS} iterations; best of {TIMES}:");
     compare("turns", &turns(ITERATIONS, CELLS, 1));
     compare("shortest", &shortest(ITERATIONS, CELLS, 1));
+    compare("forms", &forms(ITERATIONS, CELLS, 1));
 
     println!("\nRun's time for the loop `turns` as it grows, in ms:");
     for iterations in [0, 4_096, 16_384, 32_768, 65_535] {
@@ -45,6 +46,7 @@ fn profile(which: &str, name: &str, times: usize) {
     let timed = match name {
         "turns" => turns(ITERATIONS, CELLS, 1),
         "shortest" => shortest(ITERATIONS, CELLS, 1),
+        "forms" => forms(ITERATIONS, CELLS, 1),
         _ => panic!("no loop has the name {name}"),
     };
     for _ in 0..times {

@@ -74,6 +74,7 @@ impl Pending {
 
 impl Loop {
     /// The serial run.
+    #[inline(never)]
     pub fn run(&self, cells: &mut [i32]) -> Result<(), Fault> {
         let mut pending = Pending {
             values: [0; 32],
@@ -85,10 +86,10 @@ impl Loop {
         Ok(())
     }
 
+    #[inline(always)]
     fn iteration(&self, v: i32, cells: &mut [i32], pending: &mut Pending) -> Result<(), Fault> {
         let mut place = 0;
-        while place < self.code.len() {
-            let operation = self.code[place];
+        while let Some(&operation) = self.code.get(place) {
             place += 1;
             match operation {
                 Operation::Literal(value) => pending.put(value),
