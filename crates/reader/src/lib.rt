@@ -14,6 +14,7 @@ ghost use Rattle.syntax.specs.Known.{nothing};
 ghost use Rattle.syntax.specs.Text.{judge, read as readText};
 ghost use Rattle.reader.specs.Judged.{Lent, JudgesLine, Reads, Fresh};
 use lexer::Tok;
+use lexer::cursor::take;
 use lexer::line_end;
 use lexer::lowered;
 use lexer::reads;
@@ -147,8 +148,9 @@ fn end_kind(s: &[u8], at: usize) -> Kind
 fn kind_of(s: &[u8]) -> Kind
     ensures { λ r. ⌜ Kinds (λ f. readStart peek-in skip-in f (now (s .entry))) (now (s .entry)) r ⌝ }
 {
-    let t = token(s, 0);
-    let next = t.stop;
+    let first = take(s, 0);
+    let t = first.token;
+    let next = first.next;
     if reads(s, t, b"integer") {
         return Kind::Integer;
     }
