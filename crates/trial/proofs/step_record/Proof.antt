@@ -1,4 +1,4 @@
--- `trial::step_record` meets its contract: a walk of its MIR, by hand. The record's borrow is opened, the record is copied out and passed by value to `step` beside the other parameters, the record of what that returns is stored whole, the borrow is closed at it, and the answer is returned.
+-- `trial::step_record` meets its contract: a walk of its MIR, by hand. The record's borrow is opened, the record is copied out and passed by value to `step` beside the other parameters, the record that it returns is stored whole, and the borrow is closed at it.
 -- All that the proof knows of `step` is that it meets its contract. A `&mut` slice is given up to it for good; of what is shared a copy is kept.
 -- Assumes nothing.
 use mathlib.Core.Path.{_≡_, refl}
