@@ -13,7 +13,8 @@ use Rattle.syntax.specs.Reader.{Parsed, broken, done, next, skip-in}
 use Rattle.code.specs.Instr.{Instr, negate, operation, argument, words}
 use Rattle.code.specs.Compile.{codeLead}
 use Rattle.expressions.specs.Answer.{worst, Reads}
-use Rattle.expressions.specs.Parts.{stands, leadOf, Sealed, unread, other, closes, Emits}
+use Rattle.lexer.specs.Places.{leadOf}
+use Rattle.expressions.specs.Parts.{stands, Sealed, unread, other, closes, Emits}
 use Rattle.expressions.specs.declared.Got.{Got}
 use Rattle.expressions.specs.declared.Got.the-variants.{Broken, Done}
 

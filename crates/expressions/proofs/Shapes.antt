@@ -12,7 +12,8 @@ use Rattle.syntax.specs.Grammar.{Lead, bare, plus, minus, Expr, expr, Factor, l
 use Rattle.syntax.specs.Reader.{Parsed, broken, done, next, is, kind, text, isDigits, says, expects, peek-in, skip-in, readLead, readExpr, readTerms, readTerm, readFactor, readRef}
 use Rattle.syntax.proofs.Spelling.{is-true}
 use Rattle.expressions.specs.Readers.{readQuotient}
-use Rattle.expressions.specs.Parts.{skipped, Passes, stands, either, Joins, leadOf, begins}
+use Rattle.lexer.specs.Places.{leadOf}
+use Rattle.expressions.specs.Parts.{skipped, Passes, stands, either, Joins, begins}
 use Rattle.expressions.specs.declared.Seen.{Seen}
 
 -- ---- a lead, and terms

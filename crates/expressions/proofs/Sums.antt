@@ -16,7 +16,8 @@ use Rattle.code.specs.Compile.{codeLead, code, codeTerms, codeTerm, codeFactors
 use Rattle.names.specs.Table.{variableOf, Tabled}
 use Rattle.expressions.specs.Answer.{worst, Reads, Within, Answers}
 use Rattle.expressions.specs.Readers.{readRemainder}
-use Rattle.expressions.specs.Parts.{Passes, stands, Joins, leadOf, Emits}
+use Rattle.lexer.specs.Places.{leadOf}
+use Rattle.expressions.specs.Parts.{Passes, stands, Joins, Emits}
 use Rattle.expressions.specs.declared.Got.{Got}
 use Rattle.expressions.specs.declared.Got.the-variants.{Broken, Done}
 use Rattle.expressions.specs.declared.Seen.{Seen}

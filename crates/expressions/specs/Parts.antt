@@ -7,7 +7,7 @@ use lib.Dec.{leb, eqb}
 use lib.ListN.{length, drop}
 use lib.Seq.{sets}
 use Rattle.syntax.specs.Bytes.{letter, digit, same, sign}
-use Rattle.syntax.specs.Grammar.{number, Lead, bare, plus, minus}
+use Rattle.syntax.specs.Grammar.{number}
 use Rattle.syntax.specs.Known.{Entry, find}
 use Rattle.syntax.specs.Conditions.{refers, digits, small}
 use Rattle.syntax.specs.Reader.{done, is, kind, text, sees, says, isDigits, peek-in, skip-in}
@@ -55,11 +55,6 @@ either p q = cond p 1 (cond q 2 0)
 pub record Joins (a b : ℕ) (s : List ℕ) (at : ℕ) (r : Seen) : Type 0 where
   pub what : r .what ≡ either (stands a (drop at s)) (stands b (drop at s))
   pub next : Passes (min (r .what) 1) s at (r .next)
-
-abbrev pub leadOf : ℕ → Lead
-leadOf zero = bare
-leadOf (suc zero) = plus
-leadOf (suc (suc n)) = minus
 
 -- how a factor begins: 1 a literal, 2 a bracket, 3 rdiv and a bracket, 4 a name, 5 a name and a bracket, 0 none of these
 abbrev pub begins : List ℕ → ℕ

@@ -12,9 +12,10 @@ ghost use Rattle.syntax.specs.Conditions.{mentions, inTerms, inTerm, inFactors,
 ghost use Rattle.code.specs.Instr.{add, subtract, multiply, divide, operation as operationOf, words};
 ghost use Rattle.code.specs.Compile.{codeLead, code as codeExpr, codeTerms, codeTerm, codeFactors, codeFactor, codeRef};
 ghost use Rattle.lexer.specs.Lex.{part};
+ghost use Rattle.lexer.specs.Places.{leadOf};
 ghost use Rattle.expressions.specs.Answer.{Answers, Ready};
 ghost use Rattle.expressions.specs.Readers.{readRemainder, readQuotient};
-ghost use Rattle.expressions.specs.Parts.{kindAt, textAt, Sign, Joins, Begins, leadOf, Inside, Sealed, Ranks, Ranked, Worded, spanOf, Room, Emits, Fetches, Pushes, Loads};
+ghost use Rattle.expressions.specs.Parts.{kindAt, textAt, Sign, Joins, Begins, Inside, Sealed, Ranks, Ranked, Worded, spanOf, Room, Emits, Fetches, Pushes, Loads};
 use lexer::Tok;
 use lexer::literal;
 use lexer::reads;

@@ -349,7 +349,7 @@ fn put_item(
 }
 
 // Items.
-pub fn items(
+fn items(
     s: &[u8],
     at: usize,
     cells: &mut [i32],

@@ -91,7 +91,7 @@ pub fn starts(s: &[u8], w: &[u8]) -> bool
 
 // ---- tokens
 
-pub fn letter(b: u8) -> bool
+fn letter(b: u8) -> bool
     ensures { λ r. ⌜ r ≡ isLetter b ⌝ }
 {
     if 97 <= b { b <= 122 } else { false }

@@ -61,7 +61,6 @@ fn number_of(s: &[u8], next: usize, rank: u32) -> u32
 pub fn integer_line(s: &[u8], p: Progress, table: &mut [u32; 613]) -> Progress
     requires { ⌜ (length (now s) ≤ 2048) × (p .cells ≤ 4096) ⌝ }
     ensures { λ r. ⌜ ((k : ℕ) (I : List ℤ) (C O : List ℕ) → Takes (readDeclare peek-in skip-in) 1 (now (s .entry)) k p (now (table .entry)) I C O r (now (table .exit)) I C O) ⌝ }
-    ensures { λ r. ⌜ r .cells ≤ 4096 ⌝ }
 {
     let a = pass(s, 0, b"integer");
     let r = integers(s, a, table, p.cells, 0);
@@ -82,7 +81,6 @@ pub fn integer_line(s: &[u8], p: Progress, table: &mut [u32; 613]) -> Progress
 pub fn data_line(s: &[u8], p: Progress, table: &mut [u32; 613], initial: &mut [i32]) -> Progress
     requires { ⌜ (length (now s) ≤ 2048) × (length (now initial) ≡ 4096) × Standing (now table) ⌝ }
     ensures { λ r. ⌜ ((k : ℕ) (C O : List ℕ) → Takes (readGive peek-in skip-in) 2 (now (s .entry)) k p (now (table .entry)) (now (initial .entry)) C O r (now (table .exit)) (now (initial .exit)) C O) ⌝ }
-    ensures { λ r. ⌜ (r .cells ≡ p .cells) × (length (now (initial .exit)) ≡ 4096) ⌝ }
 {
     let a = pass(s, 0, b"data");
     let r = data_values(s, a, table, initial);
@@ -104,7 +102,6 @@ pub fn data_line(s: &[u8], p: Progress, table: &mut [u32; 613], initial: &mut [i
 pub fn directive_line(s: &[u8], p: Progress, table: &mut [u32; 613]) -> Progress
     requires { ⌜ (length (now s) ≤ 2048) × Standing (now table) ⌝ }
     ensures { λ r. ⌜ ((k : ℕ) (I : List ℤ) (C O : List ℕ) → Takes readOpening 3 (now (s .entry)) k p (now (table .entry)) I C O r (now (table .exit)) I C O) ⌝ }
-    ensures { λ r. ⌜ r .cells ≡ p .cells ⌝ }
 {
     let a = pass(s, 0, b"!$omp");
     let b = pass(s, a, b"parallel");
@@ -199,7 +196,6 @@ pub fn assign_line(
 ) -> Progress
     requires { ⌜ (length (now s) ≤ 2048) × (line ≤ 2049) × (2 * (p .place + 2 * length (now s)) ≤ length (now code)) ⌝ }
     ensures { λ r. ⌜ ((I : List ℤ) (O : List ℕ) → Takes (readAssign peek-in skip-in) 5 (now (s .entry)) line p (now (table .entry)) I (now (code .entry)) O r (now (table .entry)) I (now (code .exit)) O) ⌝ }
-    ensures { λ r. ⌜ (r .place ≤ p .place + 2 * length (now (s .entry))) × (length (now (code .exit)) ≡ length (now (code .entry))) ⌝ }
 {
     let depth = p.depth;
     let before = p.place;
@@ -219,7 +215,6 @@ pub fn if_line(
 ) -> Progress
     requires { ⌜ (length (now s) ≤ 2048) × (line ≤ 2049) × (2 * (p .place + 2 * length (now s)) ≤ length (now code)) × (p .place ≤ 32768) × (p .depth ≤ 8) ⌝ }
     ensures { λ r. ⌜ ((I : List ℤ) → Takes (readWhen peek-in skip-in) 5 (now (s .entry)) line p (now (table .entry)) I (now (code .entry)) (now (opens .entry)) r (now (table .entry)) I (now (code .exit)) (now (opens .exit))) ⌝ }
-    ensures { λ r. ⌜ (r .place ≤ p .place + 2 * length (now (s .entry))) × (length (now (code .exit)) ≡ length (now (code .entry))) ⌝ }
 {
     let depth = p.depth;
     let before = p.place;
@@ -250,7 +245,6 @@ fn fill(code: &mut [u32], jump: usize, distance: usize)
 fn put_jump(code: &mut [u32], place: usize)
     requires { ⌜ 2 * (place + 1) ≤ length (now code) ⌝ }
     ensures { λ _. ⌜ now (code .exit) ≡ set (set (now (code .entry)) (2 * place) 16) (2 * place + 1) 0 ⌝ }
-    ensures { λ _. ⌜ length (now (code .exit)) ≡ length (now (code .entry)) ⌝ }
 {
     let i = 2 * place;
     code[i] = 16;
@@ -267,7 +261,6 @@ pub fn else_line(
 ) -> Progress
     requires { ⌜ (at ≤ length (now s)) × (p .place ≤ 4096) × (2 * (p .place + 1) ≤ length (now code)) × Underway p (now code) (now opens) ⌝ }
     ensures { λ r. ⌜ ((k : ℕ) (T : List ℕ) (I : List ℤ) → Takes (reads (inside otherwise) at) 5 (now (s .entry)) k p T I (now (code .entry)) (now (opens .entry)) r T I (now (code .exit)) (now (opens .exit))) ⌝ }
-    ensures { λ r. ⌜ (r .place ≤ p .place + 1) × (length (now (code .exit)) ≡ length (now (code .entry))) ⌝ }
 {
     let depth = p.depth;
     let place = p.place;
@@ -289,7 +282,6 @@ pub fn else_line(
 pub fn end_if_line(s: &[u8], at: usize, p: Progress, code: &mut [u32], opens: &[u32; 8]) -> Progress
     requires { ⌜ (at ≤ length (now s)) × (p .place ≤ 4096) × (2 * p .place ≤ length (now code)) × Underway p (now code) (now opens) ⌝ }
     ensures { λ r. ⌜ ((j : Bool) (k : ℕ) (T : List ℕ) (I : List ℤ) → Takes (reads (inside (end-if j)) at) 5 (now (s .entry)) k p T I (now (code .entry)) (now (opens .entry)) r T I (now (code .exit)) (now (opens .entry))) ⌝ }
-    ensures { λ r. ⌜ (r .place ≤ p .place) × (length (now (code .exit)) ≡ length (now (code .entry))) ⌝ }
 {
     let depth = p.depth;
     let place = p.place;
@@ -306,7 +298,6 @@ pub fn end_if_line(s: &[u8], at: usize, p: Progress, code: &mut [u32], opens: &[
 pub fn end_do_line(s: &[u8], at: usize, p: Progress) -> Progress
     requires { ⌜ at ≤ length (now s) ⌝ }
     ensures { λ r. ⌜ ((j : Bool) (k : ℕ) (T : List ℕ) (I : List ℤ) (C O : List ℕ) → Takes (reads (end-do j) at) 6 (now (s .entry)) k p T I C O r T I C O) ⌝ }
-    ensures { λ r. ⌜ r .place ≤ p .place ⌝ }
 {
     let depth = p.depth;
     let place = p.place;
@@ -319,7 +310,6 @@ pub fn end_do_line(s: &[u8], at: usize, p: Progress) -> Progress
 pub fn close_line(s: &[u8], p: Progress) -> Progress
     requires { ⌜ length (now s) ≤ 2048 ⌝ }
     ensures { λ r. ⌜ ((k : ℕ) (T : List ℕ) (I : List ℤ) (C O : List ℕ) → Takes readClosing 7 (now (s .entry)) k p T I C O r T I C O) ⌝ }
-    ensures { λ r. ⌜ r .place ≤ p .place ⌝ }
 {
     let a = pass(s, 0, b"!$omp");
     let b = pass(s, a, b"end");

@@ -56,7 +56,7 @@ pub fn count(table: &[u32; 613]) -> usize
 }
 
 // The first entry that has the name w; the number of names where none has it.
-pub fn position(table: &[u32; 613], w: &[u8]) -> usize
+fn position(table: &[u32; 613], w: &[u8]) -> usize
     requires { ⌜ length (now w) ≤ 32 ⌝ }
     ensures { λ r. ⌜ Found (now (table .entry)) (min (getD (now (table .entry)) 612 0) 16) (now (w .entry)) r ⌝ }
 {

@@ -280,7 +280,6 @@ fn line_by(
 ) -> Progress
     requires { ⌜ Lent (now s) line p (now table) (now initial) (now code) (now opens) × Inside (now s) k ⌝ }
     ensures { λ r. ⌜ Takes (readBy k) (stageBy k) (now (s .entry)) line p (now (table .entry)) (now (initial .entry)) (now (code .entry)) (now (opens .entry)) r (now (table .exit)) (now (initial .exit)) (now (code .exit)) (now (opens .exit)) ⌝ }
-    ensures { λ r. ⌜ (length (now (initial .exit)) ≡ 4096) × (length (now (code .exit)) ≡ length (now (code .entry))) ⌝ }
 {
     match k {
         Kind::Broken => broken_line(p),
@@ -310,7 +309,6 @@ fn spoken_line(
 ) -> Progress
     requires { ⌜ Lent (now s) line p (now table) (now initial) (now code) (now opens) ⌝ }
     ensures { λ r. ⌜ (true ≡ sound-line (now (s .entry)) → false ≡ skipped-line (now (s .entry)) → JudgesLine (now (s .entry)) last line p (now (table .entry)) (now (initial .entry)) (now (code .entry)) (now (opens .entry)) r (now (table .exit)) (now (initial .exit)) (now (code .exit)) (now (opens .exit))) ⌝ }
-    ensures { λ r. ⌜ (length (now (initial .exit)) ≡ 4096) × (length (now (code .exit)) ≡ length (now (code .entry))) ⌝ }
 {
     let k = kind_of(s);
     let stage = stage_of(k);
@@ -338,7 +336,6 @@ fn judge_line(
 ) -> Progress
     requires { ⌜ Lent (now s) line p (now table) (now initial) (now code) (now opens) ⌝ }
     ensures { λ r. ⌜ JudgesLine (now (s .entry)) last line p (now (table .entry)) (now (initial .entry)) (now (code .entry)) (now (opens .entry)) r (now (table .exit)) (now (initial .exit)) (now (code .exit)) (now (opens .exit)) ⌝ }
-    ensures { λ r. ⌜ (length (now (initial .exit)) ≡ 4096) × (length (now (code .exit)) ≡ length (now (code .entry))) ⌝ }
 {
     if is_sound(s) {
         if is_skipped(s) {

@@ -38,13 +38,13 @@ same-length : tie.Need-same-length
 same-length c = search needs
 
 returns : tie.Need-returns
-returns c = (λ I O st rp sane fo f b. concluded _ _ (c .onward .ensures) (numberOf st) _ _ I _ O st _ (assign-line _ _ (c .before .before .before .before .before .before .before .before .before .before .before .args .p) _ I _ O _ st rp _ _ _ (subst (Compiles (readAssign peek-in skip-in) _ _ _ _ _ _) (c .before .before .before .at .given .1) (c .before .before .before .before .before .before .before .assignment .ensures)) _ (c .before .number-of .ensures) f b), (omega (arith, ap (λ (r : Progress). r .place) (c .onward .ensures), compiled-bounded _ _ _ _ _ _ _ _ _ _ _ (c .before .before .before .before .before .before .before .assignment .ensures) (c .before .before .before .at .given .1)), search needs))
+returns c = λ I O st rp sane fo f b. concluded _ _ (c .onward .ensures) (numberOf st) _ _ I _ O st _ (assign-line _ _ (c .before .before .before .before .before .before .before .before .before .before .before .args .p) _ I _ O _ st rp _ _ _ (subst (Compiles (readAssign peek-in skip-in) _ _ _ _ _ _) (c .before .before .before .at .given .1) (c .before .before .before .before .before .before .before .assignment .ensures)) _ (c .before .number-of .ensures) f b)
 
 same-length-2 : tie.Need-same-length-2
 same-length-2 c = search needs
 
 returns-2 : tie.Need-returns-2
-returns-2 c = (λ I O st rp sane fo f b. concluded _ _ (c .onward2 .ensures) (numberOf st) _ _ I _ O st _ (assign-broken _ _ (c .before .before .before .before .before .before .before .before .before .args .p) _ I _ O _ st rp (subst (Compiles (readAssign peek-in skip-in) _ _ _ _ _ _) (c .before .enum-told .given .1) (c .before .before .before .before .before .assignment .ensures)) _ f b), (omega (arith, ap (λ (r : Progress). r .place) (c .onward2 .ensures)), search needs))
+returns-2 c = λ I O st rp sane fo f b. concluded _ _ (c .onward2 .ensures) (numberOf st) _ _ I _ O st _ (assign-broken _ _ (c .before .before .before .before .before .before .before .before .before .args .p) _ I _ O _ st rp (subst (Compiles (readAssign peek-in skip-in) _ _ _ _ _ _) (c .before .enum-told .given .1) (c .before .before .before .before .before .assignment .ensures)) _ f b)
 
 pub assign-line-spec : {M : Type 1} → statement M
 assign-line-spec =

@@ -44,7 +44,7 @@ onward-requires : tie.Need-onward-requires
 onward-requires c κs = search needs
 
 returns : tie.Need-returns
-returns c = (λ k T I C O st rp sane fo f b. concluded _ _ (c .onward .ensures) (numberOf st) k T I C O st _ (close-line k _ (c .before .before .before .before .before .before .before .before .before .before .before .args .p) T I C O _ _ _ _ (c .before .before .before .before .before .before .before .before .pass .ensures) (c .before .before .before .before .before .before .pass2 .ensures) (c .before .before .before .before .pass3 .ensures) (c .before .before .pass4 .ensures) _ (c .before .number-of .ensures) st rp f), omega (arith, ap (λ (r : Progress). r .place) (c .onward .ensures)))
+returns c = λ k T I C O st rp sane fo f b. concluded _ _ (c .onward .ensures) (numberOf st) k T I C O st _ (close-line k _ (c .before .before .before .before .before .before .before .before .before .before .before .args .p) T I C O _ _ _ _ (c .before .before .before .before .before .before .before .before .pass .ensures) (c .before .before .before .before .before .before .pass2 .ensures) (c .before .before .before .before .pass3 .ensures) (c .before .before .pass4 .ensures) _ (c .before .number-of .ensures) st rp f)
 
 pub close-line-spec : {M : Type 1} → statement M
 close-line-spec =

@@ -27,7 +27,7 @@ same-length : tie.Need-same-length
 same-length c = search needs
 
 returns : tie.Need-returns
-returns c = (λ k C O st rp sane fo. give-line k _ (c .before .before .before .before .before .before .before .before .args .p) _ _ C O _ _ _ (c .before .before .before .before .before .pass .ensures) (c .before .before .data-values .result) (c .before .before .data-values .ensures .0) (c .before .before .data-values .ensures .1 .0) _ (c .number-of .ensures) st rp sane fo, (refl, c .before .before .data-values .ensures .1 .1 ∙ c .before .before .before .before .before .before .before .before .pre .1))
+returns c = λ k C O st rp sane fo. give-line k _ (c .before .before .before .before .before .before .before .before .args .p) _ _ C O _ _ _ (c .before .before .before .before .before .pass .ensures) (c .before .before .data-values .result) (c .before .before .data-values .ensures .0) (c .before .before .data-values .ensures .1 .0) _ (c .number-of .ensures) st rp sane fo
 
 pub data-line-spec : {M : Type 1} → statement M
 data-line-spec =

@@ -35,7 +35,7 @@ number-of-requires : tie.Need-number-of-requires
 number-of-requires c κs = search needs
 
 returns : tie.Need-returns
-returns c = (λ k I C O st rp sane fo. direct-line k _ (c .before .before .before .before .before .before .before .before .before .before .args .p) _ I C O _ _ _ _ (c .before .before .before .before .before .before .before .pass .ensures) (c .before .before .before .before .before .pass2 .ensures) (c .before .before .before .pass3 .ensures) (c .before .directive .result) (c .before .directive .ensures .0) (c .before .directive .ensures .1) _ (c .number-of .ensures) st rp fo, refl)
+returns c = λ k I C O st rp sane fo. direct-line k _ (c .before .before .before .before .before .before .before .before .before .before .args .p) _ I C O _ _ _ _ (c .before .before .before .before .before .before .before .pass .ensures) (c .before .before .before .before .before .pass2 .ensures) (c .before .before .before .pass3 .ensures) (c .before .directive .result) (c .before .directive .ensures .0) (c .before .directive .ensures .1) _ (c .number-of .ensures) st rp fo
 
 pub directive-line-spec : {M : Type 1} → statement M
 directive-line-spec =

@@ -21,7 +21,7 @@ onward-requires : tie.Need-onward-requires
 onward-requires c κs = search needs
 
 returns : tie.Need-returns
-returns c = (λ k T I st rp sane fo f b. concluded _ _ (c .onward .ensures) (numberOf st) k T I _ _ st _ (else-none k _ _ (c .before .before .before .before .pre .0) (c .before .before .before .before .args .p) T I _ _ st rp _ (c .before .if1 .taken)), (omega (arith, ap (λ (r : Progress). r .place) (c .onward .ensures)), refl))
+returns c = λ k T I st rp sane fo f b. concluded _ _ (c .onward .ensures) (numberOf st) k T I _ _ st _ (else-none k _ _ (c .before .before .before .before .pre .0) (c .before .before .before .before .args .p) T I _ _ st rp _ (c .before .if1 .taken))
 
 sub-w : tie.Need-sub-w
 sub-w c = search needs
@@ -36,7 +36,7 @@ onward-requires-2 : tie.Need-onward-requires-2
 onward-requires-2 c κs = search needs
 
 returns-2 : tie.Need-returns-2
-returns-2 c = (λ k T I st rp sane fo f b. concluded _ _ (c .onward2 .ensures) (numberOf st) k T I _ _ st _ (else-again k _ _ (c .before .before .before .before .before .before .pre .0) (c .before .before .before .before .before .before .args .p) T I _ _ st rp (c .before .before .before .if1 .left) _ (c .before .if2 .taken)), (omega (arith, ap (λ (r : Progress). r .place) (c .onward2 .ensures)), refl))
+returns-2 c = λ k T I st rp sane fo f b. concluded _ _ (c .onward2 .ensures) (numberOf st) k T I _ _ st _ (else-again k _ _ (c .before .before .before .before .before .before .pre .0) (c .before .before .before .before .before .before .args .p) T I _ _ st rp (c .before .before .before .if1 .left) _ (c .before .if2 .taken))
 
 cast-jump : tie.Need-cast-jump
 cast-jump c = (let u = jumps _ _ _ (c .before .before .before .before .before .pre .3) (c .before .before .if1 .left) in omega (arith, u .word, c .before .before .before .before .before .pre .1))
@@ -81,7 +81,7 @@ same-length : tie.Need-same-length
 same-length c = search needs
 
 returns-3 : tie.Need-returns-3
-returns-3 c = (λ k T I st rp sane fo f b. concluded _ _ (c .onward3 .ensures) (numberOf st) k T I _ _ st _ (else-turns k _ _ (c .before .before .before .before .before .before .before .before .before .before .before .before .before .before .before .pre .0) (c .before .before .before .before .before .before .before .before .before .before .before .before .before .before .before .args .p) T I _ _ st rp (c .before .before .before .before .before .before .before .before .before .before .before .before .if1 .left) (c .before .before .before .before .before .before .before .before .before .before .if2 .left) (c .before .before .before .before .before .before .before .before .before .before .before .before .before .before .before .pre .2) _ (c .before .before .before .before .put-jump .ensures .0 ∙ ap (λ (l : List ℕ). set (set l (2 * (c .before .before .before .before .before .before .before .before .before .before .before .before .before .before .before .args .p) .place) 16) (2 * (c .before .before .before .before .before .before .before .before .before .before .before .before .before .before .before .args .p) .place + 1) 0) (c .before .before .before .before .before .before .before .before .fill .ensures .0)) _ refl _ (c .before .number-of .ensures)), (omega (arith, ap (λ (r : Progress). r .place) (c .onward3 .ensures)), c .before .before .before .before .put-jump .ensures .1 ∙ c .before .before .before .before .before .before .before .before .fill .ensures .1))
+returns-3 c = λ k T I st rp sane fo f b. concluded _ _ (c .onward3 .ensures) (numberOf st) k T I _ _ st _ (else-turns k _ _ (c .before .before .before .before .before .before .before .before .before .before .before .before .before .before .before .pre .0) (c .before .before .before .before .before .before .before .before .before .before .before .before .before .before .before .args .p) T I _ _ st rp (c .before .before .before .before .before .before .before .before .before .before .before .before .if1 .left) (c .before .before .before .before .before .before .before .before .before .before .if2 .left) (c .before .before .before .before .before .before .before .before .before .before .before .before .before .before .before .pre .2) _ (c .before .before .before .before .put-jump .ensures ∙ ap (λ (l : List ℕ). set (set l (2 * (c .before .before .before .before .before .before .before .before .before .before .before .before .before .before .before .args .p) .place) 16) (2 * (c .before .before .before .before .before .before .before .before .before .before .before .before .before .before .before .args .p) .place + 1) 0) (c .before .before .before .before .before .before .before .before .fill .ensures .0)) _ refl _ (c .before .number-of .ensures))
 
 pub else-line-spec : {M : Type 1} → statement M
 else-line-spec =

@@ -19,13 +19,13 @@ onward-requires : tie.Need-onward-requires
 onward-requires c κs = search needs
 
 returns : tie.Need-returns
-returns c = (λ j k T I C O st rp sane fo f b. concluded _ _ (c .onward .ensures) (numberOf st) k T I C O st _ (end-do-line k _ _ (omega arith) (c .before .before .before .before .args .p) T I C O j st rp _ (c .before .number-of .ensures) (c .before .before .if1 .taken)), omega (arith, ap (λ (r : Progress). r .place) (c .onward .ensures)))
+returns c = λ j k T I C O st rp sane fo f b. concluded _ _ (c .onward .ensures) (numberOf st) k T I C O st _ (end-do-line k _ _ (omega arith) (c .before .before .before .before .args .p) T I C O j st rp _ (c .before .number-of .ensures) (c .before .before .if1 .taken))
 
 onward-requires-2 : tie.Need-onward-requires-2
 onward-requires-2 c κs = search needs
 
 returns-2 : tie.Need-returns-2
-returns-2 c = (λ j k T I C O st rp sane fo f b. concluded _ _ (c .onward2 .ensures) (numberOf st) k T I C O st _ (end-do-open k _ _ (c .before .before .before .pre) (c .before .before .before .args .p) T I C O j st rp _ (c .before .if1 .left)), omega (arith, ap (λ (r : Progress). r .place) (c .onward2 .ensures)))
+returns-2 c = λ j k T I C O st rp sane fo f b. concluded _ _ (c .onward2 .ensures) (numberOf st) k T I C O st _ (end-do-open k _ _ (c .before .before .before .pre) (c .before .before .before .args .p) T I C O j st rp _ (c .before .if1 .left))
 
 pub end-do-line-spec : {M : Type 1} → statement M
 end-do-line-spec =

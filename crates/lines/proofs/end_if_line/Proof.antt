@@ -17,7 +17,7 @@ onward-requires : tie.Need-onward-requires
 onward-requires c κs = search needs
 
 returns : tie.Need-returns
-returns c = (λ j k T I st rp sane fo f b. concluded _ _ (c .onward .ensures) (numberOf st) k T I _ _ st _ (end-if-none k _ _ (c .before .before .before .before .pre .0) (c .before .before .before .before .args .p) T I _ _ st rp j _ (c .before .if1 .taken)), (omega (arith, ap (λ (r : Progress). r .place) (c .onward .ensures)), refl))
+returns c = λ j k T I st rp sane fo f b. concluded _ _ (c .onward .ensures) (numberOf st) k T I _ _ st _ (end-if-none k _ _ (c .before .before .before .before .pre .0) (c .before .before .before .before .args .p) T I _ _ st rp j _ (c .before .if1 .taken))
 
 sub-jump : tie.Need-sub-jump
 sub-jump c = search needs
@@ -53,7 +53,7 @@ same-length : tie.Need-same-length
 same-length c = search needs
 
 returns-2 : tie.Need-returns-2
-returns-2 c = (λ j k T I st rp sane fo f b. concluded _ _ (c .onward2 .ensures) (numberOf st) k T I _ _ st _ (end-if-ends k _ _ (c .before .before .before .before .before .before .before .before .before .before .pre .0) (c .before .before .before .before .before .before .before .before .before .before .args .p) T I _ _ st rp (c .before .before .before .before .before .before .before .if1 .left) _ (c .before .before .before .before .fill .ensures .0) j _ (c .before .number-of .ensures)), (omega (arith, ap (λ (r : Progress). r .place) (c .onward2 .ensures)), c .before .before .before .before .fill .ensures .1))
+returns-2 c = λ j k T I st rp sane fo f b. concluded _ _ (c .onward2 .ensures) (numberOf st) k T I _ _ st _ (end-if-ends k _ _ (c .before .before .before .before .before .before .before .before .before .before .pre .0) (c .before .before .before .before .before .before .before .before .before .before .args .p) T I _ _ st rp (c .before .before .before .before .before .before .before .if1 .left) _ (c .before .before .before .before .fill .ensures .0) j _ (c .before .number-of .ensures))
 
 pub end-if-line-spec : {M : Type 1} → statement M
 end-if-line-spec =

@@ -51,7 +51,7 @@ same-length : tie.Need-same-length
 same-length c = search needs
 
 returns : tie.Need-returns
-returns c = (λ I st rp sane fo f b. concluded _ _ (c .onward .ensures) (numberOf st) _ _ I _ _ st _ (when-line _ _ (c .before .before .before .before .before .before .before .before .before .before .before .before .before .before .args .p) _ I _ _ _ st rp _ _ _ (subst (Compiles (readWhen peek-in skip-in) _ _ _ _ _ _) (c .before .before .before .before .before .before .at .given .1) (c .before .before .before .before .before .before .before .before .before .before .condition .ensures)) (omega arith) _ (ap (λ (x : ℕ). set (c .before .before .before .before .before .before .before .before .before .before .before .before .before .before .args .opens .now) (c .before .before .before .before .before .before .before .before .before .before .before .before .before .before .args .p .depth) x) (c .before .open-word .ensures)) _ (compiled-number _ _ _ _ _ (c .before .before .before .before .nested .ensures) (c .before .before .before .number-of .ensures)) f b), (omega (arith, ap (λ (r : Progress). r .place) (c .onward .ensures), compiled-bounded _ _ _ _ _ _ _ _ _ _ _ (c .before .before .before .before .before .before .before .before .before .before .condition .ensures) (c .before .before .before .before .before .before .at .given .1)), search needs))
+returns c = λ I st rp sane fo f b. concluded _ _ (c .onward .ensures) (numberOf st) _ _ I _ _ st _ (when-line _ _ (c .before .before .before .before .before .before .before .before .before .before .before .before .before .before .args .p) _ I _ _ _ st rp _ _ _ (subst (Compiles (readWhen peek-in skip-in) _ _ _ _ _ _) (c .before .before .before .before .before .before .at .given .1) (c .before .before .before .before .before .before .before .before .before .before .condition .ensures)) (omega arith) _ (ap (λ (x : ℕ). set (c .before .before .before .before .before .before .before .before .before .before .before .before .before .before .args .opens .now) (c .before .before .before .before .before .before .before .before .before .before .before .before .before .before .args .p .depth) x) (c .before .open-word .ensures)) _ (compiled-number _ _ _ _ _ (c .before .before .before .before .nested .ensures) (c .before .before .before .number-of .ensures)) f b)
 
 onward-requires-2 : tie.Need-onward-requires-2
 onward-requires-2 c κs = search needs
@@ -66,13 +66,13 @@ same-length-2 : tie.Need-same-length-2
 same-length-2 c = search needs
 
 returns-2 : tie.Need-returns-2
-returns-2 c = (λ I st rp sane fo f b. concluded _ _ (c .onward2 .ensures) (numberOf st) _ _ I _ _ st _ (when-deep _ _ (c .before .before .before .before .before .before .before .before .before .before .before .before .before .args .p) _ I _ _ _ st rp _ _ _ (subst (Compiles (readWhen peek-in skip-in) _ _ _ _ _ _) (c .before .before .before .before .before .at .given .1) (c .before .before .before .before .before .before .before .before .before .condition .ensures)) (omega arith) _ _ (compiled-number _ _ _ _ _ (c .before .before .before .nested .ensures) (c .before .before .number-of .ensures)) f b), (omega (arith, ap (λ (r : Progress). r .place) (c .onward2 .ensures), compiled-bounded _ _ _ _ _ _ _ _ _ _ _ (c .before .before .before .before .before .before .before .before .before .condition .ensures) (c .before .before .before .before .before .at .given .1)), search needs))
+returns-2 c = λ I st rp sane fo f b. concluded _ _ (c .onward2 .ensures) (numberOf st) _ _ I _ _ st _ (when-deep _ _ (c .before .before .before .before .before .before .before .before .before .before .before .before .before .args .p) _ I _ _ _ st rp _ _ _ (subst (Compiles (readWhen peek-in skip-in) _ _ _ _ _ _) (c .before .before .before .before .before .at .given .1) (c .before .before .before .before .before .before .before .before .before .condition .ensures)) (omega arith) _ _ (compiled-number _ _ _ _ _ (c .before .before .before .nested .ensures) (c .before .before .number-of .ensures)) f b)
 
 same-length-3 : tie.Need-same-length-3
 same-length-3 c = search needs
 
 returns-3 : tie.Need-returns-3
-returns-3 c = (λ I st rp sane fo f b. concluded _ _ (c .onward3 .ensures) (numberOf st) _ _ I _ _ st _ (when-broken _ _ (c .before .before .before .before .before .before .before .before .before .args .p) _ I _ _ _ st rp (subst (Compiles (readWhen peek-in skip-in) _ _ _ _ _ _) (c .before .enum-told .given .1) (c .before .before .before .before .before .condition .ensures)) _ f b), (omega (arith, ap (λ (r : Progress). r .place) (c .onward3 .ensures)), search needs))
+returns-3 c = λ I st rp sane fo f b. concluded _ _ (c .onward3 .ensures) (numberOf st) _ _ I _ _ st _ (when-broken _ _ (c .before .before .before .before .before .before .before .before .before .args .p) _ I _ _ _ st rp (subst (Compiles (readWhen peek-in skip-in) _ _ _ _ _ _) (c .before .enum-told .given .1) (c .before .before .before .before .before .condition .ensures)) _ f b)
 
 pub if-line-spec : {M : Type 1} → statement M
 if-line-spec =

@@ -22,7 +22,7 @@ number-of-requires : tie.Need-number-of-requires
 number-of-requires c κs = search needs
 
 returns : tie.Need-returns
-returns c = (λ k I C O st rp sane fo. declare-line k _ (c .before .before .before .before .before .before .args .p) _ I C O _ _ (c .before .before .before .pass .ensures) (c .before .integers .result) (c .before .integers .ensures .0) (c .before .integers .ensures .1 .0) (c .before .integers .ensures .1 .1) _ (c .number-of .ensures) st rp fo, c .before .integers .ensures .1 .1)
+returns c = λ k I C O st rp sane fo. declare-line k _ (c .before .before .before .before .before .before .args .p) _ I C O _ _ (c .before .before .before .pass .ensures) (c .before .integers .result) (c .before .integers .ensures .0) (c .before .integers .ensures .1 .0) (c .before .integers .ensures .1 .1) _ (c .number-of .ensures) st rp fo
 
 pub integer-line-spec : {M : Type 1} → statement M
 integer-line-spec =

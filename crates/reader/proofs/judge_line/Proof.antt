@@ -22,13 +22,13 @@ broken-line-requires : tie.Need-broken-line-requires
 broken-line-requires c κs = search needs
 
 returns : tie.Need-returns
-returns c = (λ st rp sane. skipped-early _ _ _ _ _ _ _ st _ (sym (sym (c .before .before .before .before .before .before .before .is-sound .ensures) ∙ c .before .before .before .before .before .before .if1 .taken)) (sym (sym (c .before .before .before .before .before .is-skipped .ensures) ∙ c .before .before .before .before .if2 .taken)) (c .before .before .before .if3 .taken) (omega (arith, c .before .if4 .taken, rp .stage)) (c .broken-line .ensures), (c .before .before .before .before .before .before .before .before .before .before .pre .initial, refl))
+returns c = λ st rp sane. skipped-early _ _ _ _ _ _ _ st _ (sym (sym (c .before .before .before .before .before .before .before .is-sound .ensures) ∙ c .before .before .before .before .before .before .if1 .taken)) (sym (sym (c .before .before .before .before .before .is-skipped .ensures) ∙ c .before .before .before .before .if2 .taken)) (c .before .before .before .if3 .taken) (omega (arith, c .before .if4 .taken, rp .stage)) (c .broken-line .ensures)
 
 returns-2 : tie.Need-returns-2
-returns-2 c = (λ st rp sane. skipped-good _ _ _ _ _ _ _ st _ (sym (sym (c .before .before .before .before .before .before .is-sound .ensures) ∙ c .before .before .before .before .before .if1 .taken)) (sym (sym (c .before .before .before .before .is-skipped .ensures) ∙ c .before .before .before .if2 .taken)) (ends-late (c .before .before .before .before .before .before .before .before .before .args .last) _ (st .stage) (rp .stage) (c .if4 .left)) (c .before .before .before .before .before .before .before .before .before .pre .fine) rp, (c .before .before .before .before .before .before .before .before .before .pre .initial, refl))
+returns-2 c = λ st rp sane. skipped-good _ _ _ _ _ _ _ st _ (sym (sym (c .before .before .before .before .before .before .is-sound .ensures) ∙ c .before .before .before .before .before .if1 .taken)) (sym (sym (c .before .before .before .before .is-skipped .ensures) ∙ c .before .before .before .if2 .taken)) (ends-late (c .before .before .before .before .before .before .before .before .before .args .last) _ (st .stage) (rp .stage) (c .if4 .left)) (c .before .before .before .before .before .before .before .before .before .pre .fine) rp
 
 returns-3 : tie.Need-returns-3
-returns-3 c = (λ st rp sane. skipped-good _ _ _ _ _ _ _ st _ (sym (sym (c .before .before .before .before .is-sound .ensures) ∙ c .before .before .before .if1 .taken)) (sym (sym (c .before .before .is-skipped .ensures) ∙ c .before .if2 .taken)) (ends-open (c .before .before .before .before .before .before .before .args .last) (st .stage) (c .if3 .left)) (c .before .before .before .before .before .before .before .pre .fine) rp, (c .before .before .before .before .before .before .before .pre .initial, refl))
+returns-3 c = λ st rp sane. skipped-good _ _ _ _ _ _ _ st _ (sym (sym (c .before .before .before .before .is-sound .ensures) ∙ c .before .before .before .if1 .taken)) (sym (sym (c .before .before .is-skipped .ensures) ∙ c .before .if2 .taken)) (ends-open (c .before .before .before .before .before .before .before .args .last) (st .stage) (c .if3 .left)) (c .before .before .before .before .before .before .before .pre .fine) rp
 
 spoken-line-requires : tie.Need-spoken-line-requires
 spoken-line-requires c κs = search needs
@@ -40,13 +40,13 @@ same-length-2 : tie.Need-same-length-2
 same-length-2 c = search needs
 
 returns-4 : tie.Need-returns-4
-returns-4 c = (λ st rp sane. c .before .before .before .spoken-line .ensures .0 (sym (sym (c .before .before .before .before .before .before .before .before .before .before .before .is-sound .ensures) ∙ c .before .before .before .before .before .before .before .before .before .before .if1 .taken)) (sym (sym (c .before .before .before .before .before .before .before .before .before .is-skipped .ensures) ∙ c .before .before .before .before .before .before .before .before .if2 .left)) st rp sane, c .before .before .before .spoken-line .ensures .1)
+returns-4 c = λ st rp sane. c .before .before .before .spoken-line .ensures (sym (sym (c .before .before .before .before .before .before .before .before .before .before .before .is-sound .ensures) ∙ c .before .before .before .before .before .before .before .before .before .before .if1 .taken)) (sym (sym (c .before .before .before .before .before .before .before .before .before .is-skipped .ensures) ∙ c .before .before .before .before .before .before .before .before .if2 .left)) st rp sane
 
 broken-line-requires-2 : tie.Need-broken-line-requires-2
 broken-line-requires-2 c κs = search needs
 
 returns-5 : tie.Need-returns-5
-returns-5 c = (λ st rp sane. bad-bytes _ _ _ _ _ _ _ st _ (sym (sym (c .before .before .is-sound .ensures) ∙ c .before .if1 .left)) (c .broken-line2 .ensures), (c .before .before .before .before .before .pre .initial, refl))
+returns-5 c = λ st rp sane. bad-bytes _ _ _ _ _ _ _ st _ (sym (sym (c .before .before .is-sound .ensures) ∙ c .before .if1 .left)) (c .broken-line2 .ensures)
 
 pub judge-line-spec : {M : Type 1} → statement M
 judge-line-spec =

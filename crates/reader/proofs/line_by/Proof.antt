@@ -86,52 +86,52 @@ close-line-requires : tie.Need-close-line-requires
 close-line-requires c κs = search needs
 
 returns : tie.Need-returns
-returns c = (by-broken _ _ _ _ _ _ _ _ _ _ _ _ _ (c .before .enum-told .given .1) (c .broken-line .ensures), (c .before .before .before .before .before .pre .0 .initial, refl))
+returns c = by-broken _ _ _ _ _ _ _ _ _ _ _ _ _ (c .before .enum-told .given .1) (c .broken-line .ensures)
 
 returns-2 : tie.Need-returns-2
-returns-2 c = (by-integer _ _ _ _ _ _ _ _ _ _ _ _ _ (c .before .before .enum-told2 .given .1) (c .integer-line .ensures .0 _ _ _ _), (c .before .before .before .before .before .before .pre .0 .initial, refl))
+returns-2 c = by-integer _ _ _ _ _ _ _ _ _ _ _ _ _ (c .before .before .enum-told2 .given .1) (c .integer-line .ensures _ _ _ _)
 
 same-length : tie.Need-same-length
 same-length c = search needs
 
 returns-3 : tie.Need-returns-3
-returns-3 c = (by-data _ _ _ _ _ _ _ _ _ _ _ _ _ (c .before .before .before .before .enum-told3 .given .1) (c .before .data-line .ensures .0 _ _ _), (c .before .data-line .ensures .1 .1, refl))
+returns-3 c = by-data _ _ _ _ _ _ _ _ _ _ _ _ _ (c .before .before .before .before .enum-told3 .given .1) (c .before .data-line .ensures _ _ _)
 
 returns-4 : tie.Need-returns-4
-returns-4 c = (by-opening _ _ _ _ _ _ _ _ _ _ _ _ _ (c .before .before .enum-told4 .given .1) (c .directive-line .ensures .0 _ _ _ _), (c .before .before .before .before .before .before .pre .0 .initial, refl))
+returns-4 c = by-opening _ _ _ _ _ _ _ _ _ _ _ _ _ (c .before .before .enum-told4 .given .1) (c .directive-line .ensures _ _ _ _)
 
 returns-5 : tie.Need-returns-5
-returns-5 c = (by-loop _ _ _ _ _ _ _ _ _ _ _ _ _ (c .before .before .enum-told5 .given .1) (c .loop-line .ensures _ _ _ _), (c .before .before .before .before .before .before .pre .0 .initial, refl))
+returns-5 c = by-loop _ _ _ _ _ _ _ _ _ _ _ _ _ (c .before .before .enum-told5 .given .1) (c .loop-line .ensures _ _ _ _)
 
 same-length-2 : tie.Need-same-length-2
 same-length-2 c = search needs
 
 returns-6 : tie.Need-returns-6
-returns-6 c = (by-assignment _ _ _ _ _ _ _ _ _ _ _ _ _ (c .before .before .before .before .before .enum-told6 .given .1) (c .before .before .assign-line .ensures .0 _ _), (c .before .before .before .before .before .before .before .before .before .pre .0 .initial, c .before .before .assign-line .ensures .1 .1))
+returns-6 c = by-assignment _ _ _ _ _ _ _ _ _ _ _ _ _ (c .before .before .before .before .before .enum-told6 .given .1) (c .before .before .assign-line .ensures _ _)
 
 same-length-3 : tie.Need-same-length-3
 same-length-3 c = search needs
 
 returns-7 : tie.Need-returns-7
-returns-7 c = (by-if _ _ _ _ _ _ _ _ _ _ _ _ _ (c .before .before .before .before .before .before .enum-told7 .given .1) (c .before .before .if-line .ensures .0 _), (c .before .before .before .before .before .before .before .before .before .before .pre .0 .initial, c .before .before .if-line .ensures .1 .1))
+returns-7 c = by-if _ _ _ _ _ _ _ _ _ _ _ _ _ (c .before .before .before .before .before .before .enum-told7 .given .1) (c .before .before .if-line .ensures _)
 
 same-length-4 : tie.Need-same-length-4
 same-length-4 c = search needs
 
 returns-8 : tie.Need-returns-8
-returns-8 c = (by-else _ _ _ _ _ _ _ _ _ _ _ _ _ _ (c .before .before .before .before .before .before .k .given .1) (c .before .before .else-line .ensures .0 _ _ _), (c .before .before .before .before .before .before .before .before .before .before .pre .0 .initial, c .before .before .else-line .ensures .1 .1))
+returns-8 c = by-else _ _ _ _ _ _ _ _ _ _ _ _ _ _ (c .before .before .before .before .before .before .k .given .1) (c .before .before .else-line .ensures _ _ _)
 
 same-length-5 : tie.Need-same-length-5
 same-length-5 c = search needs
 
 returns-9 : tie.Need-returns-9
-returns-9 c = (by-end-if _ _ _ _ _ _ _ _ _ _ _ _ _ _ _ (c .before .before .before .before .before .before .k2 .given .1) (c .before .before .end-if-line .ensures .0 _ _ _ _), (c .before .before .before .before .before .before .before .before .before .before .pre .0 .initial, c .before .before .end-if-line .ensures .1 .1))
+returns-9 c = by-end-if _ _ _ _ _ _ _ _ _ _ _ _ _ _ _ (c .before .before .before .before .before .before .k2 .given .1) (c .before .before .end-if-line .ensures _ _ _ _)
 
 returns-10 : tie.Need-returns-10
-returns-10 c = (by-end-do _ _ _ _ _ _ _ _ _ _ _ _ _ _ _ (c .before .before .k3 .given .1) (c .end-do-line .ensures .0 _ _ _ _ _ _), (c .before .before .before .before .before .before .pre .0 .initial, refl))
+returns-10 c = by-end-do _ _ _ _ _ _ _ _ _ _ _ _ _ _ _ (c .before .before .k3 .given .1) (c .end-do-line .ensures _ _ _ _ _ _)
 
 returns-11 : tie.Need-returns-11
-returns-11 c = (by-closing _ _ _ _ _ _ _ _ _ _ _ _ _ (c .before .enum-told8 .given .1) (c .close-line .ensures .0 _ _ _ _ _), (c .before .before .before .before .before .pre .0 .initial, refl))
+returns-11 c = by-closing _ _ _ _ _ _ _ _ _ _ _ _ _ (c .before .enum-told8 .given .1) (c .close-line .ensures _ _ _ _ _)
 
 pub line-by-spec : {M : Type 1} → statement M
 line-by-spec =

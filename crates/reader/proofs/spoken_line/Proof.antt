@@ -28,7 +28,7 @@ broken-line-requires : tie.Need-broken-line-requires
 broken-line-requires c κs = search needs
 
 returns : tie.Need-returns
-returns c = (λ h g st rp sane. ends-early _ _ _ _ _ _ _ st _ h g _ (c .before .before .before .before .before .before .kind-of .ensures) (c .before .before .if2 .taken) (omega (arith, c .before .if3 .taken, c .before .before .before .before .before .stage-of .ensures .0)) (c .broken-line .ensures), (c .before .before .before .before .before .before .before .before .before .pre .initial, refl))
+returns c = λ h g st rp sane. ends-early _ _ _ _ _ _ _ st _ h g _ (c .before .before .before .before .before .before .kind-of .ensures) (c .before .before .if2 .taken) (omega (arith, c .before .if3 .taken, c .before .before .before .before .before .stage-of .ensures .0)) (c .broken-line .ensures)
 
 line-by-requires : tie.Need-line-by-requires
 line-by-requires c κs = search needs
@@ -40,13 +40,13 @@ same-length-2 : tie.Need-same-length-2
 same-length-2 c = search needs
 
 returns-2 : tie.Need-returns-2
-returns-2 c = (λ h g st rp sane. let fo = ((λ i. follows (sym (rp .stage) i) (sym (c .before .before .before .before .before .before .before .before .before .before .before .stage-of .ensures .0) i)) ∙ sym (c .before .before .before .before .before .before .before .before .before .before .is-next .ensures) ∙ c .before .before .before .before .before .before .before .before .before .if1 .taken) in judged-line _ _ _ _ _ _ _ st _ h g _ (c .before .before .before .before .before .before .before .before .before .before .before .before .kind-of .ensures) fo (ends-right (c .before .before .before .before .before .before .before .before .before .before .before .before .before .before .before .args .last) _ _ (c .before .before .before .before .before .before .before .before .before .before .before .stage-of .ensures .0) (elim (c .before .before .before .before .before .before .before .before .if2 .came) [ inl x ↦ inr (x .1 .left) | inr y ↦ inl (y .left) ])) (c .before .before .before .line-by .ensures .0 st rp sane fo _ (omega arith)), c .before .before .before .line-by .ensures .1)
+returns-2 c = λ h g st rp sane. let fo = ((λ i. follows (sym (rp .stage) i) (sym (c .before .before .before .before .before .before .before .before .before .before .before .stage-of .ensures .0) i)) ∙ sym (c .before .before .before .before .before .before .before .before .before .before .is-next .ensures) ∙ c .before .before .before .before .before .before .before .before .before .if1 .taken) in judged-line _ _ _ _ _ _ _ st _ h g _ (c .before .before .before .before .before .before .before .before .before .before .before .before .kind-of .ensures) fo (ends-right (c .before .before .before .before .before .before .before .before .before .before .before .before .before .before .before .args .last) _ _ (c .before .before .before .before .before .before .before .before .before .before .before .stage-of .ensures .0) (elim (c .before .before .before .before .before .before .before .before .if2 .came) [ inl x ↦ inr (x .1 .left) | inr y ↦ inl (y .left) ])) (c .before .before .before .line-by .ensures st rp sane fo _ (omega arith))
 
 broken-line-requires-2 : tie.Need-broken-line-requires-2
 broken-line-requires-2 c κs = search needs
 
 returns-3 : tie.Need-returns-3
-returns-3 c = (λ h g st rp sane. stands-not _ _ _ _ _ _ _ st _ h g _ (c .before .before .before .before .kind-of .ensures) (sym ((λ i. follows (sym (rp .stage) i) (sym (c .before .before .before .stage-of .ensures .0) i)) ∙ sym (c .before .before .is-next .ensures) ∙ c .before .if1 .left)) (c .broken-line2 .ensures), (c .before .before .before .before .before .before .before .pre .initial, refl))
+returns-3 c = λ h g st rp sane. stands-not _ _ _ _ _ _ _ st _ h g _ (c .before .before .before .before .kind-of .ensures) (sym ((λ i. follows (sym (rp .stage) i) (sym (c .before .before .before .stage-of .ensures .0) i)) ∙ sym (c .before .before .is-next .ensures) ∙ c .before .if1 .left)) (c .broken-line2 .ensures)
 
 pub spoken-line-spec : {M : Type 1} → statement M
 spoken-line-spec =
