@@ -1,12 +1,12 @@
 -- Document 01, Services and answers: "Returned: number, line, value of v", for each answer.
 use lib.IntN.{pos}
-use Rattle.services.specs.declared.Checked.{Checked}
-use Rattle.services.specs.declared.Checked.the-variants.{Sizes, Refused}
-use Rattle.services.specs.declared.Completed.{Completed}
-use Rattle.services.specs.declared.Completed.the-variants.{Done, Refused as Rejected}
+use Rattle.answers.specs.declared.Checked.{Checked}
+use Rattle.answers.specs.declared.Checked.the-variants.{Sizes, Refused}
+use Rattle.answers.specs.declared.Completed.{Completed}
+use Rattle.answers.specs.declared.Completed.the-variants.{Done, Refused as Rejected}
 use Rattle.exports.specs.declared.CheckAnswer.{CheckAnswer}
-use Rattle.services.specs.declared.Ran.{Ran}
-use Rattle.services.specs.declared.Ran.the-variants.{Passed, Rerun, Faulted, Refused as Unfit}
+use Rattle.answers.specs.declared.Ran.{Ran}
+use Rattle.answers.specs.declared.Ran.the-variants.{Passed, Rerun, Faulted, Refused as Unfit}
 use Rattle.exports.specs.declared.DoneAnswer.{DoneAnswer}
 use Rattle.exports.specs.declared.RunAnswer.{RunAnswer}
 

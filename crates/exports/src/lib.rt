@@ -3,11 +3,11 @@
 ghost use mathlib.Core.Path.{_≡_};
 ghost use lib.ListN.{length};
 ghost use Rattle.syntax.specs.Text.{read};
-ghost use Rattle.services.specs.Answers.{checkOf, loadOf, cellsLoaded, lookOf, viewShown, lookWorkspace, runOf, cellsRun, runWorkspace};
+ghost use Rattle.answers.specs.Answers.{checkOf, loadOf, cellsLoaded, lookOf, viewShown, lookWorkspace, runOf, cellsRun, runWorkspace};
 ghost use Rattle.exports.specs.Numbers.{checkNumbers, doneNumbers, runNumbers};
-use services::Checked;
-use services::Completed;
-use services::Ran;
+use answers::Checked;
+use answers::Completed;
+use answers::Ran;
 
 // Check's answer: a refusal's number (0: none), line and v; N and P (0 after a refusal).
 #[repr(C)]
@@ -42,7 +42,7 @@ pub struct RunAnswer {
 pub extern "C" fn lrpd_check(text: &[u8]) -> CheckAnswer
     ensures { λ r. ⌜ r ≡ checkNumbers (checkOf (read (now (text .entry)))) ⌝ }
 {
-    let r = services::check(text);
+    let r = checking::check(text);
     match r {
         Checked::Sizes { cells, processors } => CheckAnswer {
             number: 0,
@@ -84,7 +84,7 @@ pub extern "C" fn lrpd_load(text: &[u8], cells: &mut [i32]) -> DoneAnswer
     ensures { λ r. ⌜ r ≡ doneNumbers (loadOf (read (now (text .entry))) (length (now (cells .entry)))) ⌝ }
     ensures { λ _. ⌜ now (cells .exit) ≡ cellsLoaded (read (now (text .entry))) (now (cells .entry)) ⌝ }
 {
-    let r = services::load(text, cells);
+    let r = checking::load(text, cells);
     done_answer(r)
 }
 
@@ -100,7 +100,7 @@ pub extern "C" fn lrpd_look(
     ensures { λ _. ⌜ now (view .exit) ≡ viewShown (read (now (text .entry))) (now (cells .entry)) (length (now (workspace .entry))) (now (schedule .entry)) (now (view .entry)) ⌝ }
     ensures { λ _. ⌜ now (workspace .exit) ≡ lookWorkspace (read (now (text .entry))) (now (cells .entry)) (now (workspace .entry)) (now (schedule .entry)) (length (now (view .entry))) ⌝ }
 {
-    let r = services::look(text, cells, workspace, schedule, view);
+    let r = looking::look(text, cells, workspace, schedule, view);
     done_answer(r)
 }
 
@@ -159,6 +159,6 @@ pub extern "C" fn lrpd_run(
     ensures { λ _. ⌜ now (cells .exit) ≡ cellsRun (read (now (text .entry))) (now (cells .entry)) (length (now (workspace .entry))) (now (schedule .entry)) ⌝ }
     ensures { λ _. ⌜ now (workspace .exit) ≡ runWorkspace (read (now (text .entry))) (now (cells .entry)) (now (workspace .entry)) (now (schedule .entry)) ⌝ }
 {
-    let r = services::run(text, cells, workspace, schedule);
+    let r = running::run(text, cells, workspace, schedule);
     run_answer(r)
 }

@@ -15,11 +15,11 @@ use Rattle.syntax.proofs.Sane.{accepted-sane}
 use Rattle.syntax.proofs.Table.{laid-at}
 use Rattle.reader.specs.declared.Reading.{Reading}
 use Rattle.reader.specs.Judged.{Reads}
-use Rattle.services.specs.Answers.{needed, taken, runNumber, answered, settles, checkOf, cellsLoaded, runOf, cellsRun}
-use Rattle.services.specs.declared.Checked.{Checked}
-use Rattle.services.specs.declared.Checked.the-variants.{Sizes, Refused as Rejected}
-use Rattle.services.specs.declared.Ran.{Ran}
-use Rattle.services.specs.declared.Ran.the-variants.{Refused}
+use Rattle.answers.specs.Answers.{needed, taken, runNumber, answered, settles, checkOf, cellsLoaded, runOf, cellsRun}
+use Rattle.answers.specs.declared.Checked.{Checked}
+use Rattle.answers.specs.declared.Checked.the-variants.{Sizes, Refused as Rejected}
+use Rattle.answers.specs.declared.Ran.{Ran}
+use Rattle.answers.specs.declared.Ran.the-variants.{Refused}
 use Rattle.printing.specs.Printed.{report}
 use Rattle.printing.specs.Written.{Holds, Completes, Reports}
 use Rattle.printing.proofs.Lines.{cells-take, cells-part}

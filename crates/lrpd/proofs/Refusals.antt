@@ -12,9 +12,9 @@ use lib.IntN.{ℤ, pos}
 use Rattle.syntax.specs.Bytes.{bytes}
 use Rattle.syntax.specs.Known.{State, cells}
 use Rattle.syntax.specs.Text.{refused, good, loaded}
-use Rattle.services.specs.Answers.{needed, taken, answered, settles, checkOf, cellsLoaded, runOf, cellsRun}
-use Rattle.services.specs.declared.Ran.{Ran}
-use Rattle.services.specs.declared.Ran.the-variants.{Refused}
+use Rattle.answers.specs.Answers.{needed, taken, answered, settles, checkOf, cellsLoaded, runOf, cellsRun}
+use Rattle.answers.specs.declared.Ran.{Ran}
+use Rattle.answers.specs.declared.Ran.the-variants.{Refused}
 use Rattle.printing.specs.Printed.{digits, signed, newline, comment, report}
 use Rattle.lrpd.specs.Output.{printedOver, printed}
 

@@ -6,9 +6,9 @@ use lib.ListN.{length, take, replicate}
 use lib.IntN.{ℤ, pos}
 use Rattle.syntax.specs.Known.{Entry}
 use Rattle.syntax.specs.Text.{Verdict, refused, good}
-use Rattle.services.specs.Answers.{checkOf, cellsLoaded, runOf, cellsRun}
-use Rattle.services.specs.declared.Checked.{Checked}
-use Rattle.services.specs.declared.Checked.the-variants.{Sizes, Refused}
+use Rattle.answers.specs.Answers.{checkOf, cellsLoaded, runOf, cellsRun}
+use Rattle.answers.specs.declared.Checked.{Checked}
+use Rattle.answers.specs.declared.Checked.the-variants.{Sizes, Refused}
 use Rattle.printing.specs.Printed.{report}
 
 -- "lends 128 cells (the first N if N is less)"

@@ -5,7 +5,7 @@ ghost use Prim.Native.Nat.{_≤_};
 ghost use lib.ListN.{length};
 ghost use Rattle.syntax.specs.Text.{read};
 ghost use Rattle.lrpd.specs.Output.{lentFor, printedOver, printed, Prints};
-use services::Checked;
+use answers::Checked;
 
 // How many cells are lent.
 fn lent(answer: Checked) -> usize
@@ -25,9 +25,9 @@ fn print_over(text: &[u8], cells: &mut [i32], out: &mut [u8; 2236]) -> usize
     requires { ⌜ (length (now out) ≡ 2236) × (length (now cells) ≤ 128) ⌝ }
     ensures { λ r. ⌜ Prints (printedOver (read (now (text .entry))) (now (cells .entry))) (now (out .exit)) r ⌝ }
 {
-    services::load(text, cells);
+    checking::load(text, cells);
     let mut workspace: [u32; 11520] = [0; 11520];
-    let answer = services::run(text, cells, &mut workspace, b"");
+    let answer = running::run(text, cells, &mut workspace, b"");
     let mut table = [0; 613];
     let mut initial: [i32; 4096] = [0; 4096];
     let mut code = [0; 8194];
@@ -39,7 +39,7 @@ fn print(text: &[u8], out: &mut [u8; 2236]) -> usize
     requires { ⌜ length (now out) ≡ 2236 ⌝ }
     ensures { λ r. ⌜ Prints (printed (read (now (text .entry)))) (now (out .exit)) r ⌝ }
 {
-    let n = lent(services::check(text));
+    let n = lent(checking::check(text));
     let mut cells: [i32; 128] = [0; 128];
     print_over(text, &mut cells[..n], out)
 }

@@ -9,7 +9,7 @@ use lib.IntN.{ℤ, pos, negsuc}
 use Rattle.rules.specs.Loop.{shared}
 use Rattle.syntax.specs.Bytes.{bytes}
 use Rattle.syntax.specs.Known.{Entry}
-use Rattle.services.specs.declared.Ran.the-variants.{Passed, Faulted}
+use Rattle.answers.specs.declared.Ran.the-variants.{Passed, Faulted}
 use Rattle.printing.specs.Printed.{digits, signed, newline, comment, values, later, data-lines, report}
 
 abbrev entry : String → ℕ → Entry

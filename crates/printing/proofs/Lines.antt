@@ -12,8 +12,8 @@ use Rattle.rules.proofs.CellsLaws.{listed-length, listed-at}
 use Rattle.names.specs.Table.{wordAt, nameAt, Tabled}
 use Rattle.syntax.specs.Bytes.{bytes}
 use Rattle.syntax.specs.Known.{Entry, nowhere, cells}
-use Rattle.services.specs.declared.Ran.{Ran}
-use Rattle.services.specs.declared.Ran.the-variants.{Passed, Rerun, Faulted, Refused}
+use Rattle.answers.specs.declared.Ran.{Ran}
+use Rattle.answers.specs.declared.Ran.the-variants.{Passed, Rerun, Faulted, Refused}
 use Rattle.printing.specs.Printed.{newline, comment, values, data-line, data-lines, report}
 use Rattle.printing.specs.Written.{Writes, Named, Holds, lineAt, Completes, Reports}
 use Rattle.printing.proofs.Writing.{writes-none, writes-one, writes-then, writes-as, writes-up-to, values-few, comment-few}

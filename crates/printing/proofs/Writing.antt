@@ -16,8 +16,8 @@ use mir.Val.{SFits, toZ, ofZ}
 use mir.ValLaws.{toZ-ofZ}
 use Rattle.int32.specs.Integers.{word}
 use Rattle.syntax.specs.Bytes.{bytes}
-use Rattle.services.specs.declared.Ran.{Ran}
-use Rattle.services.specs.declared.Ran.the-variants.{Passed, Rerun, Faulted, Refused}
+use Rattle.answers.specs.declared.Ran.{Ran}
+use Rattle.answers.specs.declared.Ran.the-variants.{Passed, Rerun, Faulted, Refused}
 use Rattle.printing.specs.Printed.{digits, decimal, signed, counted, refusal, comment, values, later}
 use Rattle.printing.specs.Written.{Writes, valueAt}
 

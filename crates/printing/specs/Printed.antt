@@ -7,8 +7,8 @@ use lib.ListN.{take, drop}
 use lib.IntN.{ℤ, pos, negsuc}
 use Rattle.syntax.specs.Bytes.{bytes}
 use Rattle.syntax.specs.Known.{Entry}
-use Rattle.services.specs.declared.Ran.{Ran}
-use Rattle.services.specs.declared.Ran.the-variants.{Passed, Rerun, Faulted, Refused}
+use Rattle.answers.specs.declared.Ran.{Ran}
+use Rattle.answers.specs.declared.Ran.the-variants.{Passed, Rerun, Faulted, Refused}
 
 -- ---- numbers
 

@@ -7,8 +7,8 @@ use lib.Seq.{sets}
 use lib.IntN.{ℤ}
 use Rattle.syntax.specs.Known.{Entry, nowhere, cells}
 use Rattle.names.specs.Table.{wordAt, nameAt, Tabled}
-use Rattle.services.specs.declared.Ran.{Ran}
-use Rattle.services.specs.declared.Ran.the-variants.{Passed, Rerun, Faulted, Refused}
+use Rattle.answers.specs.declared.Ran.{Ran}
+use Rattle.answers.specs.declared.Ran.the-variants.{Passed, Rerun, Faulted, Refused}
 use Rattle.syntax.specs.Bytes.{bytes}
 use Rattle.printing.specs.Printed.{signed, data-line, report}
 

@@ -8,7 +8,7 @@ ghost use Rattle.names.specs.Table.{wordAt, nameAt, Tabled};
 ghost use Rattle.syntax.specs.Known.{Entry};
 ghost use Rattle.printing.specs.Printed.{digits, signed, counted, refusal, comment, values, data-lines};
 ghost use Rattle.printing.specs.Written.{Writes, Named, Holds, valueAt, lineAt, Completes, Reports};
-use services::Ran;
+use answers::Ran;
 
 // ---- bytes and numbers
 

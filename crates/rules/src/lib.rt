@@ -1,14 +1,31 @@
 // The rules of a loop run (document 01, Steps). What a run is stands in specs/, the theorem that order decides nothing in
-// proofs/Theorem.antt; the code here deals the iterations out to the processors.
+// proofs/Theorem.antt; the code here has the numbers of iterations, groups and processors, and deals the iterations out.
 ghost use mathlib.Core.Path.{_≡_};
 ghost use Prim.Native.Nat.{_≤_, _<_};
-ghost use Rattle.rules.specs.Blocks.{blockStart};
+ghost use Rattle.rules.specs.Blocks.{blockStart, single};
 
 // The index of an iteration, from 0. It is never used for a processor's number.
 pub struct Iteration(pub u32);
 
+// The number of a group of neighbouring iterations, by which own writes, marks and obstacles go. It is never used for an iteration or a processor.
+pub struct Group(pub u32);
+
 // The number of a processor, from 0. It is never used for an iteration's index.
 pub struct Processor(pub u32);
+
+// The group of an iteration: each is a group of its own.
+pub fn group_of(i: Iteration) -> Group
+    ensures { λ r. ⌜ r .0 ≡ single (i .0) ⌝ }
+{
+    Group(i.0)
+}
+
+// A processor's place among the records.
+pub fn index_of(p: Processor) -> usize
+    ensures { λ r. ⌜ r ≡ p .0 ⌝ }
+{
+    p.0 as usize
+}
 
 // The first iteration of processor p, of so many iterations and processors. The one after the last processor stands for the end.
 pub fn block_start(iterations: u32, processors: u32, p: Processor) -> Iteration

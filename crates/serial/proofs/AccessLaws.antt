@@ -20,12 +20,12 @@ use Rattle.rules.proofs.TrialRun.{home}
 use Rattle.shadow.proofs.Change.{turn-cons}
 use Rattle.shadow.proofs.Counts.{inside-cons}
 use Rattle.shadow.proofs.Shows.{worker}
-use Rattle.tables.specs.Layout.{row-at, own-at}
-use Rattle.tables.specs.Changes.{Ready, read-noted, counted, written, updated}
 use Rattle.tables.proofs.Logged.{Logged, logged-read, logged-write, logged-update, logged-ready}
+use Rattle.stepping.specs.declared.Role.{Role}
+use Rattle.stepping.specs.Access.{Accessible, seen-by, stored-by, added-by, seen, read-words, stored, written-words, added, updated-words}
 use Rattle.trial.specs.Standing.{dealt}
-use Rattle.serial.specs.Serving.{Serially, Serves}
 use Rattle.trial.proofs.AccessLaws.{listed-set}
+use Rattle.serial.proofs.Serving.{alone, Serially, Serves}
 
 -- the one processor has all iterations
 owned : (l : Loop) (i : ℕ) (M : List ℤ) (W : List ℕ) (m : ℕ → ℤ) (g : Log) → Serially l i M W m g → (j : ℕ) → j < l .iterations → worker l (dealt l 1) j ≡ 0
@@ -34,12 +34,12 @@ owned l i M W m g h j b =
     let p = h .suits .proper in
     home l (dealt l 1) p 0 j (omega (arith, bound-first l (dealt l 1) p)) (omega (arith, bound-last l (dealt l 1) p 1 (omega arith))) .owned
 
-module _ (l : Loop) (i c : ℕ) (M : List ℤ) (W : List ℕ) (m : ℕ → ℤ) (g : Log) (s : Serves l i c M W m g) where
+module _ (l : Loop) (i c : ℕ) (M : List ℤ) (W : List ℕ) (m : ℕ → ℤ) (g : Log) (s : Serves l i c M W m g) (v : ℤ) where
   abbrev δ : Partition
   δ = dealt l 1
 
-  abbrev row : ℕ
-  row = row-at 1 c
+  abbrev x : Role
+  x = alone v (l .iterations)
 
   mine : worker l δ i ≡ 0
   mine = owned l i M W m g (s .stands) i (s .low)
@@ -47,47 +47,54 @@ module _ (l : Loop) (i c : ℕ) (M : List ℤ) (W : List ℕ) (m : ℕ → ℤ) 
   low : worker l δ i < 1
   low = omega (arith, mine)
 
-  pub serves-ready : Ready W row (own-at row 0)
+  pub serves-accessible : Accessible x M W c
   unfolding singles
-  serves-ready =
+  serves-accessible =
       let t = s .stands in
       let u = t .suits in
-      logged-ready l δ g W (t .words) (u .proper) (t .inside) (t .ascending) (u .cells-most) (u .iterations-most) (u .iterations-most) c 0 (s .inside) (omega arith)
+      record {
+        few = omega arith;
+        low = omega (arith, s .inside, u .cells-most);
+        inside = omega (arith, s .inside, ap length (t .cells), listed-length (l .size) m);
+        ready = logged-ready l δ g W (t .words) (u .proper) (t .inside) (t .ascending) (u .cells-most) (u .iterations-most) (u .iterations-most) c 0 (s .inside) (omega arith);
+      }
 
-  pub serves-limits : (c < 4096) × (i < 65535) × (c < length M)
-  serves-limits =
-      let u = s .stands .suits in
-      (omega (arith, s .inside, u .cells-most), omega (arith, s .low, u .iterations-most), omega (arith, s .inside, ap length (s .stands .cells), listed-length (l .size) m))
+  stands-as : cellOf M c ≡ m c
+  stands-as = ap (λ (y : List ℤ). cellOf y c) (s .stands .cells) ∙ cell-listed (l .size) m c (s .inside)
 
-  pub serves-seen : cellOf M c ≡ m c
-  serves-seen = ap (λ (x : List ℤ). cellOf x c) (s .stands .cells) ∙ cell-listed (l .size) m c (s .inside)
+  -- "A read gives the cell as it now stands, whatever its clause"
+  pub serves-seen : seen x i M W c ≡ m c
+  unfolding seen-by
+  serves-seen = stands-as
 
   -- one access more
-  more : (k : Kind) (x : ℤ) (M′ : List ℤ) (W′ : List ℕ) (m′ : ℕ → ℤ) → M′ ≡ listed (l .size) m′ → Logged l δ (access k i c x ∷ g) W′ → Serially l i M′ W′ m′ (access k i c x ∷ g)
-  more k x M′ W′ m′ e w = record {
+  more : (k : Kind) (y : ℤ) (M′ : List ℤ) (W′ : List ℕ) (m′ : ℕ → ℤ) → M′ ≡ listed (l .size) m′ → Logged l δ (access k i c y ∷ g) W′ → Serially l i M′ W′ m′ (access k i c y ∷ g)
+  more k y M′ W′ m′ e w = record {
     suits = s .stands .suits;
     cells = e;
     words = w;
     inside = inside-cons (s .low) (s .inside) (s .stands .inside);
     ascending = turn-cons (λ j e b. s .stands .upto j b) (s .stands .ascending);
-    upto = λ j b. only-other (λ n. n) (access k i c x) (omega (arith, b)) g ∙ s .stands .upto j b;
+    upto = λ j b. only-other (λ n. n) (access k i c y) (omega (arith, b)) g ∙ s .stands .upto j b;
   }
 
-  pub serves-read : (x : ℤ) → Serially l i M (read-noted W row (own-at row 0) i) m (access reads i c x ∷ g)
+  pub serves-read : (y : ℤ) → Serially l i M (read-words x i W c) m (access reads i c y ∷ g)
   unfolding singles
-  serves-read x = more reads x M _ m (s .stands .cells) (logged-read l δ (s .stands .suits .plus) (s .stands .suits .nought) g W (s .stands .words) 0 i c mine (s .inside) low x)
+  serves-read y = more reads y M _ m (s .stands .cells) (logged-read l δ (s .stands .suits .plus) (s .stands .suits .nought) g W (s .stands .words) 0 i c mine (s .inside) low y)
 
-  pub serves-write : (x : ℤ) → SFits w32 x → Serially l i (set M c x) (written (counted W row (own-at row 0) i) row (own-at row 0) i x) (put m c x) (access writes i c x ∷ g)
-  unfolding singles
-  serves-write x f = more writes x (set M c x) _ (put m c x) (ap (λ (y : List ℤ). set y c x) (s .stands .cells) ∙ listed-set (l .size) m c x (s .inside)) (logged-write l δ (s .stands .suits .plus) (s .stands .suits .nought) g W (s .stands .words) 0 i c mine (s .inside) low x f)
+  -- "a write stores in place"
+  pub serves-write : (y : ℤ) → SFits w32 y → Serially l i (stored x M W c y) (written-words x i W c y) (put m c y) (access writes i c y ∷ g)
+  unfolding singles stored-by
+  serves-write y f = more writes y (set M c y) _ (put m c y) (ap (λ (n : List ℤ). set n c y) (s .stands .cells) ∙ listed-set (l .size) m c y (s .inside)) (logged-write l δ (s .stands .suits .plus) (s .stands .suits .nought) g W (s .stands .words) 0 i c mine (s .inside) low y f)
 
-  pub serves-update : (x : ℤ) → Serially l i (set M c (sum (cellOf M c) x)) (updated (counted W row (own-at row 0) i) row (own-at row 0) x) (put m c (l .plus (m c) x)) (access updates i c x ∷ g)
-  unfolding singles
-  serves-update x =
-      let e : sum (cellOf M c) x ≡ l .plus (m c) x = ap (λ (y : ℤ). sum y x) serves-seen ∙ sym (ap (λ (f : ℤ → ℤ → ℤ). f (m c) x) (s .stands .suits .plus)) in
-      more updates x (set M c (sum (cellOf M c) x)) _ (put m c (l .plus (m c) x))
-      (ap (λ (y : ℤ). set M c y) e ∙ ap (λ (y : List ℤ). set y c (l .plus (m c) x)) (s .stands .cells) ∙ listed-set (l .size) m c (l .plus (m c) x) (s .inside))
-      (logged-update l δ (s .stands .suits .plus) (s .stands .suits .nought) g W (s .stands .words) 0 i c mine (s .inside) low x)
+  -- "an update adds its remainder to the cell"
+  pub serves-update : (y : ℤ) → Serially l i (added x M c y) (updated-words x i W c y) (put m c (l .plus (m c) y)) (access updates i c y ∷ g)
+  unfolding singles added-by
+  serves-update y =
+      let e : sum (cellOf M c) y ≡ l .plus (m c) y = ap (λ (n : ℤ). sum n y) stands-as ∙ sym (ap (λ (f : ℤ → ℤ → ℤ). f (m c) y) (s .stands .suits .plus)) in
+      more updates y (set M c (sum (cellOf M c) y)) _ (put m c (l .plus (m c) y))
+      (ap (λ (n : ℤ). set M c n) e ∙ ap (λ (n : List ℤ). set n c (l .plus (m c) y)) (s .stands .cells) ∙ listed-set (l .size) m c (l .plus (m c) y) (s .inside))
+      (logged-update l δ (s .stands .suits .plus) (s .stands .suits .nought) g W (s .stands .words) 0 i c mine (s .inside) low y)
 
 -- the next iteration
 pub serially-next : (l : Loop) (i j : ℕ) (M : List ℤ) (W : List ℕ) (m : ℕ → ℤ) (g : Log) → i ≤ j → Serially l i M W m g → Serially l j M W m g

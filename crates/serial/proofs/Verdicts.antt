@@ -5,7 +5,6 @@ use mathlib.Core.Bool.{Bool, true, false}
 use mathlib.Core.List.{List}
 use Prim.Native.Nat.{ℕ}
 use native.Mathlib.Omega.{arith}
-use lib.ListN.{getD}
 use lib.IntN.{ℤ}
 use Rattle.rules.specs.ChooseLaws.{pick-same, pick-other}
 use Rattle.rules.specs.Cells.{listed}
@@ -16,7 +15,8 @@ use Rattle.rules.specs.Merge.{merged, pairs, written-cells}
 use Rattle.rules.specs.Serial.{finished, failed, serial}
 use Rattle.rules.specs.Steps.{State, start, steps, trial, Faulty}
 use Rattle.rules.specs.Answer.{viewed, look, passed, rerun, faulted, TrialPasses, trial-passes?, again, run-by, run}
-use Rattle.trial.specs.declared.Point.{Point}
+use Rattle.tables.specs.Layout.{pairs-word, cells-word}
+use Rattle.stepping.specs.declared.Point.{Point}
 use Rattle.serial.specs.Serving.{outcome-of, IsSerial}
 
 -- ---- Look
@@ -58,7 +58,7 @@ module _ (l : Loop) (δ : Partition) (ps : List ℕ) where
 
 -- what it then answers, by the point that the serial run ends at
 module _ (l : Loop) (M : List ℤ) (W : List ℕ) (t : Point) (h : IsSerial l M W t) where
-  pub again-rerun : t .fault ≡ 0 → again l (serial l .outcome) ≡ record { answer = rerun (getD W 0 0) (getD W 1 0); cells = M }
+  pub again-rerun : t .fault ≡ 0 → again l (serial l .outcome) ≡ record { answer = rerun (pairs-word W) (cells-word W); cells = M }
   unfolding again outcome-of
   again-rerun e = ap (again l) (sym (h .outcome) ∙ pick-same e finished (failed (t .fault) (t .line) (t .iteration .0))) ∙ rw (h .pairs, h .written, h .cells)
 

@@ -10,7 +10,7 @@ use mir.Syntax.{w32}
 use mir.Val.{SFits}
 use lib.ListN.{getD}
 use lib.IntN.{ℤ}
-use Rattle.int32.specs.Integers.{word, value, sum}
+use Rattle.int32.specs.Integers.{value, sum}
 use Rattle.int32.proofs.Laws.{value-word, sum-fits}
 use Rattle.rules.specs.Choose.{pick}
 use Rattle.rules.specs.ChooseLaws.{pick-same, pick-other}

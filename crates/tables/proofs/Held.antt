@@ -4,7 +4,7 @@ use mathlib.Core.Logic.{_⊎_, inl, inr}
 use mathlib.Core.Bool.{Bool}
 use mathlib.Core.List.{List}
 use Prim.Native.Nat.{ℕ, _+_, _*_, _≤_, _<_}
-use native.Mathlib.Nat.{mul-le-mul-right, suc-mul}
+use native.Mathlib.Nat.{mul-le-mul, mul-le-mul-right, suc-mul}
 use native.Mathlib.Decide.{ℕ-discrete, decLt}
 use native.Mathlib.Omega.{arith}
 use lib.ListN.{length, getD}
@@ -21,6 +21,13 @@ use Rattle.tables.specs.Layout.{row-at, own-at, flags-of, OwnHeld, RowHe
 -- a row ends where the next begins, or before
 pub rows-apart : (p c d : ℕ) → c < d → row-at p c + (4 + 5 * p) ≤ row-at p d
 rows-apart p c d h = omega (arith, suc-mul c (4 + 5 * p), mul-le-mul-right (4 + 5 * p) h)
+
+-- and begins at a small number
+pub row-small : (p c : ℕ) → c ≤ 4096 → p ≤ 8 → row-at p c < 4294967296
+row-small p c b h =
+    let y : 4 + 5 * p ≤ 44 = omega arith in
+    let m : c * (4 + 5 * p) ≤ 4096 * 44 = mul-le-mul b y in
+    omega arith
 
 -- k is not in the part from a up to b
 abbrev pub Outside : ℕ → ℕ → ℕ → Type 0

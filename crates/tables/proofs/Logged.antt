@@ -1,39 +1,29 @@
--- The words stand for the tables of a log: how they get there access by access, and what is then read off them, as document 01 words it. This is what
--- a trial over these words cites.
+-- The words stand for the tables of a log: how they get there access by access, and what an access then reads of them. This is what a step over these words
+-- cites.
 use mathlib.Core.Path.{_≡_, sym, _∙_, ap, subst}
-use mathlib.Core.Logic.{_↔_}
-use mathlib.Core.Bool.{Bool, true, false}
 use mathlib.Core.List.{List, [], _∷_}
 use mathlib.Core.Option.{Option, Option·getD}
-use Prim.Native.Nat.{ℕ, _+_, _/_, _≤_, _<_}
-use native.Mathlib.Omega.{arith}
+use Prim.Native.Nat.{ℕ, _/_, _≤_, _<_}
 use mir.Syntax.{w32}
 use mir.Val.{SFits}
-use lib.ListN.{getD}
 use lib.IntN.{ℤ, pos}
-use Rattle.int32.specs.Integers.{value, sum}
-use Rattle.rules.specs.Choose.{pick}
-use Rattle.rules.specs.Loop.{Class, Loop, Partition}
+use Rattle.int32.specs.Integers.{sum}
+use Rattle.rules.specs.Loop.{Loop, Partition}
 use Rattle.rules.specs.Log.{reads, writes, updates, Access, access, Log, only}
-use Rattle.rules.specs.Marks.{marks}
-use Rattle.rules.specs.Obstacles.{ObstacleAt}
-use Rattle.rules.specs.Steps.{State, latest}
-use Rattle.rules.specs.Merge.{pairs, written-cells}
+use Rattle.rules.specs.Steps.{latest}
 use Rattle.rules.specs.Proper.{Proper}
 use Rattle.rules.proofs.TrialRun.{whose}
 use Rattle.shadow.specs.Tables.{tables, note}
 use Rattle.shadow.proofs.Change.{Latest}
 use Rattle.shadow.proofs.Counts.{Inside}
-use Rattle.shadow.proofs.Shows.{worker, table, Ascending, Shows, merged-right}
+use Rattle.shadow.proofs.Shows.{worker, table, Ascending, Shows}
 use Rattle.shadow.proofs.Bounds.{tables-bounded}
-use Rattle.tables.specs.Layout.{row-at, own-at, class-number, bit, flags-of, Holds}
-use Rattle.tables.specs.Changes.{Ready, read-noted, counted, written, updated, marks-read, blocked}
-use Rattle.tables.proofs.Accesses.{holds-read, holds-write, holds-update}
+use Rattle.tables.specs.Layout.{row-at, own-at, class-number, class-word, Holds}
+use Rattle.tables.specs.Changes.{Ready, read-noted, counted, written, updated, own-seen}
+use Rattle.tables.proofs.Accesses.{flags-class, holds-read, holds-write, holds-update}
 use Rattle.tables.proofs.Room.{ready}
 use Rattle.tables.proofs.Start.{Begun, holds-blank}
-use Rattle.tables.proofs.ReadOff.{marks-held, blocked-held, own-value-held, merged-held}
-use Rattle.rules.specs.Merge as merge
-use Rattle.tables.specs.Changes as changes
+use Rattle.tables.proofs.OwnValue.{own-value-held}
 
 module _ (l : Loop) (δ : Partition) where
   abbrev pub Logged : Log → List ℕ → Type 0
@@ -72,13 +62,6 @@ module _ (l : Loop) (δ : Partition) (f : l .plus ≡ sum) (z : l .zero ≡ pos 
 
 -- ---- what is read off
 
-flags-class : (k : Class) (x y : Bool) → flags-of k x y / 4 ≡ class-number k
-flags-class k x y = omega (arith, bit-most x, bit-most y)
-  where
-    bit-most : (b : Bool) → bit b ≤ 1
-    bit-most true = omega arith
-    bit-most false = omega arith
-
 module _ (l : Loop) (δ : Partition) (g : Log) (W : List ℕ) (h : Logged l δ g W) where
   -- there is room for the next access
   pub logged-ready : Proper l δ → Inside (l .iterations) (l .size) g → Ascending l δ g → l .size ≤ 4096 → l .iterations ≤ 65535 → δ .groups ≤ 65535
@@ -86,41 +69,12 @@ module _ (l : Loop) (δ : Partition) (g : Log) (W : List ℕ) (h : Logged l δ g
   logged-ready o x a s i k = ready l δ (δ .processors) (l .class) (l .entry) W (table l δ g) h (tables-bounded l δ o g x a) s i k
 
   -- the class of a cell
-  pub logged-class : (c : ℕ) → c < l .size → getD W (row-at (δ .processors) c + 3) 0 / 4 ≡ class-number (l .class c)
+  pub logged-class : (c : ℕ) → c < l .size → class-word W (row-at (δ .processors) c) ≡ class-number (l .class c)
   logged-class c b = ap (λ (x : ℕ). x / 4) (h .rows c b .flags) ∙ flags-class (l .class c) (table l δ g .rows c .crossed) (table l δ g .rows c .updated)
 
-  -- the value of a cell at entry
-  pub logged-entry : (c : ℕ) → c < l .size → value (getD W (row-at (δ .processors) c) 0) ≡ l .entry c
-  logged-entry c b = h .rows c b .entry
-
-  module _ (s : Shows l δ g (table l δ g)) where
-    pub logged-pairs : getD W 0 0 ≡ pairs l g
-    logged-pairs = h .pairs ∙ s .pair-count
-
-    pub logged-cells : getD W 1 0 ≡ written-cells l g
-    logged-cells = h .cells ∙ s .cell-count
-
-    module _ (c : ℕ) (b : c < l .size) where
-      abbrev at : ℕ
-      at = row-at (δ .processors) c
-
-      pub logged-marks : marks-read (getD W (at + 1) 0) (getD W (at + 2) 0) (getD W (at + 3) 0) ≡ marks (δ .group) c g
-      logged-marks = marks-held (δ .processors) (l .class c) (l .entry c) W at (table l δ g .rows c) (h .rows c b) ∙ s .marked c
-
-      pub logged-obstacle : ObstacleAt (l .class c) (λ i. only (δ .group) i g) c ↔ (blocked (getD W (at + 1) 0) (getD W (at + 2) 0) (getD W (at + 3) 0) ≡ true)
-      logged-obstacle =
-          let x = blocked-held (δ .processors) (l .class c) (l .entry c) W at (table l δ g .rows c) (h .rows c b) in
-          let y = s .obstacle (l .class c) c in
-          (λ o. x .0 (y .1 o), λ e. y .0 (x .1 e))
-
-      -- what a group that its processor has not left reads of a cell that is not shared
-      pub logged-own : (k : ℕ) → Latest (δ .group) (whose δ) k g → whose δ k < δ .processors
-          → value (pick (getD W (own-at at (whose δ k) + 1) 0) (k + 1) (getD W (own-at at (whose δ k)) 0) (getD W at 0)) ≡ latest l c (only (δ .group) k g)
-      logged-own k t a =
-          own-value-held (δ .processors) (l .class c) (l .entry c) W at (table l δ g .rows c) (h .rows c b) (whose δ k) k a
-          ∙ ap (λ (o : Option ℤ). Option·getD o (l .entry c)) (s .own c k t)
-
--- the merge
-pub logged-merged : (l : Loop) (δ : Partition) → l .plus ≡ sum → l .zero ≡ pos 0 → Proper l δ → (s : State) (W : List ℕ) → Logged l δ (s .log) W → Shows l δ (s .log) (table l δ (s .log)) → (c : ℕ) → c < l .size
-    → changes.merged W (row-at (δ .processors) c) (δ .processors) (s .cells c) ≡ merge.merged l δ s c
-logged-merged l δ f z o s W h t c b = merged-held l δ f z (l .class c) c W (row-at (δ .processors) c) (table l δ (s .log) .rows c) (h .rows c b) (s .cells) ∙ merged-right l δ o s (table l δ (s .log)) t c
+  -- what a group that its processor has not left reads of a cell that is not shared
+  pub logged-own : Shows l δ g (table l δ g) → (c : ℕ) → c < l .size → (k : ℕ) → Latest (δ .group) (whose δ) k g → whose δ k < δ .processors
+      → own-seen W (row-at (δ .processors) c) (own-at (row-at (δ .processors) c) (whose δ k)) k ≡ latest l c (only (δ .group) k g)
+  logged-own s c b k t a =
+      own-value-held (δ .processors) (l .class c) (l .entry c) W (row-at (δ .processors) c) (table l δ g .rows c) (h .rows c b) (whose δ k) k a
+      ∙ ap (λ (o : Option ℤ). Option·getD o (l .entry c)) (s .own c k t)

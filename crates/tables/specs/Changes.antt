@@ -1,13 +1,12 @@
--- What the functions read off the words and do to them, word by word. Nothing here has to be believed: proofs/ says what this means for the tables.
-use mathlib.Core.Bool.{Bool, cond, _&&_, _||_}
+-- What the functions do to the words, word by word, and what an access reads of its own. Nothing here has to be believed: proofs/ says what this means for the
+-- tables.
 use mathlib.Core.List.{List}
-use Prim.Native.Nat.{ℕ, zero, suc, _+_, _*_, _/_, _%_, _≤_, _<_}
-use lib.Dec.{eqb, ltb}
-use lib.ListN.{length, getD, set}
-use lib.IntN.{ℤ, pos}
+use Prim.Native.Nat.{ℕ, _+_, _*_, _/_, _%_, _≤_, _<_}
+use lib.ListN.{length, set}
+use lib.IntN.{ℤ}
 use Rattle.int32.specs.Integers.{word, value, sum}
-use Rattle.rules.specs.Choose.{pick, below}
-use Rattle.tables.specs.Layout.{own-at}
+use Rattle.rules.specs.Choose.{pick}
+use Rattle.tables.specs.Layout.{met-at, writers-at, flags-at, wrote-at, exposed-at, sum-at, touched-at, pairs-word, cells-word, entry-word, met-word, writers-word, flags-word, private-word, wrote-word, exposed-word, sum-word, touched-word}
 
 -- a row and an own part after it lie in the words
 pub record Placed (W : List ℕ) (row own : ℕ) : Type 0 where
@@ -18,10 +17,10 @@ pub record Placed (W : List ℕ) (row own : ℕ) : Type 0 where
 -- and each count has room for one more
 pub record Ready (W : List ℕ) (row own : ℕ) : Type 0 where
   pub placed : Placed W row own
-  pub pairs : getD W 0 0 < 4294967295
-  pub cells : getD W 1 0 < 4294967295
-  pub met : getD W (row + 1) 0 < 4294967295
-  pub writers : getD W (row + 2) 0 < 4294967295
+  pub pairs : pairs-word W < 4294967295
+  pub cells : cells-word W < 4294967295
+  pub met : met-word W row < 4294967295
+  pub writers : writers-word W row < 4294967295
 
 -- ---- accesses
 
@@ -33,19 +32,19 @@ one-more wrote exposed g m = pick wrote g m (pick exposed g m (m + 1))
 unfoldable pub read-noted : List ℕ → ℕ → ℕ → ℕ → List ℕ
 read-noted W row own g =
     set
-    (set W (row + 1) (one-more (getD W (own + 1) 0) (getD W (own + 2) 0) (g + 1) (getD W (row + 1) 0)))
-    (own + 2)
-    (pick (getD W (own + 1) 0) (g + 1) (getD W (own + 2) 0) (g + 1))
+    (set W (met-at row) (one-more (wrote-word W own) (exposed-word W own) (g + 1) (met-word W row)))
+    (exposed-at own)
+    (pick (wrote-word W own) (g + 1) (exposed-word W own) (g + 1))
 
 -- both counts, before a write or an update by iteration i
 unfoldable pub counted : List ℕ → ℕ → ℕ → ℕ → List ℕ
 counted W row own i =
     set
     (set
-    (set W 0 (pick (getD W (own + 4) 0) (i + 1) (getD W 0 0) (getD W 0 0 + 1)))
+    (set W 0 (pick (touched-word W own) (i + 1) (pairs-word W) (pairs-word W + 1)))
     1
-    (pick (getD W (row + 3) 0 / 2 % 2) 1 (getD W 1 0) (pick (getD W (row + 2) 0) 0 (getD W 1 0 + 1) (getD W 1 0))))
-    (own + 4)
+    (pick (flags-word W row / 2 % 2) 1 (cells-word W) (pick (writers-word W row) 0 (cells-word W + 1) (cells-word W))))
+    (touched-at own)
     (i + 1)
 
 -- a write of v by group g, whose counts are done
@@ -55,76 +54,30 @@ written W row own g v =
     (set
     (set
     (set
-    (set W (row + 1) (one-more (getD W (own + 1) 0) (getD W (own + 2) 0) (g + 1) (getD W (row + 1) 0)))
-    (row + 2)
-    (pick (getD W (own + 1) 0) (g + 1) (getD W (row + 2) 0) (getD W (row + 2) 0 + 1)))
-    (row + 3)
-    (pick (getD W (own + 2) 0) (g + 1) (getD W (row + 3) 0 / 2 * 2 + 1) (getD W (row + 3) 0)))
+    (set W (met-at row) (one-more (wrote-word W own) (exposed-word W own) (g + 1) (met-word W row)))
+    (writers-at row)
+    (pick (wrote-word W own) (g + 1) (writers-word W row) (writers-word W row + 1)))
+    (flags-at row)
+    (pick (exposed-word W own) (g + 1) (flags-word W row / 2 * 2 + 1) (flags-word W row)))
     own
     (word v))
-    (own + 1)
+    (wrote-at own)
     (g + 1)
 
 -- an update by v, whose counts are done
 unfoldable pub updated : List ℕ → ℕ → ℕ → ℤ → List ℕ
 updated W row own v =
     set
-    (set W (row + 3) (getD W (row + 3) 0 / 4 * 4 + 2 + getD W (row + 3) 0 % 2))
-    (own + 3)
-    (word (sum v (value (getD W (own + 3) 0))))
+    (set W (flags-at row) (flags-word W row / 4 * 4 + 2 + flags-word W row % 2))
+    (sum-at own)
+    (word (sum v (value (sum-word W own))))
 
--- ---- what is read off
-
--- the marks, by three words of a row
-abbrev pub marks-read : ℕ → ℕ → ℕ → ℕ
-marks-read met writers flags = below 0 writers 1 0 + below writers met 2 0 + 4 * (flags % 2) + 8 * (flags / 2 % 2)
-
--- two groups met it and one wrote it
-abbrev pub contested : ℕ → ℕ → Bool
-contested met writers = ltb 0 writers && ltb 1 met
-
--- and one read it exposed
-abbrev pub stale : ℕ → ℕ → ℕ → Bool
-stale met writers flags = contested met writers && (ltb writers met || eqb (flags % 2) 1)
-
--- it has an update and an ordinary access
-abbrev pub mixed : ℕ → ℕ → Bool
-mixed met flags = ltb 0 met && eqb (flags / 2 % 2) 1
-
--- the cell has an obstacle
-abbrev pub blocked : ℕ → ℕ → ℕ → Bool
-blocked met writers flags =
-    cond
-    (eqb (flags / 4) 0)
-    (contested met writers)
-    (cond (eqb (flags / 4) 1) (stale met writers flags) (stale met writers flags || mixed met flags))
-
--- the word of the private value of the highest of k processors that wrote, else of the entry value
-unfoldable pub last-word : List ℕ → ℕ → ℕ → ℕ
-last-word W row zero = getD W row 0
-last-word W row (suc k) = pick (getD W (own-at row k + 1) 0) 0 (last-word W row k) (getD W (own-at row k) 0)
-
--- the sums of k processors, taken together
-unfoldable pub gathered : List ℕ → ℕ → ℕ → ℤ
-gathered W row zero = pos 0
-gathered W row (suc k) = sum (gathered W row k) (value (getD W (own-at row k + 3) 0))
-
--- what a cell is left with after a run that passed; x is what stands in it
-abbrev pub merged : List ℕ → ℕ → ℕ → ℤ → ℤ
-merged W row p x =
-    cond
-    (eqb (getD W (row + 3) 0 / 4) 0)
-    x
-    (cond
-    (eqb (getD W (row + 3) 0 / 4) 1)
-    (value (last-word W row p))
-    (cond
-    (eqb (getD W (row + 3) 0 / 2 % 2) 1)
-    (sum (value (last-word W row p)) (gathered W row p))
-    (value (last-word W row p))))
+-- what group g reads that has the cell for itself
+abbrev pub own-seen : List ℕ → ℕ → ℕ → ℕ → ℤ
+own-seen W row own g = value (pick (wrote-word W own) (g + 1) (private-word W own) (entry-word W row))
 
 -- ---- the start
 
 -- the entry value and the class of a row
 unfoldable pub entered : List ℕ → ℕ → ℤ → ℕ → List ℕ
-entered W row v k = set (set (set (set W row (word v)) (row + 1) 0) (row + 2) 0) (row + 3) (4 * k)
+entered W row v k = set (set (set (set W row (word v)) (met-at row) 0) (writers-at row) 0) (flags-at row) (4 * k)

@@ -4,7 +4,7 @@
 use mathlib.Core.Path.{_≡_}
 use mathlib.Core.Bool.{Bool, true, false}
 use mathlib.Core.List.{List}
-use Prim.Native.Nat.{ℕ, _+_, _*_, _≤_, _<_}
+use Prim.Native.Nat.{ℕ, _+_, _*_, _/_, _≤_, _<_}
 use lib.ListN.{length, getD}
 use lib.IntN.{ℤ}
 use Rattle.rules.specs.Loop.{Class, shared, lastprivate, reduction}
@@ -20,6 +20,71 @@ row-at p c = 2 + c * (4 + 5 * p)
 -- the own part of processor q in a row
 abbrev pub own-at : ℕ → ℕ → ℕ
 own-at row q = row + 4 + 5 * q
+
+-- in a row, after the entry value
+abbrev pub met-at : ℕ → ℕ
+met-at row = row + 1
+
+abbrev pub writers-at : ℕ → ℕ
+writers-at row = row + 2
+
+abbrev pub flags-at : ℕ → ℕ
+flags-at row = row + 3
+
+-- in an own part, after the private value
+abbrev pub wrote-at : ℕ → ℕ
+wrote-at own = own + 1
+
+abbrev pub exposed-at : ℕ → ℕ
+exposed-at own = own + 2
+
+abbrev pub sum-at : ℕ → ℕ
+sum-at own = own + 3
+
+abbrev pub touched-at : ℕ → ℕ
+touched-at own = own + 4
+
+-- ---- the words there
+
+-- both write counts
+abbrev pub pairs-word : List ℕ → ℕ
+pairs-word W = getD W 0 0
+
+abbrev pub cells-word : List ℕ → ℕ
+cells-word W = getD W 1 0
+
+-- of a row
+abbrev pub entry-word : List ℕ → ℕ → ℕ
+entry-word W row = getD W row 0
+
+abbrev pub met-word : List ℕ → ℕ → ℕ
+met-word W row = getD W (met-at row) 0
+
+abbrev pub writers-word : List ℕ → ℕ → ℕ
+writers-word W row = getD W (writers-at row) 0
+
+abbrev pub flags-word : List ℕ → ℕ → ℕ
+flags-word W row = getD W (flags-at row) 0
+
+-- the number of the class, in the flags
+abbrev pub class-word : List ℕ → ℕ → ℕ
+class-word W row = flags-word W row / 4
+
+-- of an own part
+abbrev pub private-word : List ℕ → ℕ → ℕ
+private-word W own = getD W own 0
+
+abbrev pub wrote-word : List ℕ → ℕ → ℕ
+wrote-word W own = getD W (wrote-at own) 0
+
+abbrev pub exposed-word : List ℕ → ℕ → ℕ
+exposed-word W own = getD W (exposed-at own) 0
+
+abbrev pub sum-word : List ℕ → ℕ → ℕ
+sum-word W own = getD W (sum-at own) 0
+
+abbrev pub touched-word : List ℕ → ℕ → ℕ
+touched-word W own = getD W (touched-at own) 0
 
 -- ---- flags
 
@@ -42,23 +107,23 @@ flags-of k crossed updated = 4 * class-number k + 2 * bit updated + bit crossed
 
 -- of a processor and a cell
 pub record OwnHeld (W : List ℕ) (own : ℕ) (o : Own) : Type 0 where
-  pub value : integers.value (getD W own 0) ≡ o .value
-  pub wrote : getD W (own + 1) 0 ≡ o .wrote
-  pub exposed : getD W (own + 2) 0 ≡ o .exposed
-  pub sum : integers.value (getD W (own + 3) 0) ≡ o .sum
-  pub touched : getD W (own + 4) 0 ≡ o .touched
+  pub value : integers.value (private-word W own) ≡ o .value
+  pub wrote : wrote-word W own ≡ o .wrote
+  pub exposed : exposed-word W own ≡ o .exposed
+  pub sum : integers.value (sum-word W own) ≡ o .sum
+  pub touched : touched-word W own ≡ o .touched
 
 -- of a cell of class k with e at entry
 pub record RowHeld (p : ℕ) (k : Class) (e : ℤ) (W : List ℕ) (row : ℕ) (r : Row) : Type 0 where
-  pub entry : integers.value (getD W row 0) ≡ e
-  pub met : getD W (row + 1) 0 ≡ r .met
-  pub writers : getD W (row + 2) 0 ≡ r .writers
-  pub flags : getD W (row + 3) 0 ≡ flags-of k (r .crossed) (r .updated)
+  pub entry : integers.value (entry-word W row) ≡ e
+  pub met : met-word W row ≡ r .met
+  pub writers : writers-word W row ≡ r .writers
+  pub flags : flags-word W row ≡ flags-of k (r .crossed) (r .updated)
   pub own : (q : ℕ) → q < p → OwnHeld W (own-at row q) (r .own q)
 
 -- the words stand for these tables of n cells and p processors
 pub record Holds (n p : ℕ) (class : ℕ → Class) (entry : ℕ → ℤ) (W : List ℕ) (t : Tables) : Type 0 where
   pub size : row-at p n ≤ length W
-  pub pairs : getD W 0 0 ≡ t .pairs
-  pub cells : getD W 1 0 ≡ t .cells
+  pub pairs : pairs-word W ≡ t .pairs
+  pub cells : cells-word W ≡ t .cells
   pub rows : (c : ℕ) → c < n → RowHeld p (class c) (entry c) W (row-at p c) (t .rows c)

@@ -1,21 +1,58 @@
-// The shadow tables in words of a lent workspace (crates/shadow says what they are, specs/Layout.antt where each word stands). A caller works out the
-// places of a cell's row and of a processor's own part in it, and each function here takes a few steps, but for those of the merge, which
-// go over the processors, and `clear`, which goes over the workspace.
+// The shadow tables in words of a lent workspace (crates/shadow says what they are, specs/Layout.antt where each word stands), and the notes that accesses
+// leave in them. A caller works out the places of a cell's row and of a processor's own part in it; each function then takes a few steps, but for `clear`,
+// which goes over the workspace. What is read off at the end is in crates/findings.
 ghost use mathlib.Core.Path.{_≡_};
 ghost use Prim.Native.Nat.{_+_, _*_, _/_, _%_, _≤_, _<_};
-ghost use lib.ListN.{length, getD, replicate};
+ghost use lib.ListN.{length, replicate};
 ghost use Rattle.int32.specs.Integers.{value};
-ghost use Rattle.rules.specs.Choose.{pick, below};
-ghost use Rattle.tables.specs.Layout.{row-at, own-at};
-ghost use Rattle.tables.specs.Changes.{Placed, Ready, one-more, read-noted, counted, written, updated, marks-read, contested, stale, mixed, blocked, last-word, gathered, merged, entered};
+ghost use Rattle.rules.specs.Choose.{pick};
+ghost use Rattle.tables.specs.Layout.{row-at, own-at, met-word, writers-word, class-word};
+ghost use Rattle.tables.specs.Changes.{Placed, Ready, one-more, read-noted, counted, written, updated, entered, own-seen};
+use rules::Group;
+use rules::Iteration;
 use rules::Processor;
 
+// Both write counts stand before the rows.
+pub const PAIRS: usize = 0;
+
+pub const CELLS: usize = 1;
+
+pub const COUNTS: usize = 2;
+
+// A row has the entry value, and after it how many groups met the cell, how many wrote it, and flags; then the processors' own parts.
+pub const MET: usize = 1;
+
+pub const WRITERS: usize = 2;
+
+pub const FLAGS: usize = 3;
+
+pub const ROW: usize = 4;
+
+// An own part has the private value, and after it the stamps of the group that wrote last and of the one that read exposed last, the sum, and the stamp of the
+// iteration that wrote or updated last. A stamp is 1 + a number, 0 for none.
+pub const WROTE: usize = 1;
+
+pub const EXPOSED: usize = 2;
+
+pub const SUM: usize = 3;
+
+pub const TOUCHED: usize = 4;
+
+pub const OWN: usize = 5;
+
+// The numbers of the classes.
+pub const SHARED: u32 = 0;
+
+pub const LASTPRIVATE: u32 = 1;
+
+pub const REDUCTION: u32 = 2;
+
 // The place of a cell's row.
-pub fn row_of(cell: usize, processors: usize) -> usize
+pub fn row_of(cell: usize, processors: u32) -> usize
     requires { ⌜ (cell ≤ 4096) × (processors ≤ 8) ⌝ }
     ensures { λ r. ⌜ r ≡ row-at processors cell ⌝ }
 {
-    2 + cell * (4 + 5 * processors)
+    COUNTS + cell * (ROW + OWN * processors as usize)
 }
 
 // The place of a processor's own part in a row.
@@ -23,52 +60,68 @@ pub fn own_of(row: usize, p: Processor) -> usize
     requires { ⌜ row < 4294967296 ⌝ }
     ensures { λ r. ⌜ r ≡ own-at row (p .0) ⌝ }
 {
-    row + 4 + 5 * p.0 as usize
+    row + ROW + OWN * p.0 as usize
 }
 
 // x if a is b, else y.
-fn choose(a: u32, b: u32, x: u32, y: u32) -> u32
+pub fn choose(a: u32, b: u32, x: u32, y: u32) -> u32
     ensures { λ r. ⌜ r ≡ pick a b x y ⌝ }
 {
     if a == b { x } else { y }
 }
 
-// How many groups met a cell, with a group g more unless it wrote or read it before.
-fn met_by(wrote: u32, exposed: u32, g: u32, met: u32) -> u32
-    requires { ⌜ met < 4294967295 ⌝ }
-    ensures { λ r. ⌜ r ≡ one-more wrote exposed g met ⌝ }
+// The stamp of a group.
+fn group_stamp(g: Group) -> u32
+    requires { ⌜ g .0 < 4294967295 ⌝ }
+    ensures { λ r. ⌜ r ≡ g .0 + 1 ⌝ }
 {
-    let more = choose(exposed, g, met, met + 1);
-    choose(wrote, g, met, more)
+    g.0 + 1
+}
+
+// The stamp of an iteration.
+fn iteration_stamp(i: Iteration) -> u32
+    requires { ⌜ i .0 < 4294967295 ⌝ }
+    ensures { λ r. ⌜ r ≡ i .0 + 1 ⌝ }
+{
+    i.0 + 1
+}
+
+// How many groups met a cell, with the group of a stamp more unless it wrote or read it before.
+fn met_by(wrote: u32, exposed: u32, stamp: u32, met: u32) -> u32
+    requires { ⌜ met < 4294967295 ⌝ }
+    ensures { λ r. ⌜ r ≡ one-more wrote exposed stamp met ⌝ }
+{
+    let more = choose(exposed, stamp, met, met + 1);
+    choose(wrote, stamp, met, more)
 }
 
 // A group reads the cell.
-pub fn note_read(w: &mut [u32], row: usize, own: usize, group: u32)
-    requires { ⌜ (Ready (now w) row own) × (group < 4294967295) ⌝ }
-    ensures { λ _. ⌜ now (w .exit) ≡ read-noted (now (w .entry)) row own group ⌝ }
+pub fn note_read(w: &mut [u32], row: usize, own: usize, group: Group)
+    requires { ⌜ (Ready (now w) row own) × (group .0 < 4294967295) ⌝ }
+    ensures { λ _. ⌜ now (w .exit) ≡ read-noted (now (w .entry)) row own (group .0) ⌝ }
 {
-    let g = group + 1;
-    let wrote = w[own + 1];
-    let exposed = w[own + 2];
-    w[row + 1] = met_by(wrote, exposed, g, w[row + 1]);
-    w[own + 2] = choose(wrote, g, exposed, g);
+    let g = group_stamp(group);
+    let wrote = w[own + WROTE];
+    let exposed = w[own + EXPOSED];
+    w[row + MET] = met_by(wrote, exposed, g, w[row + MET]);
+    w[own + EXPOSED] = choose(wrote, g, exposed, g);
 }
 
 // Both write counts, before a write or an update of the cell by an iteration.
-fn count(w: &mut [u32], row: usize, own: usize, iteration: u32)
-    requires { ⌜ (Ready (now w) row own) × (iteration < 4294967295) ⌝ }
-    ensures { λ _. ⌜ now (w .exit) ≡ counted (now (w .entry)) row own iteration ⌝ }
+fn count(w: &mut [u32], row: usize, own: usize, iteration: Iteration)
+    requires { ⌜ (Ready (now w) row own) × (iteration .0 < 4294967295) ⌝ }
+    ensures { λ _. ⌜ now (w .exit) ≡ counted (now (w .entry)) row own (iteration .0) ⌝ }
 {
-    let i = iteration + 1;
-    let pairs = w[0];
-    let cells = w[1];
-    let touched = w[own + 4];
-    let writers = w[row + 2];
-    let is_updated = w[row + 3] / 2 % 2;
+    let i = iteration_stamp(iteration);
+    let pairs = w[PAIRS];
+    let cells = w[CELLS];
+    let touched = w[own + TOUCHED];
+    let writers = w[row + WRITERS];
+    let is_updated = w[row + FLAGS] / 2 % 2;
     let more = pairs + 1;
-    w[0] = choose(touched, i, pairs, more);
-    w[1] = choose(is_updated, 1, cells, choose(writers, 0, cells + 1, cells));
-    w[own + 4] = i;
+    w[PAIRS] = choose(touched, i, pairs, more);
+    w[CELLS] = choose(is_updated, 1, cells, choose(writers, 0, cells + 1, cells));
+    w[own + TOUCHED] = i;
 }
 
 // Flags with the mark of a group that read and then wrote.
@@ -86,21 +139,21 @@ fn with_update(flags: u32) -> u32
 }
 
 // A group writes the cell, whose counts are done.
-fn mark_written(w: &mut [u32], row: usize, own: usize, group: u32, value: i32)
-    requires { ⌜ (Placed (now w) row own) × (getD (now w) (row + 1) 0 < 4294967295) × (getD (now w) (row + 2) 0 < 4294967295) × (group < 4294967295) ⌝ }
-    ensures { λ _. ⌜ now (w .exit) ≡ written (now (w .entry)) row own group value ⌝ }
+fn mark_written(w: &mut [u32], row: usize, own: usize, group: Group, value: i32)
+    requires { ⌜ (Placed (now w) row own) × (met-word (now w) row < 4294967295) × (writers-word (now w) row < 4294967295) × (group .0 < 4294967295) ⌝ }
+    ensures { λ _. ⌜ now (w .exit) ≡ written (now (w .entry)) row own (group .0) value ⌝ }
 {
-    let g = group + 1;
-    let wrote = w[own + 1];
-    let exposed = w[own + 2];
-    let met = w[row + 1];
-    let writers = w[row + 2];
-    let flags = w[row + 3];
-    w[row + 1] = met_by(wrote, exposed, g, met);
-    w[row + 2] = choose(wrote, g, writers, writers + 1);
-    w[row + 3] = choose(exposed, g, crossed(flags), flags);
+    let g = group_stamp(group);
+    let wrote = w[own + WROTE];
+    let exposed = w[own + EXPOSED];
+    let met = w[row + MET];
+    let writers = w[row + WRITERS];
+    let flags = w[row + FLAGS];
+    w[row + MET] = met_by(wrote, exposed, g, met);
+    w[row + WRITERS] = choose(wrote, g, writers, writers + 1);
+    w[row + FLAGS] = choose(exposed, g, crossed(flags), flags);
     w[own] = int32::to_word(value);
-    w[own + 1] = g;
+    w[own + WROTE] = g;
 }
 
 // An iteration adds to the cell, whose counts are done.
@@ -108,203 +161,62 @@ fn mark_updated(w: &mut [u32], row: usize, own: usize, value: i32)
     requires { ⌜ Placed (now w) row own ⌝ }
     ensures { λ _. ⌜ now (w .exit) ≡ updated (now (w .entry)) row own value ⌝ }
 {
-    let flags = w[row + 3];
-    let sum = int32::add(value, int32::of_word(w[own + 3]));
-    w[row + 3] = with_update(flags);
-    w[own + 3] = int32::to_word(sum);
+    let flags = w[row + FLAGS];
+    let sum = int32::add(value, int32::of_word(w[own + SUM]));
+    w[row + FLAGS] = with_update(flags);
+    w[own + SUM] = int32::to_word(sum);
 }
 
 // An iteration of a group writes the cell.
-pub fn note_write(w: &mut [u32], row: usize, own: usize, group: u32, iteration: u32, value: i32)
-    requires { ⌜ (Ready (now w) row own) × (group < 4294967295) × (iteration < 4294967295) ⌝ }
-    ensures { λ _. ⌜ now (w .exit) ≡ written (counted (now (w .entry)) row own iteration) row own group value ⌝ }
+pub fn note_write(
+    w: &mut [u32],
+    row: usize,
+    own: usize,
+    group: Group,
+    iteration: Iteration,
+    value: i32,
+)
+    requires { ⌜ (Ready (now w) row own) × (group .0 < 4294967295) × (iteration .0 < 4294967295) ⌝ }
+    ensures { λ _. ⌜ now (w .exit) ≡ written (counted (now (w .entry)) row own (iteration .0)) row own (group .0) value ⌝ }
 {
     count(w, row, own, iteration);
     mark_written(w, row, own, group, value);
 }
 
 // An iteration adds to the cell.
-pub fn note_update(w: &mut [u32], row: usize, own: usize, iteration: u32, value: i32)
-    requires { ⌜ (Ready (now w) row own) × (iteration < 4294967295) ⌝ }
-    ensures { λ _. ⌜ now (w .exit) ≡ updated (counted (now (w .entry)) row own iteration) row own value ⌝ }
+pub fn note_update(w: &mut [u32], row: usize, own: usize, iteration: Iteration, value: i32)
+    requires { ⌜ (Ready (now w) row own) × (iteration .0 < 4294967295) ⌝ }
+    ensures { λ _. ⌜ now (w .exit) ≡ updated (counted (now (w .entry)) row own (iteration .0)) row own value ⌝ }
 {
     count(w, row, own, iteration);
     mark_updated(w, row, own, value);
 }
 
-// The number of different pairs of iteration and cell among writes and updates.
-pub fn pair_count(w: &[u32]) -> u32
-    requires { ⌜ 2 ≤ length (now w) ⌝ }
-    ensures { λ r. ⌜ r ≡ getD (now (w .entry)) 0 0 ⌝ }
-{
-    w[0]
-}
-
-// The number of different cells among them.
-pub fn cell_count(w: &[u32]) -> u32
-    requires { ⌜ 2 ≤ length (now w) ⌝ }
-    ensures { λ r. ⌜ r ≡ getD (now (w .entry)) 1 0 ⌝ }
-{
-    w[1]
-}
-
-// The value of the cell at entry.
-pub fn entry_value(w: &[u32], row: usize) -> i32
-    requires { ⌜ row < length (now w) ⌝ }
-    ensures { λ r. ⌜ r ≡ value (getD (now (w .entry)) row 0) ⌝ }
-{
-    int32::of_word(w[row])
-}
-
-// The class of the cell: 0 shared, 1 lastprivate, 2 reduction.
+// The number of the cell's class.
 pub fn class_of(w: &[u32], row: usize) -> u32
     requires { ⌜ row + 4 ≤ length (now w) ⌝ }
-    ensures { λ r. ⌜ r ≡ getD (now (w .entry)) (row + 3) 0 / 4 ⌝ }
+    ensures { λ r. ⌜ r ≡ class-word (now (w .entry)) row ⌝ }
 {
-    w[row + 3] / 4
+    w[row + FLAGS] / 4
 }
 
 // What a group reads that has the cell for itself: what it wrote, else the entry value.
-pub fn own_value(w: &[u32], row: usize, own: usize, group: u32) -> i32
-    requires { ⌜ (row < own) × (own + 5 ≤ length (now w)) × (group < 4294967295) ⌝ }
-    ensures { λ r. ⌜ r ≡ value (pick (getD (now (w .entry)) (own + 1) 0) (group + 1) (getD (now (w .entry)) own 0) (getD (now (w .entry)) row 0)) ⌝ }
+pub fn own_value(w: &[u32], row: usize, own: usize, group: Group) -> i32
+    requires { ⌜ (row < own) × (own + 5 ≤ length (now w)) × (group .0 < 4294967295) ⌝ }
+    ensures { λ r. ⌜ r ≡ own-seen (now (w .entry)) row own (group .0) ⌝ }
 {
-    int32::of_word(choose(w[own + 1], group + 1, w[own], w[row]))
+    int32::of_word(choose(w[own + WROTE], group_stamp(group), w[own], w[row]))
 }
 
-// A mark m if i is below j.
-fn mark(i: u32, j: u32, m: u32) -> u32
-    ensures { λ r. ⌜ (r ≡ below i j m 0) × (r ≤ m) ⌝ }
-{
-    if i < j { m } else { 0 }
-}
-
-// The marks of a cell by three words of its row.
-fn marks_by(met: u32, writers: u32, flags: u32) -> u32
-    ensures { λ r. ⌜ r ≡ marks-read met writers flags ⌝ }
-{
-    mark(0, writers, 1) + mark(writers, met, 2) + 4 * (flags % 2) + 8 * (flags / 2 % 2)
-}
-
-// The marks of a cell.
-pub fn marks_of(w: &[u32], row: usize) -> u32
-    requires { ⌜ row + 4 ≤ length (now w) ⌝ }
-    ensures { λ r. ⌜ r ≡ marks-read (getD (now (w .entry)) (row + 1) 0) (getD (now (w .entry)) (row + 2) 0) (getD (now (w .entry)) (row + 3) 0) ⌝ }
-{
-    marks_by(w[row + 1], w[row + 2], w[row + 3])
-}
-
-// Two groups met a cell and one wrote it.
-fn is_contested(met: u32, writers: u32) -> bool
-    ensures { λ r. ⌜ r ≡ contested met writers ⌝ }
-{
-    if 0 < writers { 1 < met } else { false }
-}
-
-// And one read it exposed.
-fn is_stale(met: u32, writers: u32, flags: u32) -> bool
-    ensures { λ r. ⌜ r ≡ stale met writers flags ⌝ }
-{
-    if is_contested(met, writers) {
-        if writers < met {
-            return true;
-        }
-        return flags % 2 == 1;
-    }
-    false
-}
-
-// A cell has an update and an ordinary access.
-fn is_mixed(met: u32, flags: u32) -> bool
-    ensures { λ r. ⌜ r ≡ mixed met flags ⌝ }
-{
-    if 0 < met { flags / 2 % 2 == 1 } else { false }
-}
-
-// Whether a cell has an obstacle, by three words of its row.
-fn is_obstacle(met: u32, writers: u32, flags: u32) -> bool
-    ensures { λ r. ⌜ r ≡ blocked met writers flags ⌝ }
-{
-    let class = flags / 4;
-    if class == 0 {
-        return is_contested(met, writers);
-    }
-    let stale = is_stale(met, writers, flags);
-    if class == 1 {
-        return stale;
-    }
-    if stale {
-        return true;
-    }
-    is_mixed(met, flags)
-}
-
-// Whether a cell has an obstacle.
-pub fn is_blocked(w: &[u32], row: usize) -> bool
-    requires { ⌜ row + 4 ≤ length (now w) ⌝ }
-    ensures { λ r. ⌜ r ≡ blocked (getD (now (w .entry)) (row + 1) 0) (getD (now (w .entry)) (row + 2) 0) (getD (now (w .entry)) (row + 3) 0) ⌝ }
-{
-    is_obstacle(w[row + 1], w[row + 2], w[row + 3])
-}
-
-// The private value of the highest processor that wrote the cell, else the entry value.
-fn last_value(w: &[u32], row: usize, processors: usize) -> i32
-    requires { ⌜ row + 4 + 5 * processors ≤ length (now w) ⌝ }
-    ensures { λ r. ⌜ r ≡ value (last-word (now (w .entry)) row processors) ⌝ }
-{
-    let mut x = w[row];
-    let mut q = 0;
-    while q < processors {
-        let own = row + 4 + 5 * q;
-        x = choose(w[own + 1], 0, x, w[own]);
-        q += 1;
-    }
-    int32::of_word(x)
-}
-
-// The sums of the processors, taken together.
-fn total(w: &[u32], row: usize, processors: usize) -> i32
-    requires { ⌜ row + 4 + 5 * processors ≤ length (now w) ⌝ }
-    ensures { λ r. ⌜ r ≡ gathered (now (w .entry)) row processors ⌝ }
-{
-    let mut sum = 0;
-    let mut q = 0;
-    while q < processors {
-        let own = row + 4 + 5 * q;
-        sum = int32::add(sum, int32::of_word(w[own + 3]));
-        q += 1;
-    }
-    sum
-}
-
-// What a cell is left with after a run that passed; `shared` is what stands in it.
-pub fn merged_value(w: &[u32], row: usize, shared: i32, processors: usize) -> i32
-    requires { ⌜ row + 4 + 5 * processors ≤ length (now w) ⌝ }
-    ensures { λ r. ⌜ r ≡ merged (now (w .entry)) row processors shared ⌝ }
-{
-    let flags = w[row + 3];
-    if flags / 4 == 0 {
-        return shared;
-    }
-    let last = last_value(w, row, processors);
-    if flags / 4 == 1 {
-        return last;
-    }
-    if flags / 2 % 2 == 1 {
-        return int32::add(last, total(w, row, processors));
-    }
-    last
-}
-
-// A row's entry value and class: 0 shared, 1 lastprivate, 2 reduction.
+// A row's entry value and class.
 pub fn set_entry(w: &mut [u32], row: usize, value: i32, class: u32)
     requires { ⌜ (row + 4 ≤ length (now w)) × (class ≤ 2) ⌝ }
     ensures { λ _. ⌜ now (w .exit) ≡ entered (now (w .entry)) row value class ⌝ }
 {
     w[row] = int32::to_word(value);
-    w[row + 1] = 0;
-    w[row + 2] = 0;
-    w[row + 3] = 4 * class;
+    w[row + MET] = 0;
+    w[row + WRITERS] = 0;
+    w[row + FLAGS] = 4 * class;
 }
 
 // All words are 0.

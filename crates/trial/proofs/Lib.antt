@@ -1,15 +1,10 @@
--- What the callers cite: the start, what is read off, a run's turns.
+-- What the callers cite: the start, and a run's turns.
 pub mod Starting
-pub mod ReadingOff
 pub mod Turns
--- What the serial run cites too: a store in a list of cells, the faults of code, that steps end, whether a processor is open.
+-- What the serial run cites too: a store in a list of cells.
 pub mod AccessLaws
-pub mod Faults
-pub mod Nearing
-pub mod RunningOut
--- The argument: a step, what a run leaves, the view.
+-- The argument: a step, and the run to the end.
 mod Stepping
-mod Leaving
-mod Viewing
+mod RunningOut
 -- A record in a local, which is lent for a step.
 mod Local

@@ -1,28 +1,32 @@
--- The run of a processor to its end, step by step.
-use mathlib.Core.Path.{_≡_, refl, sym, _∙_, ap}
-use mathlib.Core.Logic.{_≢_}
+-- The run of a processor to its end, and one step of it: the rule, and what `stepping::carry_on` comes to by it.
+use mathlib.Core.Path.{_≡_, refl, sym, _∙_, ap, subst}
+use mathlib.Core.Logic.{_≢_, _⊎_, inl, inr}
+use mathlib.Core.Bool.{false}
+use mathlib.Core.List.{List}
 use Prim.Native.Nat.{ℕ, zero, suc, _-_, _≤_, _<_}
 use native.Mathlib.Decide.{ℕ-discrete, decLt}
 use native.Mathlib.Omega.{arith}
-use mathlib.Core.Logic.{_⊎_, inl, inr}
-use mathlib.Core.Bool.{Bool, true, false, _&&_}
-use mathlib.Core.List.{List}
-use lib.Dec.{eqb, ltb}
-use borrow.Author.Tests.{eqb-true, eqb-false, ltb-true, ltb-false}
 use lib.ListN.{length, getD, set}
 use lib.Seq.{getD-set-same, getD-set-other}
-use lib.IntN.{ℤ}
 use Rattle.rules.specs.ChooseLaws.{put-same}
 use Rattle.rules.specs.Loop.{Act, read, write, update, fault, done, Loop, Partition, bound}
 use Rattle.rules.specs.Steps.{Place, State, opening, given, go-on, step, through, through-all, run-out}
 use Rattle.rules.specs.Blocks.{blockStart}
-use Rattle.trial.specs.declared.Point.{Point}
+use Rattle.stepping.specs.declared.Extent.{Extent}
+use Rattle.stepping.specs.declared.Extent.the-variants.{Once, ToTheEnd}
+use Rattle.stepping.specs.declared.Role.{Role}
+use Rattle.stepping.specs.Step.{Scene}
+use Rattle.stepping.specs.Carrying.{is-open, Reached, CanCarry}
+use Rattle.stepping.proofs.Opened.{opened-no}
 use Rattle.trial.specs.declared.Worker.{Worker}
 use Rattle.trial.specs.declared.Setting.{Setting}
-use Rattle.trial.specs.Standing.{dealt, Standing}
-use Rattle.trial.specs.Running.{Held, nobody, Turn, opened, Over}
+use Rattle.trial.specs.Standing.{dealt}
+use Rattle.trial.specs.Running.{joined, nobody, Turn, Over, roleOf, along, Ends}
 use Rattle.trial.proofs.Stepping.{step-is, step-other}
-use Rattle.trial.proofs.Turns.{turn-end, turn-fault, turn-stepped}
+use Rattle.trial.proofs.Turns.{turn-end, turn-fault, turn-below, turn-goes, turn-went, turn-idle}
+use Rattle.stepping.specs.Carrying as carrying
+
+-- ---- the rule
 
 module _ (l : Loop) (δ : Partition) (p : ℕ) where
   -- a processor that is finished, or stopped
@@ -101,53 +105,66 @@ module _ (l : Loop) (δ : Partition) (p : ℕ) where
 
 -- ---- by the record
 
-opened-cases : (a b : Bool) → (a && b ≡ true → (a ≡ true) × (b ≡ true)) × (a && b ≡ false → (a ≡ false) ⊎ (b ≡ false))
-opened-cases true b = (λ e. (refl, e), λ e. inr e)
-opened-cases false b = (λ (e : false ≡ true). let z : _≡_ {A = ℕ} 0 1 = cc in absurd (omega arith), λ e. inl refl)
+module _ (code : List ℕ) (g : Setting) (l : Loop) (p : ℕ) where
+  abbrev δ : Partition
+  δ = dealt l (g .processors)
 
-pub opened-yes : (t : Point) (e : ℕ) → opened t e ≡ true → (t .fault ≡ 0) × (t .iteration .0 < e)
-unfolding opened
-opened-yes t e h = let x = opened-cases (eqb (t .fault) 0) (ltb (t .iteration .0) e) .0 h in (eqb-true (t .fault) 0 (x .0), ltb-true (t .iteration .0) e (x .1))
+  abbrev x : Role
+  x = roleOf g p
 
-pub opened-no : (t : Point) (e : ℕ) → opened t e ≡ false → (t .fault ≢ 0) ⊎ (e ≤ t .iteration .0)
-unfolding opened
-opened-no t e h = by (opened-cases (eqb (t .fault) 0) (ltb (t .iteration .0) e) .1 h)
-  where
-    by : (eqb (t .fault) 0 ≡ false) ⊎ (ltb (t .iteration .0) e ≡ false) → (t .fault ≢ 0) ⊎ (e ≤ t .iteration .0)
-    by (inl x) = inl (eqb-false (t .fault) 0 x)
-    by (inr x) = inr (ltb-false (t .iteration .0) e x)
+  abbrev TurnAt : State → Scene → Type 0
+  TurnAt s z = Turn code g l (z .cells) (z .words) s p (joined (z .pending) (z .point))
 
--- a number other than 0 is above it
-pub over-by : {n : ℕ} {A : Type 0} → (n ≢ 0) ⊎ A → (0 < n) ⊎ A
-over-by (inl h) = inl (omega arith)
-over-by (inr a) = inr a
+  -- a processor that is not open has come to its end
+  turn-over : (s : State) (z : Scene) → TurnAt s z → is-open x z ≡ false → run-out l δ p s ≡ s
+  turn-over s z t o = by (opened-no (z .point) (blockStart (g .iterations) (g .processors) (suc p)) o)
+    where
+      by : (z .point .fault ≢ 0) ⊎ (blockStart (g .iterations) (g .processors) (suc p) ≤ z .point .iteration .0) → run-out l δ p s ≡ s
+      by (inr h) = run-out-finished l δ p s (omega (arith, turn-end code g l (z .cells) (z .words) s p (joined (z .pending) (z .point)) t, t .held .at))
+      by (inl n) = elim (decLt (s .places p .at) (bound δ (suc p))) [
+        | yes y ↦ run-out-stopped l δ p s (z .point .fault) (z .point .line) (turn-fault code g l (z .cells) (z .words) s p (joined (z .pending) (z .point)) t n y)
+        | no y ↦ run-out-finished l δ p s (omega arith)
+      ]
 
--- a processor that is neither has come to its end
-pub turn-over : (code : List ℕ) (g : Setting) (l : Loop) (M : List ℤ) (W : List ℕ) (s : State) (p : ℕ) (x : Worker) → Turn code g l M W s p x → (x .fault ≢ 0) ⊎ (blockStart (g .iterations) (g .processors) (suc p) ≤ x .iteration .0)
-    → run-out l (dealt l (g .processors)) p s ≡ s
-turn-over code g l M W s p x t (inr h) = run-out-finished l (dealt l (g .processors)) p s (omega (arith, turn-end code g l M W s p x t, t .held .at))
-turn-over code g l M W s p x t (inl n) = elim (decLt (s .places p .at) (bound (dealt l (g .processors)) (suc p))) [
-  | yes y ↦ run-out-stopped l (dealt l (g .processors)) p s (x .fault) (x .line) (turn-fault code g l M W s p x t n y)
-  | no y ↦ run-out-finished l (dealt l (g .processors)) p s (omega arith)
-]
+  -- what a run to the end, begun in s, has come to
+  abbrev Nears : State → Scene → Type 0
+  Nears s z = (u : State) × TurnAt u z × (run-out l δ p s ≡ run-out l δ p u)
 
--- what a run to the end, begun in s, has come to
-abbrev pub Nears : List ℕ → Setting → Loop → List ℤ → List ℕ → State → ℕ → Worker → Type 0
-Nears code g l M W s p x = (u : State) × Turn code g l M W u p x × (run-out l (dealt l (g .processors)) p s ≡ run-out l (dealt l (g .processors)) p u)
+  nears : (s : State) (z y : Scene) → TurnAt s z → Reached x code z y → Nears s y
+  nears s z y t carrying.start = (s, t, refl)
+  nears s z y t (carrying.on {y = v} r o h) =
+      let (u, w, e) = nears s z v t r in (
+        step l δ p u,
+        turn-went code g l (v .cells) (v .words) u p (joined (v .pending) (v .point)) w o y h,
+        e ∙ run-out-step l δ p u (turn-below code g l (v .cells) (v .words) u p (joined (v .pending) (v .point)) w o),
+      )
 
-module _ (code : List ℕ) (g : Setting) (l : Loop) (M : List ℤ) (W : List ℕ) (s : State) (p : ℕ) (x : Worker) (n : Nears code g l M W s p x) where
-  -- one step more
-  pub nears-on : x .iteration .0 < blockStart (g .iterations) (g .processors) (suc p) → (M′ : List ℤ) (W′ : List ℕ) (x′ : Worker)
-      → Standing (g .processors) l M′ W′ (step l (dealt l (g .processors)) p (n .0)) × Held code g l x′ (step l (dealt l (g .processors)) p (n .0) .places p) → (0 < x′ .fault → x′ .iteration .0 ≡ x .iteration .0) → Nears code g l M′ W′ s p x′
-  nears-on b M′ W′ x′ h f =
-      let (u, t, e) = n in
-      (step l (dealt l (g .processors)) p u, turn-stepped code g l M W u p x t M′ W′ x′ h f b, e ∙ run-out-step l (dealt l (g .processors)) p u (omega (arith, turn-end code g l M W u p x t, t .held .at)))
+  -- the steps can be made
+  pub can-carry : (r : Role) → r ≡ x → (s : State) (z : Scene) → TurnAt s z → CanCarry r code z
+  can-carry r q s z t = rw q (λ y h o. let (u, w, e) = nears s z y t h in turn-goes code g l (y .cells) (y .words) u p (joined (y .pending) (y .point)) w o)
 
-  -- the end
-  pub nears-over : (x .fault ≢ 0) ⊎ (blockStart (g .iterations) (g .processors) (suc p) ≤ x .iteration .0) → Turn code g l M W (run-out l (dealt l (g .processors)) p s) p x
-  nears-over h =
-      let (u, t, e) = n in
-      rw (e ∙ turn-over code g l M W u p x t h) t
+  -- and lead there
+  pub carried : (k : Extent) (r : Role) → r ≡ x → (s : State) (z z′ : Scene) → carrying.Carries k r code z z′ → TurnAt s z → TurnAt (along k l δ p s) z′
+  unfolding along carrying.Carries
+  carried k r q s z z′ h t = by k (rw q at h)
+    where
+      by : (k : Extent) → carrying.Carries k x code z z′ → TurnAt (along k l δ p s) z′
+      by Once (inl (o, y)) = turn-went code g l (z .cells) (z .words) s p (joined (z .pending) (z .point)) t o z′ y
+      by Once (inr (o, e)) = rw (turn-idle code g l (z .cells) (z .words) s p (joined (z .pending) (z .point)) t o) (subst (TurnAt s) e t)
+      by ToTheEnd (y, o) = let (u, w, e) = nears s z z′ t y in rw (e ∙ turn-over u z′ w o) w
+
+  -- where it then is
+  pub carried-ends : (k : Extent) (r : Role) → r ≡ x → (z z′ : Scene) → carrying.Carries k r code z z′ → Ends k g p (joined (z′ .pending) (z′ .point))
+  unfolding Ends carrying.Carries
+  carried-ends k r q z z′ h = by k (rw q at h)
+    where
+      over : (z′ .point .fault ≢ 0) ⊎ (blockStart (g .iterations) (g .processors) (suc p) ≤ z′ .point .iteration .0) → Over g p (joined (z′ .pending) (z′ .point))
+      over (inl n) = inl (omega arith)
+      over (inr b) = inr b
+
+      by : (k : Extent) → carrying.Carries k x code z z′ → Ends k g p (joined (z′ .pending) (z′ .point))
+      by Once y = tt
+      by ToTheEnd (y, o) = over (opened-no (z′ .point) (blockStart (g .iterations) (g .processors) (suc p)) o)
 
 -- one processor more is over
 pub over-more : (g : Setting) (ws : List Worker) (q : ℕ) (x : Worker) → q < length ws → ((j : ℕ) → j < q → Over g j (getD ws j nobody)) → Over g q x → (j : ℕ) → j < suc q → Over g j (getD (set ws q x) j nobody)

@@ -93,6 +93,7 @@ starts-run code g l M C n h W ws t r = record {
       rw (r q b) (record {
         holding = record { size = refl; most = omega arith };
         at = e;
+        lineless = λ _. refl;
         act = λ lt. h .coded .body (bound (dealt l (g .processors)) q) lt ∙ sym (pick-same {i = 0} refl _ _);
       });
   halted = λ q b x. absurd (omega (arith, x, ap (λ (y : Worker). y .fault) (r q b)));

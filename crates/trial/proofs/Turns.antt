@@ -1,6 +1,7 @@
 -- Turns of processors with their records, and a schedule of them.
 use mathlib.Core.Path.{_≡_, refl, sym, _∙_, ap, subst}
-use mathlib.Core.Logic.{_≢_}
+use mathlib.Core.Logic.{_≢_, _⊎_, inl, inr}
+use mathlib.Core.Bool.{true, false}
 use mathlib.Core.List.{List, [], _∷_}
 use Prim.Native.Nat.{ℕ, zero, suc, _≤_, _<_}
 use native.Mathlib.Decide.{ℕ-discrete, decLt}
@@ -14,11 +15,16 @@ use Rattle.rules.specs.Blocks.{blockStart, singles}
 use Rattle.rules.proofs.BlocksLaws.{share-floor, start-within}
 use Rattle.rules.proofs.TrialRun.{home}
 use Rattle.rules.specs.Steps.{State, step, steps}
+use Rattle.stepping.specs.declared.Role.{Role}
+use Rattle.stepping.specs.Step.{Scene, scene, CanGo, Goes}
+use Rattle.stepping.specs.Carrying.{is-open}
+use Rattle.stepping.proofs.Happening.{goes-halts}
+use Rattle.stepping.proofs.Opened.{opened-yes, opened-no}
 use Rattle.trial.specs.declared.Worker.{Worker}
 use Rattle.trial.specs.declared.Setting.{Setting}
-use Rattle.trial.specs.Standing.{dealt, Standing, left-of, Open}
-use Rattle.trial.specs.Running.{point-of, Held, nobody, Run, Turn}
-use Rattle.trial.proofs.Stepping.{step-finished, step-stopped, step-other}
+use Rattle.trial.specs.Standing.{dealt, left-of, Open}
+use Rattle.trial.specs.Running.{point-of, joined, Held, nobody, Run, Turn, roleOf}
+use Rattle.trial.proofs.Stepping.{step-finished, step-stopped, step-other, open-goes, open-steps}
 
 -- the first iteration of a processor, as the code has it
 pub bound-is : (l : Loop) (k p : ℕ) → 0 < k → p ≤ k → bound (dealt l k) p ≡ blockStart (l .iterations) k p
@@ -43,41 +49,55 @@ module _ (code : List ℕ) (g : Setting) (l : Loop) where
     pub turn-limits : (g .iterations ≤ 65535) × ((0 < k) × (k ≤ 8))
     turn-limits = let u = t .running .standing .suits in (omega (arith, u .iterations-most, t .running .iterations), (u .some, u .most))
 
-    -- nothing is done
-    idle : step l δ p s ≡ s → Turn code g l M W (step l δ p s) p x
-    idle e = rw e t
-
-    pub turn-finished : blockStart (g .iterations) k (suc p) ≤ i → Turn code g l M W (step l δ p s) p x
-    turn-finished h = idle (step-finished l δ p s (omega (arith, turn-end, t .held .at)))
-
     -- what a stopped processor has left
     pub turn-fault : x .fault ≢ 0 → s .places p .at < bound δ (suc p) → s .places p .act ≡ fault (x .fault) (x .line)
     unfolding left-of
     turn-fault n y = t .held .act (home l δ (t .running .standing .suits .proper) p (s .places p .at) (t .running .standing .orderly .placed p) y .inside) ∙ pick-other n _ _
 
-    pub turn-stopped : x .fault ≢ 0 → Turn code g l M W (step l δ p s) p x
-    turn-stopped n = idle (elim (decLt (s .places p .at) (bound δ (suc p))) [
-      | yes y ↦ step-stopped l δ p s (x .fault) (x .line) (turn-fault n y)
-      | no y ↦ step-finished l δ p s (omega arith)
-    ])
+    -- what is fixed for it, and where it is
+    abbrev role : Role
+    role = roleOf g p
 
-    pub turn-open : x .fault ≡ 0 → i < blockStart (g .iterations) k (suc p) → Open code (g .from) k l M W s p (x .pending) (point-of x)
-    turn-open f h = record {
-      coded = t .running .coded;
-      standing = t .running .standing;
-      placed = t .held;
-      low = t .low;
-      unfinished = omega (arith, turn-end, t .held .at);
-      unstopped = f;
-    }
+    abbrev z : Scene
+    z = scene M W (x .pending) (point-of x)
 
-    pub turn-stepped : (M′ : List ℤ) (W′ : List ℕ) (x′ : Worker) → Standing k l M′ W′ (step l δ p s) × Held code g l x′ (step l δ p s .places p) → (0 < x′ .fault → x′ .iteration .0 ≡ i) → i < blockStart (g .iterations) k (suc p) → Turn code g l M′ W′ (step l δ p s) p x′
-    turn-stepped M′ W′ x′ (a, b) f h = record {
-      running = record { coded = t .running .coded; iterations = t .running .iterations; standing = a };
-      low = t .low;
-      held = b;
-      halted = λ y. omega (arith, b .at, f y, turn-end);
-    }
+    -- ---- it is open
+
+    module _ (o : is-open role z ≡ true) where
+      is-unstopped : x .fault ≡ 0
+      is-unstopped = opened-yes (point-of x) (blockStart (g .iterations) k (suc p)) o .0
+
+      pub turn-below : s .places p .at < bound δ (suc p)
+      turn-below = omega (arith, turn-end, t .held .at, opened-yes (point-of x) (blockStart (g .iterations) k (suc p)) o .1)
+
+      opens : Open code (g .from) k l M W s p (x .pending) (point-of x)
+      opens = record { coded = t .running .coded; standing = t .running .standing; placed = t .held; low = t .low; unfinished = turn-below; unstopped = is-unstopped }
+
+      pub turn-goes : CanGo role code z
+      turn-goes = open-goes code (g .from) k l M W s p (x .pending) (point-of x) opens (blockStart (g .iterations) k (suc p))
+
+      pub turn-went : (z′ : Scene) → Goes role code z z′ → Turn code g l (z′ .cells) (z′ .words) (step l δ p s) p (joined (z′ .pending) (z′ .point))
+      turn-went z′ h =
+          let (a, b) = open-steps code (g .from) k l M W s p (x .pending) (point-of x) opens (blockStart (g .iterations) k (suc p)) z′ h in
+          record {
+            running = record { coded = t .running .coded; iterations = t .running .iterations; standing = a };
+            low = t .low;
+            held = b;
+            halted = λ y. omega (arith, b .at, goes-halts role code z z′ h y, turn-below, t .held .at);
+          }
+
+    -- ---- it is not
+
+    module _ (o : is-open role z ≡ false) where
+      pub turn-idle : step l δ p s ≡ s
+      turn-idle = by (opened-no (point-of x) (blockStart (g .iterations) k (suc p)) o)
+        where
+          by : (x .fault ≢ 0) ⊎ (blockStart (g .iterations) k (suc p) ≤ i) → step l δ p s ≡ s
+          by (inl n) = elim (decLt (s .places p .at) (bound δ (suc p))) [
+            | yes y ↦ step-stopped l δ p s (x .fault) (x .line) (turn-fault n y)
+            | no y ↦ step-finished l δ p s (omega arith)
+          ]
+          by (inr h) = step-finished l δ p s (omega (arith, turn-end, t .held .at))
 
   -- ---- all of them
 

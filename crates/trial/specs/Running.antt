@@ -1,16 +1,18 @@
 -- A run with its processors' records: what its state is, and what a step and a schedule do to it.
 use mathlib.Core.Path.{_≡_}
 use mathlib.Core.Logic.{_⊎_}
-use mathlib.Core.Bool.{Bool, _&&_}
 use mathlib.Core.List.{List, []}
 use Prim.Native.Nat.{ℕ, suc, _≤_, _<_}
-use lib.Dec.{eqb, ltb}
 use lib.ListN.{length, getD, replicate}
 use lib.IntN.{ℤ, pos}
-use Rattle.rules.specs.Loop.{Loop, bound}
+use Rattle.rules.specs.Loop.{Loop, Partition, bound}
 use Rattle.rules.specs.Blocks.{blockStart}
 use Rattle.rules.specs.Steps.{Place, State, step, steps, run-out, run-on}
-use Rattle.trial.specs.declared.Point.{Point}
+use Rattle.stepping.specs.declared.Extent.{Extent}
+use Rattle.stepping.specs.declared.Extent.the-variants.{Once, ToTheEnd}
+use Rattle.stepping.specs.declared.Manner.the-variants.{ByClass}
+use Rattle.stepping.specs.declared.Point.{Point}
+use Rattle.stepping.specs.declared.Role.{Role}
 use Rattle.trial.specs.declared.Worker.{Worker}
 use Rattle.trial.specs.declared.Setting.{Setting}
 use Rattle.trial.specs.Standing.{dealt, Coded, Standing, Placed}
@@ -79,10 +81,6 @@ Follows code g M W ws ps M′ W′ ws′ = (l : Loop) (s : State) → Run code g
 
 -- ---- the run to the end
 
--- a processor whose block ends at e is neither stopped nor finished
-unfoldable pub opened : Point → ℕ → Bool
-opened t e = eqb (t .fault) 0 && ltb (t .iteration .0) e
-
 -- a processor "to its end"
 abbrev pub RunsOut : List ℕ → Setting → List ℤ → List ℕ → ℕ → Worker → List ℤ → List ℕ → Worker → Type 0
 RunsOut code g M W p x M′ W′ x′ = (l : Loop) (s : State) → Turn code g l M W s p x → Turn code g l M′ W′ (run-out l (dealt l (g .processors)) p s) p x′
@@ -91,7 +89,38 @@ RunsOut code g M W p x M′ W′ x′ = (l : Loop) (s : State) → Turn code g l
 abbrev pub Over : Setting → ℕ → Worker → Type 0
 Over g p x = (0 < x .fault) ⊎ (blockStart (g .iterations) (g .processors) (suc p) ≤ x .iteration .0)
 
--- of all of them
+-- ---- both, by what is fixed for a processor
+
+-- of processor p, whose block ends before e
+abbrev pub roleTo : Setting → ℕ → ℕ → Role
+roleTo g p e = record { manner = ByClass; processors = g .processors; number = record { 0 = p }; from = g .from; end = record { 0 = e } }
+
+abbrev pub roleOf : Setting → ℕ → Role
+roleOf g p = roleTo g p (blockStart (g .iterations) (g .processors) (suc p))
+
+abbrev pub HasRole : List ℕ → Role → List ℤ → List ℕ → Worker → Type 0
+HasRole code x M W y = (g : Setting) × (p : ℕ) × (x ≡ roleOf g p) × HasTurn code g M W p y
+
+-- one step, or all to the end
+unfoldable pub along : Extent → Loop → Partition → ℕ → State → State
+along Once l δ p s = step l δ p s
+along ToTheEnd l δ p s = run-out l δ p s
+
+-- where it then is
+unfoldable pub Ends : Extent → Setting → ℕ → Worker → Type 0
+Ends Once g p y = Unit {0}
+Ends ToTheEnd g p y = Over g p y
+
+pub record Carried (k : Extent) (code : List ℕ) (g : Setting) (M : List ℤ) (W : List ℕ) (p : ℕ) (y : Worker) (M′ : List ℤ) (W′ : List ℕ) (y′ : Worker) : Type 0 where
+  pub turns : (l : Loop) (s : State) → Turn code g l M W s p y → Turn code g l M′ W′ (along k l (dealt l (g .processors)) p s) p y′
+  pub ends : Ends k g p y′
+
+abbrev pub Carries : Extent → List ℕ → Role → List ℤ → List ℕ → Worker → List ℤ → List ℕ → Worker → Type 0
+Carries k code x M W y M′ W′ y′ = (g : Setting) (p : ℕ) → x ≡ roleOf g p → Carried k code g M W p y M′ W′ y′
+
+-- ---- all processors
+
+-- each was stopped, or its block is done
 abbrev pub AllOver : Setting → List Worker → Type 0
 AllOver g ws = (q : ℕ) → q < g .processors → Over g q (getD ws q nobody)
 

@@ -18,7 +18,7 @@ use Rattle.shadow.proofs.Orderly.{Orderly}
 use Rattle.tables.proofs.Logged.{Logged}
 use Rattle.code.specs.Instr.{instructions, resume}
 use Rattle.machine.specs.Machine.{pendings, Holding}
-use Rattle.trial.specs.declared.Point.{Point}
+use Rattle.stepping.specs.declared.Point.{Point}
 
 -- ---- the loop
 
@@ -65,6 +65,7 @@ left-of code v a t = pick (t .fault) 0 (resume (instructions code) (t .place) (p
 pub record Placed (code : List ℕ) (m : ℤ) (l : Loop) (a : List ℤ) (t : Point) (w : Place) : Type 0 where
   pub holding : Holding a (t .depth)
   pub at : w .at ≡ t .iteration .0
+  pub lineless : t .fault ≡ 0 → t .line ≡ 0
   pub act : w .at < l .iterations → w .act ≡ left-of code (m +ℤ pos (w .at)) a t
 
 -- processor p has an iteration open, and no fault stopped it

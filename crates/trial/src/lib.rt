@@ -1,34 +1,19 @@
-// The trial of a loop (document 01, Steps): each processor's record, its step over the code, the steps of a schedule and the run to the end; the shadow
-// tables in the workspace are kept on the way. What records, cells and words stand for is in specs/Standing.antt, the step rule in crates/rules.
+// The trial of a loop (document 01, Steps): each processor's record, the steps of a schedule and the run to the end, both by the step of crates/stepping; the
+// shadow tables in the workspace are kept on the way. What records, cells and words stand for is in specs/Standing.antt, the step rule in crates/rules.
 ghost use mathlib.Core.Path.{_≡_};
-ghost use Prim.Native.Nat.{_+_, _*_, _<_, _≤_};
+ghost use Prim.Native.Nat.{_<_, _≤_};
 ghost use lib.ListN.{length};
-ghost use lib.IntN.{pos, _+ℤ_};
-ghost use mir.Syntax.{w32};
-ghost use mir.Val.{SFits};
-ghost use Rattle.trial.specs.Accesses.{CanStep, Steps, Nearer, Halts};
-ghost use Rattle.trial.specs.Running.{waiting, HasTurn, TakesTurn, CanFollow, Follows, opened, RunsOut, Over, AllOver, CanRun, RunsOn};
+ghost use Rattle.trial.specs.Running.{roleOf, waiting, HasTurn, TakesTurn, HasRole, Carries, CanFollow, Follows, RunsOut, Over, AllOver, CanRun, RunsOn};
 ghost use Rattle.trial.specs.Start.{Entry, Enters, Crew, CanBegin, Begins, CanTry, Tries};
-ghost use Rattle.trial.specs.Leaves.{LeavesTrial};
-ghost use Rattle.trial.specs.View.{Stands, Shown};
 ghost use Rattle.rules.specs.Loop.{Loop};
-use machine::Move;
 use rules::Iteration;
 use rules::Processor;
+use stepping::Extent;
+use stepping::Manner;
+use stepping::Point;
+use stepping::Role;
 
-mod access;
-pub mod result;
-
-// Where a processor is: how many values are pending, its place in the code and its iteration; 0 or the number of the fault that stopped it, and that fault's line.
-pub struct Point {
-    pub depth: usize,
-    pub place: usize,
-    pub iteration: Iteration,
-    pub fault: u32,
-    pub line: u32,
-}
-
-// A processor's record: its pending values, and where it is.
+// A processor's record: its pending values, and where it is (`stepping::Point`).
 pub struct Worker {
     pub pending: [i32; 32],
     pub depth: usize,
@@ -45,87 +30,54 @@ pub struct Setting {
     pub from: i32,
 }
 
-// The value of the loop's variable in an iteration.
-pub fn value_at(from: i32, i: Iteration) -> i32
-    requires { ⌜ (i .0 ≤ 65535) × SFits w32 (from +ℤ pos (i .0)) ⌝ }
-    ensures { λ r. ⌜ r ≡ from +ℤ pos (i .0) ⌝ }
+// ---- steps
+
+// What is fixed for a processor of a trial.
+fn role_of(setting: Setting, p: Processor) -> Role
+    requires { ⌜ (setting .iterations ≤ 65535) × (setting .processors ≤ 8) × (p .0 < setting .processors) ⌝ }
+    ensures { λ r. ⌜ r ≡ roleOf setting (p .0) ⌝ }
 {
-    from + i.0 as i32
+    let after = Processor(p.0 + 1);
+    let end = rules::block_start(setting.iterations, setting.processors, after);
+    Role {
+        manner: Manner::ByClass,
+        processors: setting.processors,
+        number: p,
+        from: setting.from,
+        end: end,
+    }
 }
 
-// One step of a processor that is not finished and not stopped: up to and including its next cell access, or to the end of its iteration or a fault.
-fn go_on(
+// The steps of a processor by its record, as far as it is to go. The record is taken apart once.
+fn carry(
+    worker: Worker,
     code: &[u32],
-    setting: Setting,
-    p: Processor,
+    role: Role,
     cells: &mut [i32],
     w: &mut [u32],
-    pending: &mut [i32; 32],
-    t: Point,
-) -> Point
-    requires { ⌜ CanStep (now code) (setting .from) (setting .processors) (now cells) (now w) (p .0) (now pending) t ⌝ }
-    ensures { λ r. ⌜ Steps (now (code .entry)) (setting .from) (setting .processors) (now (cells .entry)) (now (w .entry)) (p .0) (now (pending .entry)) t (now (cells .exit)) (now (w .exit)) (now (pending .exit)) r ⌝ }
-    ensures { λ r. ⌜ Nearer (now (code .entry)) t r ⌝ }
-    ensures { λ r. ⌜ Halts t r ⌝ }
+    extent: Extent,
+) -> Worker
+    requires { ⌜ HasRole (now code) role (now cells) (now w) worker ⌝ }
+    ensures { λ r. ⌜ Carries extent (now (code .entry)) role (now (cells .entry)) (now (w .entry)) worker (now (cells .exit)) (now (w .exit)) r ⌝ }
 {
-    let i = t.iteration;
-    let v = value_at(setting.from, i);
-    let processors = setting.processors as usize;
-    let r = machine::advance(code, t.place, t.depth, pending, v);
-    let done = r.done;
-    let place = r.place;
-    let depth = r.depth;
-    match done {
-        Move::Read { cell } => {
-            let x = access::read_cell(processors, p, i, cells, w, cell);
-            let d = machine::push(pending, depth, x);
-            Point {
-                depth: d,
-                place: place,
-                iteration: i,
-                fault: 0,
-                line: 0,
-            }
-        }
-        Move::Write { cell, value } => {
-            access::write_cell(processors, p, i, cells, w, cell, value);
-            Point {
-                depth: depth,
-                place: place,
-                iteration: i,
-                fault: 0,
-                line: 0,
-            }
-        }
-        Move::Update { cell, value } => {
-            access::update_cell(processors, p, i, cells, w, cell, value);
-            Point {
-                depth: depth,
-                place: place,
-                iteration: i,
-                fault: 0,
-                line: 0,
-            }
-        }
-        Move::Fault { number, line } => {
-            Point {
-                depth: depth,
-                place: place,
-                iteration: i,
-                fault: number,
-                line: line,
-            }
-        }
-        Move::End => {
-            let next = Iteration(i.0 + 1);
-            Point {
-                depth: 0,
-                place: 0,
-                iteration: next,
-                fault: 0,
-                line: 0,
-            }
-        }
+    let mut pending = worker.pending;
+    let i = worker.iteration;
+    let from = Point {
+        depth: worker.depth,
+        place: worker.place,
+        iteration: i,
+        fault: worker.fault,
+        line: worker.line,
+    };
+    let t = stepping::carry_on(code, role, cells, w, &mut pending, from, extent);
+    let j = t.iteration;
+    Worker {
+        pending: pending,
+        depth: t.depth,
+        place: t.place,
+        iteration: j,
+        fault: t.fault,
+        line: t.line,
     }
 }
 
@@ -141,33 +93,8 @@ pub fn step(
     requires { ⌜ HasTurn (now code) setting (now cells) (now w) (p .0) worker ⌝ }
     ensures { λ r. ⌜ TakesTurn (now (code .entry)) setting (now (cells .entry)) (now (w .entry)) (p .0) worker (now (cells .exit)) (now (w .exit)) r ⌝ }
 {
-    let after = Processor(p.0 + 1);
-    let end = rules::block_start(setting.iterations, setting.processors, after);
-    let i = worker.iteration;
-    if worker.fault != 0 {
-        return worker;
-    }
-    if end.0 <= i.0 {
-        return worker;
-    }
-    let mut pending = worker.pending;
-    let t = Point {
-        depth: worker.depth,
-        place: worker.place,
-        iteration: i,
-        fault: worker.fault,
-        line: worker.line,
-    };
-    let r = go_on(code, setting, p, cells, w, &mut pending, t);
-    let j = r.iteration;
-    Worker {
-        pending: pending,
-        depth: r.depth,
-        place: r.place,
-        iteration: j,
-        fault: r.fault,
-        line: r.line,
-    }
+    let role = role_of(setting, p);
+    carry(worker, code, role, cells, w, Extent::Once)
 }
 
 // The same step on the record of the one processor that it names, which is lent; no other record is.
@@ -218,9 +145,8 @@ pub fn follow(
     let mut ws = workers;
     let mut j = 0;
     while j < schedule.len() {
-        let b = schedule[j] as u32;
-        let named = Processor(b);
-        let q = b as usize;
+        let named = Processor(schedule[j] as u32);
+        let q = rules::index_of(named);
         let x = ws[q];
         let y = turn(x, code, setting, named, cells, w);
         ws[q] = y;
@@ -229,18 +155,7 @@ pub fn follow(
     ws
 }
 
-// Whether a processor whose block ends at an iteration is neither stopped nor finished.
-pub fn is_open(t: Point, end: Iteration) -> bool
-    ensures { λ r. ⌜ r ≡ opened t (end .0) ⌝ }
-{
-    if t.fault == 0 {
-        t.iteration.0 < end.0
-    } else {
-        false
-    }
-}
-
-// A processor to its end. Its record is taken apart once.
+// A processor to its end.
 pub fn run_out(
     code: &[u32],
     setting: Setting,
@@ -253,29 +168,8 @@ pub fn run_out(
     ensures { λ r. ⌜ RunsOut (now (code .entry)) setting (now (cells .entry)) (now (w .entry)) (p .0) worker (now (cells .exit)) (now (w .exit)) r ⌝ }
     ensures { λ r. ⌜ Over setting (p .0) r ⌝ }
 {
-    let after = Processor(p.0 + 1);
-    let end = rules::block_start(setting.iterations, setting.processors, after);
-    let i = worker.iteration;
-    let mut pending = worker.pending;
-    let mut t = Point {
-        depth: worker.depth,
-        place: worker.place,
-        iteration: i,
-        fault: worker.fault,
-        line: worker.line,
-    };
-    while is_open(t, end) {
-        t = go_on(code, setting, p, cells, w, &mut pending, t);
-    }
-    let j = t.iteration;
-    Worker {
-        pending: pending,
-        depth: t.depth,
-        place: t.place,
-        iteration: j,
-        fault: t.fault,
-        line: t.line,
-    }
+    let role = role_of(setting, p);
+    carry(worker, code, role, cells, w, Extent::ToTheEnd)
 }
 
 // All processors to their end, in number order.
@@ -294,16 +188,19 @@ pub fn run_on(
     let mut q: u32 = 0;
     while q < setting.processors {
         let p = Processor(q);
-        let x = ws[q as usize];
+        let k = rules::index_of(p);
+        let x = ws[k];
         let y = run_out(code, setting, p, cells, w, x);
-        ws[q as usize] = y;
+        ws[k] = y;
         q += 1;
     }
     ws
 }
 
-// The tables of no access: the entry value and the class of each cell, 0 shared, 1 lastprivate, 2 reduction.
-pub fn enter(processors: usize, cells: &[i32], classes: &[u32], w: &mut [u32])
+// ---- the start, and the whole
+
+// The tables of no access: the entry value and the class of each cell.
+pub fn enter(processors: u32, cells: &[i32], classes: &[u32], w: &mut [u32])
     requires { ⌜ ((l : Loop) × Entry processors l (now cells) (now classes) (length (now w))) ⌝ }
     ensures { λ _. ⌜ Enters processors (now (cells .entry)) (now (classes .entry)) (length (now (w .entry))) (now (w .exit)) ⌝ }
 {
@@ -317,7 +214,7 @@ pub fn enter(processors: usize, cells: &[i32], classes: &[u32], w: &mut [u32])
 }
 
 // A record at the start of an iteration.
-fn record_at(i: Iteration) -> Worker
+pub fn record_at(i: Iteration) -> Worker
     ensures { λ r. ⌜ r ≡ waiting (i .0) ⌝ }
 {
     let pending = [0; 32];
@@ -342,9 +239,10 @@ fn crew(setting: Setting) -> [Worker; 8]
     let mut q: u32 = 0;
     while q < setting.processors {
         let p = Processor(q);
+        let k = rules::index_of(p);
         let i = rules::block_start(setting.iterations, setting.processors, p);
         let x = record_at(i);
-        ws[q as usize] = x;
+        ws[k] = x;
         q += 1;
     }
     ws
@@ -355,7 +253,7 @@ pub fn begin(setting: Setting, classes: &[u32], cells: &[i32], w: &mut [u32]) ->
     requires { ⌜ CanBegin setting (now cells) (now classes) (length (now w)) ⌝ }
     ensures { λ r. ⌜ Begins setting (now (cells .entry)) (now (classes .entry)) (length (now (w .entry))) (now (w .exit)) r ⌝ }
 {
-    enter(setting.processors as usize, cells, classes, w);
+    enter(setting.processors, cells, classes, w);
     crew(setting)
 }
 
@@ -371,23 +269,8 @@ pub fn trial(
     requires { ⌜ CanTry (now code) setting (now cells) (now classes) (now schedule) (length (now w)) ⌝ }
     ensures { λ r. ⌜ Tries (now (code .entry)) setting (now (cells .entry)) (now (classes .entry)) (now (schedule .entry)) (length (now (w .entry))) (now (cells .exit)) (now (w .exit)) r ⌝ }
     ensures { λ r. ⌜ AllOver setting r ⌝ }
-    ensures { λ r. ⌜ LeavesTrial (now (code .entry)) setting (now (cells .entry)) (now (classes .entry)) (now (schedule .entry)) (length (now (w .entry))) (now (cells .exit)) (now (w .exit)) r ⌝ }
 {
     let first = begin(setting, classes, cells, w);
     let then = follow(code, setting, schedule, cells, w, first);
     run_on(code, setting, cells, w, then)
-}
-
-// What Look shows: for each cell the word of its shared value, and its marks.
-pub fn show(processors: usize, cells: &[i32], w: &[u32], view: &mut [u32])
-    requires { ⌜ Stands processors (now cells) (now w) × (length (now view) ≡ 2 * length (now cells)) ⌝ }
-    ensures { λ _. ⌜ Shown processors (now (cells .entry)) (now (w .entry)) (now (view .exit)) ⌝ }
-{
-    let mut c = 0;
-    while c < cells.len() {
-        let row = tables::row_of(c, processors);
-        view[2 * c] = int32::to_word(cells[c]);
-        view[2 * c + 1] = tables::marks_of(w, row);
-        c += 1;
-    }
 }

@@ -4,8 +4,6 @@ use Rattle.exports.specs.Numbers.{doneNumbers}
 use borrow.Author.Needs.{needs}
 use Rattle.exports.proofs.done_answer.Statement.{statement}
 use Rattle.exports.proofs.done_answer.Tie as tie
-use Rattle.exports.proofs.done_answer.Reads as reads
-use Rattle.exports.proofs.done_answer.Lts as lts
 
 enum-told : tie.Need-enum-told
 enum-told c = search needs

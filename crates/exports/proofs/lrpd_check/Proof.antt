@@ -4,9 +4,6 @@ use Rattle.exports.specs.Numbers.{checkNumbers}
 use borrow.Author.Needs.{needs}
 use Rattle.exports.proofs.lrpd_check.Statement.{statement}
 use Rattle.exports.proofs.lrpd_check.Tie as tie
-use Rattle.exports.proofs.lrpd_check.Reads as reads
-use Rattle.exports.proofs.lrpd_check.Lts as lts
-use Rattle.services.proofs.check.Reads as check-reads
 
 check-requires : tie.Need-check-requires
 check-requires c κs = search needs

@@ -4,10 +4,6 @@ use Rattle.exports.specs.Numbers.{doneNumbers}
 use borrow.Author.Needs.{needs}
 use Rattle.exports.proofs.lrpd_load.Statement.{statement}
 use Rattle.exports.proofs.lrpd_load.Tie as tie
-use Rattle.exports.proofs.lrpd_load.Reads as reads
-use Rattle.exports.proofs.lrpd_load.Lts as lts
-use Rattle.exports.proofs.done_answer.Reads as done-answer-reads
-use Rattle.services.proofs.load.Reads as load-reads
 
 load-requires : tie.Need-load-requires
 load-requires c κs = search needs

@@ -4,10 +4,6 @@ use Rattle.exports.specs.Numbers.{doneNumbers}
 use borrow.Author.Needs.{needs}
 use Rattle.exports.proofs.lrpd_look.Statement.{statement}
 use Rattle.exports.proofs.lrpd_look.Tie as tie
-use Rattle.exports.proofs.lrpd_look.Reads as reads
-use Rattle.exports.proofs.lrpd_look.Lts as lts
-use Rattle.exports.proofs.done_answer.Reads as done-answer-reads
-use Rattle.services.proofs.look.Reads as look-reads
 
 look-requires : tie.Need-look-requires
 look-requires c κs = search needs

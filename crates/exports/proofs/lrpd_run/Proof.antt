@@ -4,10 +4,6 @@ use Rattle.exports.specs.Numbers.{runNumbers}
 use borrow.Author.Needs.{needs}
 use Rattle.exports.proofs.lrpd_run.Statement.{statement}
 use Rattle.exports.proofs.lrpd_run.Tie as tie
-use Rattle.exports.proofs.lrpd_run.Reads as reads
-use Rattle.exports.proofs.lrpd_run.Lts as lts
-use Rattle.exports.proofs.run_answer.Reads as run-answer-reads
-use Rattle.services.proofs.run.Reads as run-reads
 
 run-requires : tie.Need-run-requires
 run-requires c κs = search needs

@@ -2,13 +2,10 @@
 use mathlib.Core.Path.{_≡_, sym, ap, _∙_}
 use mir.Syntax.{w32}
 use mir.Val.{toZ, ofZ}
-use Rattle.exports.specs.declared.RunAnswer.{RunAnswer}
 use Rattle.exports.specs.Numbers.{runNumbers}
 use borrow.Author.Needs.{needs}
 use Rattle.exports.proofs.run_answer.Statement.{statement}
 use Rattle.exports.proofs.run_answer.Tie as tie
-use Rattle.exports.proofs.run_answer.Reads as reads
-use Rattle.exports.proofs.run_answer.Lts as lts
 
 enum-known-r : tie.Need-enum-known-r
 enum-known-r c = search needs

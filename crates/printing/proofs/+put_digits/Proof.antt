@@ -1,5 +1,5 @@
 -- `printing::put_digits` meets its contract: it calls itself for one digit less.
-use Prim.Native.Nat.{_+_, _-_, _/_}
+use Prim.Native.Nat.{_-_, _/_}
 use native.Mathlib.Omega.{arith}
 use borrow.Author.Needs.{needs}
 use Rattle.printing.proofs.Writing.{digits-none, digits-last, digits-more, digits-few}

@@ -6,8 +6,8 @@ use Rattle.tables.specs.Changes.{counted}
 use Rattle.tables.proofs.count.Statement.{statement}
 use Rattle.tables.proofs.count.Tie as tie
 
-add-i : tie.Need-add-i
-add-i c = search needs
+iteration-stamp-requires : tie.Need-iteration-stamp-requires
+iteration-stamp-requires c κs = search needs
 
 slice-read-pairs : tie.Need-slice-read-pairs
 slice-read-pairs c = search needs
@@ -77,13 +77,13 @@ same-length c = search needs
 
 returns : tie.Need-returns
 unfolding counted
-returns c = rw (c .before .before .choose .ensures, c .choose3 .ensures, c .before .choose2 .ensures)
+returns c = rw (c .before .before .choose .ensures, c .choose3 .ensures, c .before .choose2 .ensures, c .before .before .before .before .before .before .before .before .iteration-stamp .ensures)
 
 pub count-spec : {M : Type 1} → statement M
 count-spec =
     tie.close
     (tie.spec
-    add-i
+    iteration-stamp-requires
     slice-read-pairs
     slice-read-cells
     add-touched

@@ -8,8 +8,8 @@ use Rattle.tables.specs.Changes.{written}
 use Rattle.tables.proofs.mark_written.Statement.{statement}
 use Rattle.tables.proofs.mark_written.Tie as tie
 
-add-g : tie.Need-add-g
-add-g c = search needs
+group-stamp-requires : tie.Need-group-stamp-requires
+group-stamp-requires c κs = search needs
 
 add-wrote : tie.Need-add-wrote
 add-wrote c = search needs
@@ -122,14 +122,14 @@ same-length c = search needs
 returns : tie.Need-returns
 unfolding written
 returns c =
-    let e = c .to-word .ensures ∙ seen (c .before .before .before .before .before .before .before .before .before .before .before .fits .value) in
-    rw (c .before .before .before .before .met-by .ensures, c .before .before .before .choose .ensures, c .before .choose2 .ensures, c .before .before .crossed .ensures, e)
+    let e = c .to-word .ensures ∙ seen (c .before .before .before .before .before .before .before .before .before .before .before .before .fits .value) in
+    rw (c .before .before .before .before .met-by .ensures, c .before .before .before .choose .ensures, c .before .choose2 .ensures, c .before .before .crossed .ensures, e, c .before .before .before .before .before .before .before .before .before .before .group-stamp .ensures)
 
 pub mark-written-spec : {M : Type 1} → statement M
 mark-written-spec =
     tie.close
     (tie.spec
-    add-g
+    group-stamp-requires
     add-wrote
     mul-wrote
     slice-read-wrote

@@ -17,7 +17,7 @@ choose-requires-2 c κs = search needs
 returns : tie.Need-returns
 returns c =
     let a = c .before .before .args in
-    c .choose2 .ensures ∙ ap (pick (a .wrote) (a .g) (a .met)) (c .before .choose .ensures)
+    c .choose2 .ensures ∙ ap (pick (a .wrote) (a .stamp) (a .met)) (c .before .choose .ensures)
 
 pub met-by-spec : {M : Type 1} → statement M
 met-by-spec = tie.close (tie.spec add-choose choose-requires choose-requires-2 returns)

@@ -6,8 +6,8 @@ use Rattle.tables.specs.Changes.{read-noted}
 use Rattle.tables.proofs.note_read.Statement.{statement}
 use Rattle.tables.proofs.note_read.Tie as tie
 
-add-g : tie.Need-add-g
-add-g c = search needs
+group-stamp-requires : tie.Need-group-stamp-requires
+group-stamp-requires c κs = search needs
 
 add-wrote : tie.Need-add-wrote
 add-wrote c = search needs
@@ -65,13 +65,13 @@ same-length c = search needs
 
 returns : tie.Need-returns
 unfolding read-noted
-returns c = rw (c .before .met-by .ensures, c .choose .ensures)
+returns c = rw (c .before .met-by .ensures, c .choose .ensures, c .before .before .before .before .before .group-stamp .ensures)
 
 pub note-read-spec : {M : Type 1} → statement M
 note-read-spec =
     tie.close
     (tie.spec
-    add-g
+    group-stamp-requires
     add-wrote
     mul-wrote
     slice-read-wrote

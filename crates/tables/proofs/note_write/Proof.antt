@@ -14,7 +14,7 @@ mark-written-requires : tie.Need-mark-written-requires
 mark-written-requires c κs =
     let a = c .before .before .before .before .before .before .args in
     let p = c .before .before .before .before .before .before .pre in
-    rw (c .before .before .before .count .ensures) (counted-ready (a .w .now) (a .row) (a .own) (a .iteration) (a .group) (p .0) (p .1))
+    rw (c .before .before .before .count .ensures) (counted-ready (a .w .now) (a .row) (a .own) (a .iteration .0) (a .group .0) (p .0) (p .1))
 
 same-length : tie.Need-same-length
 same-length c = search needs

@@ -15,8 +15,8 @@ mul-choose c = search needs
 shared-slice-read-choose : tie.Need-shared-slice-read-choose
 shared-slice-read-choose c = search needs
 
-add-choose-2 : tie.Need-add-choose-2
-add-choose-2 c = search needs
+group-stamp-requires : tie.Need-group-stamp-requires
+group-stamp-requires c κs = search needs
 
 mul-choose-2 : tie.Need-mul-choose-2
 mul-choose-2 c = search needs
@@ -39,7 +39,7 @@ of-word-requires c κs = search needs
 returns : tie.Need-returns
 returns c =
     let e : toZ w32 (ofZ w32 (c .of-word .result)) ≡ c .of-word .result = search needs in
-    rw (e, c .of-word .ensures, c .before .choose .ensures)
+    rw (e, c .of-word .ensures, c .before .choose .ensures, c .before .before .before .before .group-stamp .ensures)
 
 pub own-value-spec : {M : Type 1} → statement M
 own-value-spec =
@@ -48,7 +48,7 @@ own-value-spec =
     add-choose
     mul-choose
     shared-slice-read-choose
-    add-choose-2
+    group-stamp-requires
     mul-choose-2
     shared-slice-read-choose-2
     mul-choose-3

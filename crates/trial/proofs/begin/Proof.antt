@@ -4,9 +4,6 @@ use borrow.Author.Needs.{needs}
 use Rattle.trial.proofs.begin.Statement.{statement}
 use Rattle.trial.proofs.begin.Tie as tie
 
-cast-enter : tie.Need-cast-enter
-cast-enter c = search needs
-
 enter-requires : tie.Need-enter-requires
 enter-requires c κs = search needs
 
@@ -18,8 +15,8 @@ same-length c = search needs
 
 returns : tie.Need-returns
 returns c =
-    let a = c .before .before .before .before .before .before .before .before .args in
+    let a = c .before .before .before .before .before .before .before .args in
     λ code l h. starts-run code (a .setting) l (a .cells .now) (a .classes .now) _ h _ _ (c .before .before .before .enter .ensures l (h .entry)) (c .crew .ensures)
 
 pub begin-spec : {M : Type 1} → statement M
-begin-spec = tie.close (tie.spec cast-enter enter-requires crew-requires same-length returns)
+begin-spec = tie.close (tie.spec enter-requires crew-requires same-length returns)

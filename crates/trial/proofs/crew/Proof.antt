@@ -26,14 +26,14 @@ record-at-requires c κs = search needs
 loop-holds : tie.Need-loop-holds Inv-loop μ-loop
 loop-holds c = (omega arith, search needs, λ j b. absurd (omega (arith, b)))
 
+index-of-requires : tie.Need-index-of-requires Inv-loop μ-loop
+index-of-requires c κs = search needs
+
 block-start-requires : tie.Need-block-start-requires Inv-loop μ-loop
 block-start-requires c κs = search needs
 
 record-at-requires-2 : tie.Need-record-at-requires-2 Inv-loop μ-loop
 record-at-requires-2 c κs = search needs
-
-cast-ws : tie.Need-cast-ws Inv-loop μ-loop
-cast-ws c = search needs
 
 mul-ws : tie.Need-mul-ws Inv-loop μ-loop
 mul-ws c = search needs
@@ -49,10 +49,10 @@ loop-less c = search needs
 
 loop-again : tie.Need-loop-again Inv-loop μ-loop
 loop-again c =
-    let a = c .before .before .before .before .before .before .args in
-    let u = c .before .before .before .before .loop in
+    let a = c .before .before .before .before .before .before .before .args in
+    let u = c .before .before .before .before .before .loop in
     let e : c .record-at2 .result ≡ waiting (blockStart (a .setting .iterations) (a .setting .processors) (u .q)) = c .record-at2 .ensures ∙ ap waiting (c .before .block-start .ensures) in
-    (omega arith, simp length-set (u .inv .1), rw (add-one, e) (crew-more (u .ws) (u .q) (λ j. waiting (blockStart (a .setting .iterations) (a .setting .processors) j)) (omega arith) (u .inv .2)))
+    (omega arith, simp length-set (u .inv .1), rw (add-one, e, c .before .before .index-of .ensures) (crew-more (u .ws) (u .q) (λ j. waiting (blockStart (a .setting .iterations) (a .setting .processors) j)) (omega arith) (u .inv .2)))
 
 returns : tie.Need-returns Inv-loop μ-loop
 returns c =
@@ -67,9 +67,9 @@ crew-spec =
     μ-loop
     record-at-requires
     loop-holds
+    index-of-requires
     block-start-requires
     record-at-requires-2
-    cast-ws
     mul-ws
     array-set-from-ws
     add-q

@@ -29,43 +29,43 @@ loop-holds : tie.Need-loop-holds Inv-loop μ-loop
 unfolding steps
 loop-holds c = (omega arith, refl, refl, search needs, λ l s r. r)
 
-shared-slice-read-b : tie.Need-shared-slice-read-b Inv-loop μ-loop
-shared-slice-read-b c = search needs
+shared-slice-read-t16 : tie.Need-shared-slice-read-t16 Inv-loop μ-loop
+shared-slice-read-t16 c = search needs
 
-cast-b : tie.Need-cast-b Inv-loop μ-loop
-cast-b c = omega (arith, c .shared-slice-known3 .given (c .before .before .loop .j))
+cast-t17 : tie.Need-cast-t17 Inv-loop μ-loop
+cast-t17 c = omega (arith, c .shared-slice-known3 .given (c .before .before .loop .j))
 
-cast-q : tie.Need-cast-q Inv-loop μ-loop
-cast-q c = omega (arith, c .shared-slice-known3 .given (c .before .before .loop .j))
+index-of-requires : tie.Need-index-of-requires Inv-loop μ-loop
+index-of-requires c κs = search needs
 
 mul-x : tie.Need-mul-x Inv-loop μ-loop
 mul-x c =
-    let a = c .before .before .before .before .before .before .args in
-    let (l, s, r, n) = c .before .before .before .before .before .before .pre in
-    omega (arith, n (c .before .before .loop .j) (c .before .loop-test .taken), r .running .standing .suits .most)
+    let a = c .before .before .before .before .before .before .before .args in
+    let (l, s, r, n) = c .before .before .before .before .before .before .before .pre in
+    omega (arith, n (c .before .before .before .loop .j) (c .before .before .loop-test .taken), r .running .standing .suits .most, c .index-of .ensures)
 
 array-copy-out-x : tie.Need-array-copy-out-x Inv-loop μ-loop
 array-copy-out-x c =
-    let a = c .before .before .before .before .before .before .args in
-    let (l, s, r, n) = c .before .before .before .before .before .before .pre in
-    omega (arith, n (c .before .before .loop .j) (c .before .loop-test .taken), r .running .standing .suits .most)
+    let a = c .before .before .before .before .before .before .before .args in
+    let (l, s, r, n) = c .before .before .before .before .before .before .before .pre in
+    omega (arith, n (c .before .before .before .loop .j) (c .before .before .loop-test .taken), r .running .standing .suits .most, c .index-of .ensures)
 
 turn-requires : tie.Need-turn-requires Inv-loop μ-loop
 turn-requires c κs =
-    let a = c .before .before .before .before .before .before .before .before .before .args in
-    let (l, s, r, n) = c .before .before .before .before .before .before .before .before .before .pre in
-    let u = c .before .before .before .before .before .loop in
-    (l, steps l (dealt l (a .setting .processors)) (take (u .j) (a .schedule .now)) s, run-turn (a .code .now) (a .setting) l (u .cells) (u .w) (u .ws) _ (getD (a .schedule .now) (u .j) 0) (u .inv .4 l s r) (n (u .j) (c .before .before .before .before .loop-test .taken)))
+    let a = c .before .before .before .before .before .before .before .before .before .before .args in
+    let (l, s, r, n) = c .before .before .before .before .before .before .before .before .before .before .pre in
+    let u = c .before .before .before .before .before .before .loop in
+    rw (c .before .before .before .index-of .ensures) (l, steps l (dealt l (a .setting .processors)) (take (u .j) (a .schedule .now)) s, run-turn (a .code .now) (a .setting) l (u .cells) (u .w) (u .ws) _ (getD (a .schedule .now) (u .j) 0) (u .inv .4 l s r) (n (u .j) (c .before .before .before .before .before .loop-test .taken)))
 
 mul-ws : tie.Need-mul-ws Inv-loop μ-loop
 mul-ws c =
-    let (l, s, r, n) = c .before .before .before .before .before .before .before .before .before .before .before .before .before .pre in
-    omega (arith, n (c .before .before .before .before .before .before .before .before .before .loop .j) (c .before .before .before .before .before .before .before .before .loop-test .taken), r .running .standing .suits .most)
+    let (l, s, r, n) = c .before .before .before .before .before .before .before .before .before .before .before .before .before .before .pre in
+    omega (arith, n (c .before .before .before .before .before .before .before .before .before .before .loop .j) (c .before .before .before .before .before .before .before .before .before .loop-test .taken), r .running .standing .suits .most, c .before .before .before .before .before .before .before .index-of .ensures)
 
 array-set-from-ws : tie.Need-array-set-from-ws Inv-loop μ-loop
 array-set-from-ws c =
-    let (l, s, r, n) = c .before .before .before .before .before .before .before .before .before .before .before .before .before .pre in
-    omega (arith, n (c .before .before .before .before .before .before .before .before .before .loop .j) (c .before .before .before .before .before .before .before .before .loop-test .taken), r .running .standing .suits .most)
+    let (l, s, r, n) = c .before .before .before .before .before .before .before .before .before .before .before .before .before .before .pre in
+    omega (arith, n (c .before .before .before .before .before .before .before .before .before .before .loop .j) (c .before .before .before .before .before .before .before .before .before .loop-test .taken), r .running .standing .suits .most, c .before .before .before .before .before .before .before .index-of .ensures)
 
 add-j : tie.Need-add-j Inv-loop μ-loop
 add-j c = search needs
@@ -75,10 +75,10 @@ loop-less c = search needs
 
 loop-again : tie.Need-loop-again Inv-loop μ-loop
 loop-again c =
-    let a = c .before .before .before .before .before .before .before .before .before .before .before .before .before .args in
-    let (l₀, s₀, r₀, n) = c .before .before .before .before .before .before .before .before .before .before .before .before .before .pre in
-    let u = c .before .before .before .before .before .before .before .before .before .loop in
-    let lt = c .before .before .before .before .before .before .before .before .loop-test .taken in
+    let a = c .before .before .before .before .before .before .before .before .before .before .before .before .before .before .args in
+    let (l₀, s₀, r₀, n) = c .before .before .before .before .before .before .before .before .before .before .before .before .before .before .pre in
+    let u = c .before .before .before .before .before .before .before .before .before .before .loop in
+    let lt = c .before .before .before .before .before .before .before .before .before .loop-test .taken in
     let b = n (u .j) lt in
     let h : getD (a .schedule .now) (u .j) 0 < length (u .ws) = omega (arith, b, r₀ .running .standing .suits .most, u .inv .3) in (
       omega arith,
@@ -86,9 +86,9 @@ loop-again c =
       search needs,
       simp length-set (u .inv .3),
       λ l s r.
-          rw (add-one, steps-more (a .code .now) (a .setting) l (a .schedule .now) (u .j) s lt)
+          rw (add-one, c .before .before .before .before .before .before .before .index-of .ensures, steps-more (a .code .now) (a .setting) l (a .schedule .now) (u .j) s lt)
           (run-stepped (a .code .now) (a .setting) l (u .cells) (u .w) (u .ws) _ (getD (a .schedule .now) (u .j) 0) (u .inv .4 l s r) h _ _ _
-          (c .before .before .before .turn .ensures l _ (run-turn (a .code .now) (a .setting) l (u .cells) (u .w) (u .ws) _ (getD (a .schedule .now) (u .j) 0) (u .inv .4 l s r) b))),
+          (rw (c .before .before .before .before .before .before .before .index-of .ensures) at (c .before .before .before .turn .ensures) l _ (run-turn (a .code .now) (a .setting) l (u .cells) (u .w) (u .ws) _ (getD (a .schedule .now) (u .j) 0) (u .inv .4 l s r) b))),
     )
 
 same-length : tie.Need-same-length Inv-loop μ-loop
@@ -111,9 +111,9 @@ follow-spec =
     Inv-loop
     μ-loop
     loop-holds
-    shared-slice-read-b
-    cast-b
-    cast-q
+    shared-slice-read-t16
+    cast-t17
+    index-of-requires
     mul-x
     array-copy-out-x
     turn-requires

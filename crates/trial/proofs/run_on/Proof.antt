@@ -30,38 +30,35 @@ loop-holds : tie.Need-loop-holds Inv-loop μ-loop
 unfolding run-on
 loop-holds c = (omega arith, refl, refl, search needs, λ l s r. r, λ j b. absurd (omega (arith, b)))
 
-cast-x : tie.Need-cast-x Inv-loop μ-loop
-cast-x c = search needs
+index-of-requires : tie.Need-index-of-requires Inv-loop μ-loop
+index-of-requires c κs = search needs
 
 mul-x : tie.Need-mul-x Inv-loop μ-loop
 mul-x c =
-    let (l, s, r) = c .before .before .before .before .before .pre in
-    omega (arith, c .if1 .taken, r .running .standing .suits .most)
+    let (l, s, r) = c .before .before .before .before .before .before .pre in
+    omega (arith, c .before .if1 .taken, r .running .standing .suits .most, c .index-of .ensures)
 
 array-copy-out-x : tie.Need-array-copy-out-x Inv-loop μ-loop
 array-copy-out-x c =
-    let (l, s, r) = c .before .before .before .before .before .pre in
-    omega (arith, c .if1 .taken, r .running .standing .suits .most)
+    let (l, s, r) = c .before .before .before .before .before .before .pre in
+    omega (arith, c .before .if1 .taken, r .running .standing .suits .most, c .index-of .ensures)
 
 run-out-requires : tie.Need-run-out-requires Inv-loop μ-loop
 run-out-requires c κs =
-    let a = c .before .before .before .before .before .before .before .before .args in
-    let (l, s, r) = c .before .before .before .before .before .before .before .before .pre in
-    let u = c .before .before .before .before .before .loop in
-    (l, run-on l (dealt l (a .setting .processors)) (u .q) s, run-turn (a .code .now) (a .setting) l (u .cells) (u .w) (u .ws) (run-on l (dealt l (a .setting .processors)) (u .q) s) (u .q) (u .inv .4 l s r) (c .before .before .before .if1 .taken))
-
-cast-ws : tie.Need-cast-ws Inv-loop μ-loop
-cast-ws c = search needs
+    let a = c .before .before .before .before .before .before .before .before .before .args in
+    let (l, s, r) = c .before .before .before .before .before .before .before .before .before .pre in
+    let u = c .before .before .before .before .before .before .loop in
+    rw (c .before .before .before .index-of .ensures) (l, run-on l (dealt l (a .setting .processors)) (u .q) s, run-turn (a .code .now) (a .setting) l (u .cells) (u .w) (u .ws) (run-on l (dealt l (a .setting .processors)) (u .q) s) (u .q) (u .inv .4 l s r) (c .before .before .before .before .if1 .taken))
 
 mul-ws : tie.Need-mul-ws Inv-loop μ-loop
 mul-ws c =
-    let (l, s, r) = c .before .before .before .before .before .before .before .before .before .before .before .before .pre in
-    omega (arith, c .before .before .before .before .before .before .before .if1 .taken, r .running .standing .suits .most)
+    let (l, s, r) = c .before .before .before .before .before .before .before .before .before .before .before .before .before .pre in
+    omega (arith, c .before .before .before .before .before .before .before .before .if1 .taken, r .running .standing .suits .most, c .before .before .before .before .before .before .before .index-of .ensures)
 
 array-set-from-ws : tie.Need-array-set-from-ws Inv-loop μ-loop
 array-set-from-ws c =
-    let (l, s, r) = c .before .before .before .before .before .before .before .before .before .before .before .before .pre in
-    omega (arith, c .before .before .before .before .before .before .before .if1 .taken, r .running .standing .suits .most)
+    let (l, s, r) = c .before .before .before .before .before .before .before .before .before .before .before .before .before .pre in
+    omega (arith, c .before .before .before .before .before .before .before .before .if1 .taken, r .running .standing .suits .most, c .before .before .before .before .before .before .before .index-of .ensures)
 
 add-q : tie.Need-add-q Inv-loop μ-loop
 add-q c = search needs
@@ -72,10 +69,10 @@ loop-less c = search needs
 loop-again : tie.Need-loop-again Inv-loop μ-loop
 unfolding run-on
 loop-again c =
-    let a = c .before .before .before .before .before .before .before .before .before .before .before .before .args in
-    let (l₀, s₀, r₀) = c .before .before .before .before .before .before .before .before .before .before .before .before .pre in
-    let u = c .before .before .before .before .before .before .before .before .before .loop in
-    let lt = c .before .before .before .before .before .before .before .if1 .taken in
+    let a = c .before .before .before .before .before .before .before .before .before .before .before .before .before .args in
+    let (l₀, s₀, r₀) = c .before .before .before .before .before .before .before .before .before .before .before .before .before .pre in
+    let u = c .before .before .before .before .before .before .before .before .before .before .loop in
+    let lt = c .before .before .before .before .before .before .before .before .if1 .taken in
     let h : u .q < length (u .ws) = omega (arith, lt, r₀ .running .standing .suits .most, u .inv .3) in (
       omega (arith, lt),
       search needs,
@@ -83,10 +80,10 @@ loop-again c =
       simp length-set (u .inv .3),
       λ l s r.
           let v = run-on l (dealt l (a .setting .processors)) (u .q) s in
-          rw add-one
+          rw (add-one, c .before .before .before .before .before .before .before .index-of .ensures)
           (run-moved (a .code .now) (a .setting) l (u .cells) (u .w) (u .ws) v (run-out l (dealt l (a .setting .processors)) (u .q) v) (u .q) (u .inv .4 l s r) h (λ j n. run-out-other l (dealt l (a .setting .processors)) (u .q) j n v) _ _ _
-          (c .before .before .before .run-out .ensures .0 l v (run-turn (a .code .now) (a .setting) l (u .cells) (u .w) (u .ws) v (u .q) (u .inv .4 l s r) lt))),
-      rw add-one (over-more (a .setting) (u .ws) (u .q) _ h (u .inv .5) (c .before .before .before .run-out .ensures .1)),
+          (rw (c .before .before .before .before .before .before .before .index-of .ensures) at (c .before .before .before .run-out .ensures .0) l v (run-turn (a .code .now) (a .setting) l (u .cells) (u .w) (u .ws) v (u .q) (u .inv .4 l s r) lt))),
+      rw (add-one, c .before .before .before .before .before .before .before .index-of .ensures) (over-more (a .setting) (u .ws) (u .q) _ h (u .inv .5) (c .before .before .before .run-out .ensures .1)),
     )
 
 same-length : tie.Need-same-length Inv-loop μ-loop
@@ -109,11 +106,10 @@ run-on-spec =
     Inv-loop
     μ-loop
     loop-holds
-    cast-x
+    index-of-requires
     mul-x
     array-copy-out-x
     run-out-requires
-    cast-ws
     mul-ws
     array-set-from-ws
     add-q

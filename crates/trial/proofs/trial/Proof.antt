@@ -1,5 +1,4 @@
 -- `trial::trial` meets its contract.
-use Rattle.trial.proofs.Leaving.{run-leaves}
 use Rattle.rules.specs.Blocks.{singles}
 use Rattle.rules.specs.Steps.{start, steps, trial}
 use Rattle.trial.specs.Standing.{dealt}
@@ -36,13 +35,7 @@ returns c =
     let f = c .before .before .before .before .before .before .before .before .before .follow in
     let b = c .before .before .before .before .before .before .before .before .before .before .before .before .before .before .begin in (
       λ l h. u .ensures .0 l (steps l (dealt l (a .setting .processors)) (a .schedule .now) (start l (dealt l (a .setting .processors)))) (f .ensures l (start l (dealt l (a .setting .processors))) (b .ensures (a .code .now) l h)),
-      (
-        u .ensures .1,
-        λ l h.
-            run-leaves (a .code .now) (a .setting) l _ _ _ _
-            (u .ensures .0 l (steps l (dealt l (a .setting .processors)) (a .schedule .now) (start l (dealt l (a .setting .processors)))) (f .ensures l (start l (dealt l (a .setting .processors))) (b .ensures (a .code .now) l h)))
-            (u .ensures .1),
-      ),
+      u .ensures .1,
     )
 
 pub trial-spec : {M : Type 1} → statement M

@@ -1,0 +1,112 @@
+-- Document 01, Services and answers: what each service answers, and what it leaves in what is lent, by the verdict on the text.
+use mathlib.Core.Bool.{cond}
+use mathlib.Core.List.{List}
+use Prim.Native.Nat.{ℕ, zero, suc, _+_, _*_}
+use lib.Dec.{eqb, leb, ltb}
+use lib.ListN.{length, replicate}
+use lib.IntN.{ℤ, pos, _+ℤ_}
+use Rattle.rules.specs.Answer.{look, Answer, passed, rerun, faulted, Ending, settled}
+use Rattle.syntax.specs.Bytes.{all}
+use Rattle.syntax.specs.Known.{State, cells}
+use Rattle.syntax.specs.Text.{Verdict, refused, good, loaded}
+use Rattle.syntax.specs.Meaning.{loopOf, partitionOf}
+use Rattle.answers.specs.declared.Checked.{Checked}
+use Rattle.answers.specs.declared.Checked.the-variants.{Sizes, Refused}
+use Rattle.answers.specs.declared.Completed.{Completed}
+use Rattle.answers.specs.declared.Completed.the-variants.{Done, Refused as Rejected}
+use Rattle.answers.specs.declared.Ran.{Ran}
+use Rattle.answers.specs.declared.Ran.the-variants.{Passed, Rerun, Faulted, Refused as Unfit}
+
+-- ---- Check
+
+-- "Check takes the text and answers N and P"
+unfoldable pub checkOf : Verdict → Checked
+checkOf (refused n k) = Refused n k
+checkOf (good s) = Sizes (cells (s .table)) (s .processors)
+
+-- ---- what can't be taken: 0, or its number
+
+-- "under 4,352 + 64 × P + N × (4 + 6 × P) words of 32 bits"
+abbrev pub needed : ℕ → ℕ → ℕ
+needed n p = 4352 + 64 * p + n * (4 + 6 * p)
+
+-- of n cells, where m are lent
+abbrev pub cellsNumber : ℕ → ℕ → ℕ
+cellsNumber n m = cond (eqb m n) 0 5
+
+-- and p processors, where w words are lent and ps are the schedule's bytes: "a schedule byte of P or more"
+abbrev pub fitNumber : ℕ → ℕ → ℕ → ℕ → List ℕ → ℕ
+fitNumber n p m w ps = cond (eqb m n) (cond (leb (needed n p) w) (cond (all (λ b. ltb b p) ps) 0 7) 6) 5
+
+abbrev pub loadNumber : State → ℕ → ℕ
+loadNumber s m = cellsNumber (cells (s .table)) m
+
+abbrev pub runNumber : State → ℕ → ℕ → List ℕ → ℕ
+runNumber s m w ps = fitNumber (cells (s .table)) (s .processors) m w ps
+
+-- and v words of a view
+abbrev pub viewNumber : State → ℕ → ℕ → ℕ
+viewNumber s v zero = cond (eqb v (2 * cells (s .table))) 0 8
+viewNumber s v (suc n) = suc n
+
+abbrev pub lookNumber : State → ℕ → ℕ → List ℕ → ℕ → ℕ
+lookNumber s m w ps v = viewNumber s v (runNumber s m w ps)
+
+-- where nothing is refused, and else
+abbrev pub taken : {A : Type 0} → ℕ → A → A → A
+taken zero a b = a
+taken (suc n) a b = b
+
+abbrev pub completed : ℕ → Completed
+completed n = taken n Done (Rejected n 0)
+
+-- ---- Load
+
+unfoldable pub loadOf : Verdict → ℕ → Completed
+loadOf (refused n k) m = Rejected n k
+loadOf (good s) m = completed (loadNumber s m)
+
+-- "Load fills the cells from the data"; "a refusal leaves cells ... as found"
+unfoldable pub cellsLoaded : Verdict → List ℤ → List ℤ
+cellsLoaded (refused n k) m = m
+cellsLoaded (good s) m = taken (loadNumber s (length m)) (loaded (s .table)) m
+
+-- ---- Look, over the cells m, w words of a workspace, the schedule ps and a view of v words
+
+unfoldable pub lookOf : Verdict → List ℤ → ℕ → List ℕ → ℕ → Completed
+lookOf (refused n k) m w ps v = Rejected n k
+lookOf (good s) m w ps v = completed (lookNumber s (length m) w ps v)
+
+-- "for each cell in turn ... the shared value and then the marks, as they are after the schedule's bytes, without running on"
+unfoldable pub viewShown : Verdict → List ℤ → ℕ → List ℕ → List ℕ → List ℕ
+viewShown (refused n k) m w ps v = v
+viewShown (good s) m w ps v = taken (lookNumber s (length m) w ps (length v)) (look (loopOf s m) (partitionOf s) ps) v
+
+-- "After any other end of Look or Run the workspace is all zero"
+unfoldable pub lookWorkspace : Verdict → List ℤ → List ℕ → List ℕ → ℕ → List ℕ
+lookWorkspace (refused n k) m w ps v = w
+lookWorkspace (good s) m w ps v = taken (lookNumber s (length m) (length w) ps v) (replicate (length w) 0) w
+
+-- ---- Run
+
+-- "passed or rerun, then the serial run's two write counts, pairs first"; a fault with its number, its line and v, "v being m + index"
+abbrev pub answered : State → Answer → Ran
+answered s (passed a b) = Passed a b
+answered s (rerun a b) = Rerun a b
+answered s (faulted n t i) = Faulted n t (s .from +ℤ pos i)
+
+-- What the serial run alone settles: it is fed the text and the cells, and not the schedule
+abbrev pub settles : State → List ℤ → Ending
+settles s m = settled (loopOf s m) (partitionOf s .group)
+
+unfoldable pub runOf : Verdict → List ℤ → ℕ → List ℕ → Ran
+runOf (refused n k) m w ps = Unfit n k
+runOf (good s) m w ps = let n = runNumber s (length m) w ps in taken n (answered s (settles s m .answer)) (Unfit n 0)
+
+unfoldable pub cellsRun : Verdict → List ℤ → ℕ → List ℕ → List ℤ
+cellsRun (refused n k) m w ps = m
+cellsRun (good s) m w ps = taken (runNumber s (length m) w ps) (settles s m .cells) m
+
+unfoldable pub runWorkspace : Verdict → List ℤ → List ℕ → List ℕ → List ℕ
+runWorkspace (refused n k) m w ps = w
+runWorkspace (good s) m w ps = taken (runNumber s (length m) (length w) ps) (replicate (length w) 0) w

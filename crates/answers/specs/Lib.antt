@@ -1,0 +1,2 @@
+-- What each service answers and leaves.
+pub mod Answers

@@ -1,0 +1,2 @@
+-- The answers of Check and Load.
+mod Answering

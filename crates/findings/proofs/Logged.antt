@@ -1,0 +1,52 @@
+-- What is read off the words of a log, as document 01 words it.
+use mathlib.Core.Path.{_≡_, _∙_}
+use mathlib.Core.Logic.{_↔_}
+use mathlib.Core.Bool.{true}
+use mathlib.Core.List.{List}
+use Prim.Native.Nat.{ℕ, _<_}
+use lib.IntN.{pos}
+use Rattle.int32.specs.Integers.{value, sum}
+use Rattle.rules.specs.Loop.{Loop, Partition}
+use Rattle.rules.specs.Log.{Log, only}
+use Rattle.rules.specs.Marks.{marks}
+use Rattle.rules.specs.Obstacles.{ObstacleAt}
+use Rattle.rules.specs.Steps.{State}
+use Rattle.rules.specs.Merge.{pairs, written-cells}
+use Rattle.rules.specs.Proper.{Proper}
+use Rattle.shadow.proofs.Shows.{table, Shows, merged-right}
+use Rattle.tables.specs.Layout.{row-at, pairs-word, cells-word, entry-word}
+use Rattle.tables.proofs.Logged.{Logged}
+use Rattle.findings.specs.Findings.{marks-of, blocked-of}
+use Rattle.findings.proofs.ReadOff.{marks-held, blocked-held, merged-held}
+use Rattle.rules.specs.Merge as merge
+use Rattle.findings.specs.Findings as findings
+
+module _ (l : Loop) (δ : Partition) (g : Log) (W : List ℕ) (h : Logged l δ g W) where
+  -- the value of a cell at entry
+  pub logged-entry : (c : ℕ) → c < l .size → value (entry-word W (row-at (δ .processors) c)) ≡ l .entry c
+  logged-entry c b = h .rows c b .entry
+
+  module _ (s : Shows l δ g (table l δ g)) where
+    pub logged-pairs : pairs-word W ≡ pairs l g
+    logged-pairs = h .pairs ∙ s .pair-count
+
+    pub logged-cells : cells-word W ≡ written-cells l g
+    logged-cells = h .cells ∙ s .cell-count
+
+    module _ (c : ℕ) (b : c < l .size) where
+      abbrev at : ℕ
+      at = row-at (δ .processors) c
+
+      pub logged-marks : marks-of W at ≡ marks (δ .group) c g
+      logged-marks = marks-held (δ .processors) (l .class c) (l .entry c) W at (table l δ g .rows c) (h .rows c b) ∙ s .marked c
+
+      pub logged-obstacle : ObstacleAt (l .class c) (λ i. only (δ .group) i g) c ↔ (blocked-of W at ≡ true)
+      logged-obstacle =
+          let x = blocked-held (δ .processors) (l .class c) (l .entry c) W at (table l δ g .rows c) (h .rows c b) in
+          let y = s .obstacle (l .class c) c in
+          (λ o. x .0 (y .1 o), λ e. y .0 (x .1 e))
+
+-- the merge
+pub logged-merged : (l : Loop) (δ : Partition) → l .plus ≡ sum → l .zero ≡ pos 0 → Proper l δ → (s : State) (W : List ℕ) → Logged l δ (s .log) W → Shows l δ (s .log) (table l δ (s .log)) → (c : ℕ) → c < l .size
+    → findings.merged W (row-at (δ .processors) c) (δ .processors) (s .cells c) ≡ merge.merged l δ s c
+logged-merged l δ f z o s W h t c b = merged-held l δ f z (l .class c) c W (row-at (δ .processors) c) (table l δ (s .log) .rows c) (h .rows c b) (s .cells) ∙ merged-right l δ o s (table l δ (s .log)) t c

@@ -1,0 +1,2 @@
+-- What is read off the words of the tables.
+pub mod Findings

@@ -1,0 +1,177 @@
+// What is read off the shadow tables (crates/tables) after a run, or on the way: marks, obstacles, the merged value of a cell, its value at entry, and both
+// write counts. What it means is in proofs/Logged.antt.
+ghost use mathlib.Core.Path.{_≡_};
+ghost use Prim.Native.Nat.{_+_, _*_, _≤_, _<_};
+ghost use lib.ListN.{length};
+ghost use Rattle.int32.specs.Integers.{value};
+ghost use Rattle.rules.specs.Choose.{below};
+ghost use Rattle.tables.specs.Layout.{pairs-word, cells-word, entry-word};
+ghost use Rattle.findings.specs.Findings.{marks-read, marks-of, contested, stale, mixed, blocked, blocked-of, last-word, gathered, merged};
+use rules::Processor;
+use tables::CELLS;
+use tables::FLAGS;
+use tables::LASTPRIVATE;
+use tables::MET;
+use tables::PAIRS;
+use tables::SHARED;
+use tables::SUM;
+use tables::WRITERS;
+use tables::WROTE;
+use tables::choose;
+use tables::own_of;
+
+// The number of different pairs of iteration and cell among writes and updates.
+pub fn pair_count(w: &[u32]) -> u32
+    requires { ⌜ 2 ≤ length (now w) ⌝ }
+    ensures { λ r. ⌜ r ≡ pairs-word (now (w .entry)) ⌝ }
+{
+    w[PAIRS]
+}
+
+// The number of different cells among them.
+pub fn cell_count(w: &[u32]) -> u32
+    requires { ⌜ 2 ≤ length (now w) ⌝ }
+    ensures { λ r. ⌜ r ≡ cells-word (now (w .entry)) ⌝ }
+{
+    w[CELLS]
+}
+
+// The value of the cell at entry.
+pub fn entry_value(w: &[u32], row: usize) -> i32
+    requires { ⌜ row < length (now w) ⌝ }
+    ensures { λ r. ⌜ r ≡ value (entry-word (now (w .entry)) row) ⌝ }
+{
+    int32::of_word(w[row])
+}
+
+// ---- marks
+
+// A mark m if i is below j.
+fn mark(i: u32, j: u32, m: u32) -> u32
+    ensures { λ r. ⌜ (r ≡ below i j m 0) × (r ≤ m) ⌝ }
+{
+    if i < j { m } else { 0 }
+}
+
+// The marks of a cell by three words of its row.
+fn marks_by(met: u32, writers: u32, flags: u32) -> u32
+    ensures { λ r. ⌜ r ≡ marks-read met writers flags ⌝ }
+{
+    mark(0, writers, 1) + mark(writers, met, 2) + 4 * (flags % 2) + 8 * (flags / 2 % 2)
+}
+
+// The marks of a cell.
+pub fn marks_of(w: &[u32], row: usize) -> u32
+    requires { ⌜ row + 4 ≤ length (now w) ⌝ }
+    ensures { λ r. ⌜ r ≡ marks-of (now (w .entry)) row ⌝ }
+{
+    marks_by(w[row + MET], w[row + WRITERS], w[row + FLAGS])
+}
+
+// ---- obstacles
+
+// Two groups met a cell and one wrote it.
+fn is_contested(met: u32, writers: u32) -> bool
+    ensures { λ r. ⌜ r ≡ contested met writers ⌝ }
+{
+    if 0 < writers { 1 < met } else { false }
+}
+
+// And one read it exposed.
+fn is_stale(met: u32, writers: u32, flags: u32) -> bool
+    ensures { λ r. ⌜ r ≡ stale met writers flags ⌝ }
+{
+    if is_contested(met, writers) {
+        if writers < met {
+            return true;
+        }
+        return flags % 2 == 1;
+    }
+    false
+}
+
+// A cell has an update and an ordinary access.
+fn is_mixed(met: u32, flags: u32) -> bool
+    ensures { λ r. ⌜ r ≡ mixed met flags ⌝ }
+{
+    if 0 < met { flags / 2 % 2 == 1 } else { false }
+}
+
+// Whether a cell has an obstacle, by three words of its row.
+fn is_obstacle(met: u32, writers: u32, flags: u32) -> bool
+    ensures { λ r. ⌜ r ≡ blocked met writers flags ⌝ }
+{
+    let class = flags / 4;
+    if class == SHARED {
+        return is_contested(met, writers);
+    }
+    let stale = is_stale(met, writers, flags);
+    if class == LASTPRIVATE {
+        return stale;
+    }
+    if stale {
+        return true;
+    }
+    is_mixed(met, flags)
+}
+
+// Whether a cell has an obstacle.
+pub fn is_blocked(w: &[u32], row: usize) -> bool
+    requires { ⌜ row + 4 ≤ length (now w) ⌝ }
+    ensures { λ r. ⌜ r ≡ blocked-of (now (w .entry)) row ⌝ }
+{
+    is_obstacle(w[row + MET], w[row + WRITERS], w[row + FLAGS])
+}
+
+// ---- the merge
+
+// The private value of the highest processor that wrote the cell, else the entry value.
+fn last_value(w: &[u32], row: usize, processors: u32) -> i32
+    requires { ⌜ (row < 4294967296) × (row + 4 + 5 * processors ≤ length (now w)) ⌝ }
+    ensures { λ r. ⌜ r ≡ value (last-word (now (w .entry)) row processors) ⌝ }
+{
+    let mut x = w[row];
+    let mut q: u32 = 0;
+    while q < processors {
+        let p = Processor(q);
+        let own = own_of(row, p);
+        x = choose(w[own + WROTE], 0, x, w[own]);
+        q += 1;
+    }
+    int32::of_word(x)
+}
+
+// The sums of the processors, taken together.
+fn total(w: &[u32], row: usize, processors: u32) -> i32
+    requires { ⌜ (row < 4294967296) × (row + 4 + 5 * processors ≤ length (now w)) ⌝ }
+    ensures { λ r. ⌜ r ≡ gathered (now (w .entry)) row processors ⌝ }
+{
+    let mut sum = 0;
+    let mut q: u32 = 0;
+    while q < processors {
+        let p = Processor(q);
+        let own = own_of(row, p);
+        sum = int32::add(sum, int32::of_word(w[own + SUM]));
+        q += 1;
+    }
+    sum
+}
+
+// What a cell is left with after a run that passed; `shared` is what stands in it.
+pub fn merged_value(w: &[u32], row: usize, shared: i32, processors: u32) -> i32
+    requires { ⌜ (row < 4294967296) × (row + 4 + 5 * processors ≤ length (now w)) ⌝ }
+    ensures { λ r. ⌜ r ≡ merged (now (w .entry)) row processors shared ⌝ }
+{
+    let flags = w[row + FLAGS];
+    if flags / 4 == SHARED {
+        return shared;
+    }
+    let last = last_value(w, row, processors);
+    if flags / 4 == LASTPRIVATE {
+        return last;
+    }
+    if flags / 2 % 2 == 1 {
+        return int32::add(last, total(w, row, processors));
+    }
+    last
+}

@@ -1,0 +1,116 @@
+-- A run can begin: by the verdict on the text and by what is lent.
+use mathlib.Core.Path.{_≡_, refl, sym, _∙_, ap, subst}
+use mathlib.Core.Bool.{Bool, true, false, cond}
+use mathlib.Core.List.{List, [], _∷_}
+use Prim.Native.Nat.{ℕ, zero, suc, _+_, _-_, _*_, _≤_, _<_}
+use native.Mathlib.Nat.{mul-le-mul}
+use native.Mathlib.Omega.{arith}
+use borrow.Author.Tests.{eqb-true, leb-true, ltb-true, eq-eqb, le-leb}
+use lib.Dec.{eqb, leb, ltb}
+use lib.ListN.{length, getD, take, drop}
+use lib.IntN.{ℤ}
+use Rattle.syntax.specs.Bytes.{all}
+use Rattle.syntax.specs.Known.{State, cells}
+use Rattle.syntax.specs.Text.{Verdict, refused, good, read}
+use Rattle.syntax.specs.Meaning.{loopOf, partitionOf}
+use Rattle.syntax.proofs.Spelling.{both-true}
+use Rattle.syntax.proofs.Sane.{accepted-sane}
+use Rattle.code.specs.Instr.{words}
+use Rattle.code.specs.Compile.{codeOf}
+use Rattle.tables.specs.Layout.{row-at}
+use Rattle.trial.specs.Standing.{dealt}
+use Rattle.trial.specs.Start.{Starts, CanTry}
+use Rattle.setup.proofs.Setting.{starts-by}
+use Rattle.fitting.specs.declared.Ready.{Ready}
+use Rattle.answers.specs.Answers.{needed, fitNumber, runNumber}
+use Rattle.fitting.specs.Prepared.{Prepares, Prepared}
+
+-- ---- what was read
+
+pub record Accepted (text : List ℕ) (r : Ready) (K C : List ℕ) : Type 0 where
+  pub state : State
+  pub verdict : read text ≡ good state
+  pub prepares : Prepares state r K C
+
+module _ (text : List ℕ) (r : Ready) (K C : List ℕ) (h : Prepared (read text) r K C) where
+  pub ready-bad : (r .number ≡ 0 → ⊥) → read text ≡ refused (r .number) (r .line)
+  unfolding Prepared
+  ready-bad nz = go (read text) refl h
+    where
+      go : (v : Verdict) → read text ≡ v → Prepared v r K C → read text ≡ refused (r .number) (r .line)
+      go (refused n k) e q = e ∙ (λ i. refused (sym (q .0) i) (sym (q .1) i))
+      go (good s) e q = absurd (nz (q .number))
+
+  pub ready-fine : r .number ≡ 0 → Accepted text r K C
+  unfolding Prepared
+  ready-fine z = go (read text) refl h
+    where
+      go : (v : Verdict) → read text ≡ v → Prepared v r K C → Accepted text r K C
+      go (refused n k) e q = absurd (omega (arith, q .0, q .2, z))
+      go (good s) e q = record { state = s; verdict = e; prepares = q }
+
+  pub ready-few : (a : Accepted text r K C) → (r .cells ≤ 4096) × (r .setting .processors ≤ 8)
+  ready-few a = let q = accepted-sane text (a .state) (a .verdict) .table .few-cells in (omega (arith, q, a .prepares .cells-are), omega (arith, a .prepares .processors, a .prepares .few-processors))
+
+-- ---- what is lent
+
+pub record Fits (n p m w : ℕ) (ps : List ℕ) : Type 0 where
+  pub cells-are : m ≡ n
+  pub words-are : needed n p ≤ w
+  pub names : (j : ℕ) → j < length ps → getD ps j 0 < p
+
+all-at : (p : ℕ) (ps : List ℕ) → all (λ b. ltb b p) ps ≡ true → (j : ℕ) → j < length ps → getD ps j 0 < p
+all-at p [] h j b = absurd (omega arith)
+all-at p (x ∷ ps) h zero b = ltb-true x p (both-true (ltb x p) _ h .0)
+all-at p (x ∷ ps) h (suc j) b = all-at p ps (both-true (ltb x p) _ h .1) j (omega arith)
+
+pub fit-zero : (n p m w : ℕ) (ps : List ℕ) → fitNumber n p m w ps ≡ 0 → Fits n p m w ps
+fit-zero n p m w ps = go (eqb m n) (leb (needed n p) w) (all (λ b. ltb b p) ps) refl refl refl
+  where
+    go : (a b c : Bool) → eqb m n ≡ a → leb (needed n p) w ≡ b → all (λ b. ltb b p) ps ≡ c → _≡_ {A = ℕ} (cond a (cond b (cond c 0 7) 6) 5) 0 → Fits n p m w ps
+    go true true true ea eb ec z = record { cells-are = eqb-true m n ea; words-are = leb-true (needed n p) w eb; names = all-at p ps ec }
+    go true true false ea eb ec z = absurd (omega (arith, z))
+    go true false c ea eb ec z = absurd (omega (arith, z))
+    go false b c ea eb ec z = absurd (omega (arith, z))
+
+pub fits-none : (n p m w : ℕ) → m ≡ n → needed n p ≤ w → fitNumber n p m w [] ≡ 0
+fits-none n p m w e h = λ i. cond (eq-eqb m n e i) (cond (le-leb (needed n p) w h i) 0 6) 5
+
+row-room : (n p : ℕ) → row-at p n ≤ needed n p
+row-room n p = let q : n * (4 + 5 * p) ≤ n * (4 + 6 * p) = (let a : n ≤ n = omega arith in let b : 4 + 5 * p ≤ 4 + 6 * p = omega arith in mul-le-mul a b) in omega (arith, q)
+
+-- the number by what the reader found, and by the text
+pub number-as : (text : List ℕ) (r : Ready) (K C : List ℕ) (a : Accepted text r K C) (m w : ℕ) (ps : List ℕ) (n : ℕ) → n ≡ fitNumber (r .cells) (r .setting .processors) m w ps → runNumber (a .state) m w ps ≡ n
+number-as text r K C a m w ps n e = (λ i. fitNumber (sym (a .prepares .cells-are) i) (sym (a .prepares .processors) i) m w ps) ∙ sym e
+
+-- the code that the reader emitted
+pub code-as : (text : List ℕ) (r : Ready) (K C : List ℕ) (a : Accepted text r K C) → take (r .end - 0) (drop 0 K) ≡ words (codeOf (a .state))
+code-as text r K C a = let z : r .end - 0 ≡ r .end = omega arith in ap (λ (n : ℕ). take n K) z ∙ a .prepares .code
+
+-- ---- a run can begin
+
+module _ (text : List ℕ) (r : Ready) (K C : List ℕ) (a : Accepted text r K C) (M : List ℤ) (w : ℕ) (ps : List ℕ) (f : Fits (r .cells) (r .setting .processors) (length M) w ps) where
+  abbrev s : State
+  s = a .state
+
+  abbrev pr : Prepares s r K C
+  pr = a .prepares
+
+  sized : length M ≡ cells (s .table)
+  sized = f .cells-are ∙ pr .cells-are
+
+  enough : row-at (s .processors) (cells (s .table)) ≤ w
+  enough = subst (λ (p : ℕ). row-at p (cells (s .table)) ≤ w) (pr .processors) (subst (λ (n : ℕ). row-at (r .setting .processors) n ≤ w) (pr .cells-are) (le-trans (row-room (r .cells) (r .setting .processors)) (f .words-are)))
+    where
+      le-trans : {x y z : ℕ} → x ≤ y → y ≤ z → x ≤ z
+      le-trans p q = omega arith
+
+  pub begins : Starts (take (r .end - 0) (drop 0 K)) (r .setting) (loopOf s M) M C w
+  begins = starts-by text s (a .verdict) M sized C (pr .few-cells) (pr .classes) w enough (take (r .end - 0) (drop 0 K)) (r .setting) (code-as text r K C a) (pr .processors) (pr .iterations) (pr .from)
+
+  pub can-try : CanTry (take (r .end - 0) (drop 0 K)) (r .setting) M C ps w
+  can-try = (loopOf s M, begins, f .names)
+
+  pub as-dealt : dealt (loopOf s M) (r .setting .processors) ≡ partitionOf s
+  unfolding loopOf partitionOf
+  as-dealt = ap (λ (p : ℕ). dealt (loopOf s M) p) (pr .processors)

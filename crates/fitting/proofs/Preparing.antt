@@ -1,0 +1,80 @@
+-- What is made ready for a run.
+use mathlib.Core.Path.{_≡_, sym, _∙_, ap, subst}
+use mathlib.Core.Bool.{Bool, cond}
+use mathlib.Core.List.{List}
+use Prim.Native.Nat.{ℕ, _+_, _*_, _≤_, _<_}
+use native.Mathlib.Nat.{mul-le-mul}
+use native.Mathlib.Omega.{arith}
+use borrow.Author.Tests.{leb-true, eq-eqb, ne-eqb, le-leb, lt-leb}
+use lib.Dec.{leb, ltb}
+use lib.ListN.{length, take}
+use lib.IntN.{ℤ}
+use Rattle.syntax.specs.Bytes.{all}
+use Rattle.syntax.specs.Known.{State, cells}
+use Rattle.syntax.specs.Text.{Verdict, read}
+use Rattle.syntax.proofs.Sane.{Sane, accepted-sane, accepted-finished}
+use Rattle.reader.specs.declared.Reading.{Reading}
+use Rattle.reader.specs.Judged.{Reads}
+use Rattle.code.proofs.CodeLength.{text-length}
+use Rattle.setup.specs.Classes.{Classifies}
+use Rattle.fitting.specs.declared.Ready.{Ready}
+use Rattle.answers.specs.Answers.{needed, fitNumber}
+use Rattle.fitting.specs.Prepared.{Prepared}
+use Rattle.fitting.proofs.Verdicts.{Fine, is-bad, is-fine}
+
+module _ (text : List ℕ) (d : Reading) (T : List ℕ) (I : List ℤ) (K : List ℕ) (h : Reads (read text) d T I K) where
+  pub prepared-bad : (d .progress .number ≡ 0 → ⊥) → (r : Ready) (C : List ℕ) → r .number ≡ d .progress .number → r .line ≡ d .line → Prepared (read text) r K C
+  unfolding Prepared
+  prepared-bad nz r C en el = subst (λ (v : Verdict). Prepared v r K C) (sym (is-bad text d T I K h nz .verdict)) (en, el, omega (arith, nz))
+
+  module _ (z : d .progress .number ≡ 0) where
+    abbrev f : Fine text d T I K h
+    f = is-fine text d T I K h z
+
+    abbrev s : State
+    s = f .state
+
+    sane : Sane s
+    sane = accepted-sane text s (f .verdict)
+
+    late : 6 ≤ s .stage
+    late = leb-true 6 (s .stage) (accepted-finished text s (f .verdict))
+
+    pub few-cells : d .progress .cells ≤ 4096
+    few-cells = omega (arith, f .represents .cells-so-far, sane .table .few-cells)
+
+    pub few-iterations : d .progress .count ≤ 65535
+    few-iterations = f .represents .few
+
+    pub few-places : d .progress .place ≤ 2048
+    few-places = omega (arith, f .represents .place, text-length text s (f .verdict))
+
+    pub prepared-fine : (r : Ready) (C₀ C : List ℕ) → length C₀ ≡ 4096 → Classifies T (d .progress .cells) C₀ C → r .number ≡ 0 → r .cells ≡ d .progress .cells → r .setting .processors ≡ d .progress .processors
+        → r .setting .iterations ≡ d .progress .count → r .setting .from ≡ d .progress .from → r .end ≡ 2 * d .progress .place → Prepared (read text) r K C
+    unfolding Prepared
+    prepared-fine r C₀ C long cl en ec ep ei ef ee = subst (λ (v : Verdict). Prepared v r K C) (sym (f .verdict)) (record {
+      number = en;
+      cells-are = ec ∙ f .represents .cells-so-far;
+      processors = ep ∙ f .represents .processors;
+      iterations = ei ∙ f .represents .count;
+      from = ef ∙ f .represents .from;
+      short = omega (arith, ee, few-places);
+      code = ap (λ (n : ℕ). take n K) ee ∙ f .represents .code;
+      few-cells = omega (arith, cl .size, long, sane .table .few-cells);
+      few-processors = sane .few-processors (omega (arith, late));
+      classes = λ c b. cl .numbers (s .table) (f .represents .table) c (omega (arith, b, f .represents .cells-so-far));
+    })
+
+-- ---- what can't be taken
+
+pub needed-most : (n p : ℕ) → n ≤ 4096 → p ≤ 8 → n * (4 + 6 * p) ≤ 4096 * 52
+needed-most n p a b = let q : 4 + 6 * p ≤ 52 = omega arith in mul-le-mul a q
+
+pub other-cells : (n p m w : ℕ) (ps : List ℕ) → (m ≡ n → ⊥) → 5 ≡ fitNumber n p m w ps
+other-cells n p m w ps h = sym (ap (λ (b : Bool). cond b (cond (leb (needed n p) w) (cond (all (λ x. ltb x p) ps) 0 7) 6) 5) (ne-eqb m n h))
+
+pub few-words : (n p m w : ℕ) (ps : List ℕ) → m ≡ n → w < needed n p → 6 ≡ fitNumber n p m w ps
+few-words n p m w ps e h = sym (λ i. cond (eq-eqb m n e i) (cond (lt-leb (needed n p) w h i) (cond (all (λ x. ltb x p) ps) 0 7) 6) 5)
+
+pub by-schedule : (n p m w : ℕ) (ps : List ℕ) (b : Bool) → m ≡ n → needed n p ≤ w → all (λ x. ltb x p) ps ≡ b → cond b 0 7 ≡ fitNumber n p m w ps
+by-schedule n p m w ps b e h q = sym (λ i. cond (eq-eqb m n e i) (cond (le-leb (needed n p) w h i) (cond (q i) 0 7) 6) 5)

@@ -1,0 +1,58 @@
+-- `fitting::prepare` meets its contract.
+use mathlib.Core.Path.{_≡_, refl}
+use native.Mathlib.Omega.{arith}
+use mir.Syntax.{w32}
+use mir.Val.{toZ, ofZ}
+use Rattle.fitting.proofs.Preparing.{prepared-bad, few-cells, few-iterations, few-places, prepared-fine}
+use borrow.Author.Needs.{needs}
+use Rattle.fitting.proofs.prepare.Statement.{statement}
+use Rattle.fitting.proofs.prepare.Tie as tie
+
+slice-aggregate-read : tie.Need-slice-aggregate-read
+slice-aggregate-read c = search needs
+
+read-requires : tie.Need-read-requires
+read-requires c κs = search needs
+
+same-length : tie.Need-same-length
+same-length c = search needs
+
+returns : tie.Need-returns
+returns c = prepared-bad _ _ _ _ _ (c .before .before .before .before .before .before .read .ensures) (c .if1 .taken) _ _ refl refl
+
+cast-classes : tie.Need-cast-classes
+cast-classes c = search needs
+
+classes-requires : tie.Need-classes-requires
+classes-requires c κs = (omega (arith, few-cells _ _ _ _ _ (c .before .before .before .before .before .before .before .before .before .read .ensures) (c .before .before .before .if1 .left), c .before .before .before .before .before .before .before .before .before .before .before .before .before .before .before .before .pre .1), omega (arith, c .before .before .before .before .before .before .before .before .before .before .before .before .before .before .before .before .pre .1))
+
+cast-t20 : tie.Need-cast-t20
+cast-t20 c = omega (arith, few-iterations _ _ _ _ _ (c .before .before .before .before .before .before .before .before .before .before .before .before .before .read .ensures) (c .before .before .before .before .before .before .before .if1 .left))
+
+mul-t17 : tie.Need-mul-t17
+mul-t17 c = omega (arith, few-places _ _ _ _ _ (c .before .before .before .before .before .before .before .before .before .before .before .before .before .before .before .read .ensures) (c .before .before .before .before .before .before .before .before .before .if1 .left))
+
+same-length-2 : tie.Need-same-length-2
+same-length-2 c = search needs
+
+same-length-3 : tie.Need-same-length-3
+same-length-3 c = search needs
+
+returns-2 : tie.Need-returns-2
+returns-2 c = let e : toZ w32 (ofZ w32 (c .before .before .before .before .before .before .before .before .before .before .before .before .before .before .before .read .result .progress .from)) ≡ c .before .before .before .before .before .before .before .before .before .before .before .before .before .before .before .read .result .progress .from = search needs in prepared-fine _ _ _ _ _ (c .before .before .before .before .before .before .before .before .before .before .before .before .before .before .before .read .ensures) (c .before .before .before .before .before .before .before .before .before .if1 .left) _ _ _ (c .before .before .before .before .before .before .before .before .before .before .before .before .before .before .before .before .before .before .before .before .before .before .pre .1) (c .before .before .before .before .before .classes .ensures) refl refl refl refl e refl
+
+pub prepare-spec : {M : Type 1} → statement M
+prepare-spec =
+    tie.close
+    (tie.spec
+    slice-aggregate-read
+    read-requires
+    same-length
+    returns
+    cast-classes
+    classes-requires
+    cast-t20
+    mul-t17
+    same-length-2
+    same-length-3
+    returns-2)

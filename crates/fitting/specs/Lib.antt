@@ -1,0 +1,2 @@
+-- A text made ready for a run.
+pub mod Prepared

@@ -1,0 +1,3 @@
+-- Look's answer, and what it does step by step.
+mod Answering
+mod Looking

@@ -1,0 +1,49 @@
+-- What Look does, step by step.
+use mathlib.Core.Path.{_≡_, sym, _∙_, ap, subst}
+use mathlib.Core.List.{List}
+use Prim.Native.Nat.{ℕ, _-_, _*_}
+use native.Mathlib.Omega.{arith}
+use lib.ListN.{length, take, drop}
+use lib.IntN.{ℤ}
+use Rattle.rules.specs.Loop.{Loop}
+use Rattle.rules.specs.Steps.{start, steps}
+use Rattle.rules.proofs.CellsLaws.{listed-length}
+use Rattle.trial.specs.declared.Setting.{Setting}
+use Rattle.trial.specs.declared.Worker.{Worker}
+use Rattle.trial.specs.Standing.{dealt}
+use Rattle.trial.specs.Running.{Run, Follows, CanFollow}
+use Rattle.trial.specs.Start.{Starts, CanTry, Begins}
+use Rattle.outcome.specs.View.{Stands, Shown}
+use Rattle.serial.proofs.Verdicts.{shown-look}
+use Rattle.looking.specs.Showing.{ShowsAfter}
+
+module _ (code : List ℕ) (g : Setting) (M : List ℤ) (C ps : List ℕ) (n : ℕ) (W′ : List ℕ) (ws : List Worker) (b : Begins g M C n W′ ws) where
+  pub can-follow : CanTry code g M C ps n → CanFollow code g M W′ ws ps
+  can-follow (l, st, nm) = (l, start l (dealt l (g .processors)), b code l st, nm)
+
+  module _ (M″ : List ℤ) (W″ : List ℕ) (ws′ : List Worker) (f : Follows code g M W′ ws ps M″ W″ ws′) where
+    after : (l : Loop) → Starts code g l M C n → Run code g l M″ W″ ws′ (steps l (dealt l (g .processors)) ps (start l (dealt l (g .processors))))
+    after l st = f l (start l (dealt l (g .processors))) (b code l st)
+
+    pub can-show : CanTry code g M C ps n → Stands (g .processors) M″ W″
+    can-show (l, st, nm) = (l, steps l (dealt l (g .processors)) ps (start l (dealt l (g .processors))), after l st .running .standing)
+
+    pub same-size : CanTry code g M C ps n → length M″ ≡ length M
+    same-size (l, st, nm) =
+        ap length (after l st .running .standing .cells) ∙ listed-length (l .size) (steps l (dealt l (g .processors)) ps (start l (dealt l (g .processors))) .cells)
+        ∙ sym (ap length (st .entry .cells) ∙ listed-length (l .size) (l .entry))
+
+    pub shows-after : (U : List ℕ) → Shown (g .processors) M″ W″ U → ShowsAfter code g M C ps n U
+    shows-after U sh l st = shown-look l (dealt l (g .processors)) ps U (sh l (steps l (dealt l (g .processors)) ps (start l (dealt l (g .processors)))) (after l st .running .standing))
+
+-- the cells at the front of a longer list
+module _ (own : List ℤ) (M : List ℤ) (e : take (length M) own ≡ M) where
+  pub front-is : take (length M - 0) (drop 0 own) ≡ M
+  front-is = let z : length M - 0 ≡ length M = omega arith in ap (λ (n : ℕ). take n own) z ∙ e
+
+  pub can-front : (code : List ℕ) (g : Setting) (C ps : List ℕ) (n : ℕ) (U : List ℕ) → CanTry code g M C ps n → length U ≡ 2 * length M
+      → CanTry code g (take (length M - 0) (drop 0 own)) C ps n × (length U ≡ 2 * length (take (length M - 0) (drop 0 own)))
+  can-front code g C ps n U c q = (subst (λ (m : List ℤ). CanTry code g m C ps n) (sym front-is) c, q ∙ ap (λ (m : List ℤ). 2 * length m) (sym front-is))
+
+  pub shows-front : (code : List ℕ) (g : Setting) (C ps : List ℕ) (n : ℕ) (U : List ℕ) → ShowsAfter code g (take (length M - 0) (drop 0 own)) C ps n U → ShowsAfter code g M C ps n U
+  shows-front code g C ps n U h = subst (λ (m : List ℤ). ShowsAfter code g m C ps n U) front-is h

@@ -1,0 +1,45 @@
+-- `looking::show_after` meets its contract.
+use mathlib.Core.Path.{sym, _∙_, ap}
+use Prim.Native.Nat.{ℕ, _*_}
+use lib.ListN.{replicate}
+use Rattle.looking.proofs.Looking.{can-follow, can-show, same-size, shows-after}
+use borrow.Author.Needs.{needs}
+use Rattle.looking.proofs.show_after.Statement.{statement}
+use Rattle.looking.proofs.show_after.Tie as tie
+
+begin-requires : tie.Need-begin-requires
+begin-requires c κs = search needs
+
+follow-requires : tie.Need-follow-requires
+follow-requires c κs = can-follow _ _ _ _ (c .before .before .before .before .before .before .before .before .before .before .before .before .args .schedule .now) _ _ _ (c .before .before .before .before .begin .ensures) (c .before .before .before .before .before .before .before .before .before .before .before .before .pre .0)
+
+show-requires : tie.Need-show-requires
+show-requires c κs = (can-show _ _ _ _ (c .before .before .before .before .before .before .before .before .before .before .before .before .before .before .before .before .before .before .before .args .schedule .now) _ _ _ (c .before .before .before .before .before .before .before .before .before .before .before .begin .ensures) _ _ _ (c .before .before .before .before .before .before .follow .ensures) (c .before .before .before .before .before .before .before .before .before .before .before .before .before .before .before .before .before .before .before .pre .0), c .before .before .before .before .before .before .before .before .before .before .before .before .before .before .before .before .before .before .before .pre .1 ∙ ap (λ (n : ℕ). 2 * n) (sym (same-size _ _ _ _ (c .before .before .before .before .before .before .before .before .before .before .before .before .before .before .before .before .before .before .before .args .schedule .now) _ _ _ (c .before .before .before .before .before .before .before .before .before .before .before .begin .ensures) _ _ _ (c .before .before .before .before .before .before .follow .ensures) (c .before .before .before .before .before .before .before .before .before .before .before .before .before .before .before .before .before .before .before .pre .0))))
+
+clear-requires : tie.Need-clear-requires
+clear-requires c κs = search needs
+
+same-length : tie.Need-same-length
+same-length c = search needs
+
+same-length-2 : tie.Need-same-length-2
+same-length-2 c = search needs
+
+same-length-3 : tie.Need-same-length-3
+same-length-3 c = search needs
+
+returns : tie.Need-returns
+returns c = (shows-after _ _ _ _ (c .before .before .before .before .before .before .before .before .before .before .before .before .before .before .before .before .before .before .before .before .before .before .before .before .before .before .args .schedule .now) _ _ _ (c .before .before .before .before .before .before .before .before .before .before .before .before .before .before .before .before .before .before .begin .ensures) _ _ _ (c .before .before .before .before .before .before .before .before .before .before .before .before .before .follow .ensures) _ (c .before .before .before .before .before .before .show .ensures), c .before .before .clear .ensures ∙ ap (λ (n : ℕ). replicate n 0) (c .before .before .before .before .before .before .before .before .before .before .before .before .before .follow .kept .1 .1 .1 .1 .0 ∙ c .before .before .before .before .before .before .before .before .before .before .before .before .before .before .before .before .before .before .begin .kept .1 .1 .1 .0))
+
+pub show-after-spec : {M : Type 1} → statement M
+show-after-spec =
+    tie.close
+    (tie.spec
+    begin-requires
+    follow-requires
+    show-requires
+    clear-requires
+    same-length
+    same-length-2
+    same-length-3
+    returns)

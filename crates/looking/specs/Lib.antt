@@ -1,0 +1,2 @@
+-- What the functions below Look promise.
+pub mod Showing

@@ -1,0 +1,7 @@
+-- The number of processors decides nothing.
+pub mod Theorem
+-- The examples of document 01.
+pub mod Examples
+-- The argument: after the serial run, and Run by what the trial and the serial run leave.
+mod Concluding
+mod Settling

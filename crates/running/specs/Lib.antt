@@ -1,0 +1,2 @@
+-- What Run answers after the serial run.
+pub mod Concluding

@@ -1,0 +1,63 @@
+-- Where the serial run is, step by step: what cells, words and the point reached stand for, and what the run comes to from there.
+use mathlib.Core.Path.{_≡_}
+use mathlib.Core.List.{List, []}
+use Prim.Native.Nat.{ℕ, suc, _-_, _<_}
+use lib.IntN.{ℤ}
+use Rattle.rules.specs.Choose.{pick, below}
+use Rattle.rules.specs.Cells.{listed}
+use Rattle.rules.specs.Loop.{Loop}
+use Rattle.rules.specs.Log.{Log, each}
+use Rattle.rules.specs.Proper.{Sized}
+use Rattle.rules.specs.Serial.{finished, failed, Result, along, from, serial}
+use Rattle.shadow.proofs.Counts.{Inside}
+use Rattle.shadow.proofs.Shows.{Ascending}
+use Rattle.tables.proofs.Logged.{Logged}
+use Rattle.machine.specs.Machine.{Holding}
+use Rattle.stepping.specs.declared.Manner.the-variants.{InPlace}
+use Rattle.stepping.specs.declared.Role.{Role}
+use Rattle.stepping.specs.Step.{Scene, at}
+use Rattle.stepping.proofs.Happening.{rest}
+use Rattle.trial.specs.Standing.{dealt, Suits, Coded}
+
+-- what is fixed for the one processor of a run of n iterations, with the loop's variable from v on
+abbrev pub alone : ℤ → ℕ → Role
+alone v n = record { manner = InPlace; processors = 1; number = record { 0 = 0 }; from = v; end = record { 0 = n } }
+
+-- the cells are m and the words those of the accesses g, of which none is of an iteration after i
+pub record Serially (l : Loop) (i : ℕ) (M : List ℤ) (W : List ℕ) (m : ℕ → ℤ) (g : Log) : Type 0 where
+  pub suits : Suits 1 l
+  pub cells : M ≡ listed (l .size) m
+  pub words : Logged l (dealt l 1) g W
+  pub inside : Inside (l .iterations) (l .size) g
+  pub ascending : Ascending l (dealt l 1) g
+  pub upto : (j : ℕ) → i < j → each j g ≡ []
+
+-- and iteration i may access cell c
+pub record Serves (l : Loop) (i c : ℕ) (M : List ℤ) (W : List ℕ) (m : ℕ → ℤ) (g : Log) : Type 0 where
+  pub stands : Serially l i M W m g
+  pub low : i < l .iterations
+  pub inside : c < l .size
+
+-- what the run comes to from a scene, with the cells m and the accesses g
+unfoldable pub onward : Loop → List ℕ → ℤ → Scene → (ℕ → ℤ) → Log → Result
+onward l code v z m g =
+    pick
+    (z .point .fault)
+    0
+    (below
+    (at z)
+    (l .iterations)
+    (along l (at z) (rest (alone v (l .iterations)) code z) m g (from l (l .iterations - suc (at z)) (suc (at z))))
+    (record { cells = m; log = g; outcome = finished }))
+    (record { cells = m; log = g; outcome = failed (z .point .fault) (z .point .line) (at z) })
+
+pub record Serving (code : List ℕ) (v : ℤ) (l : Loop) (z : Scene) (m : ℕ → ℤ) (g : Log) : Type 0 where
+  pub coded : Coded code v l
+  pub stands : Serially l (at z) (z .cells) (z .words) m g
+  pub holding : Holding (z .pending) (z .point .depth)
+  pub result : serial l ≡ onward l code v z m g
+  pub sized : z .point .fault ≡ 0 → at z < l .iterations → Sized (l .size) (rest (alone v (l .iterations)) code z)
+
+-- with some cells and accesses
+abbrev pub Serial-at : List ℕ → ℤ → Loop → Scene → Type 0
+Serial-at code v l z = (m : ℕ → ℤ) × (g : Log) × Serving code v l z m g

@@ -1,0 +1,2 @@
+-- The serial run of a text.
+mod Serially

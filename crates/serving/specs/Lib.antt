@@ -1,0 +1,2 @@
+-- What the serial run of a text answers and leaves.
+pub mod Serial

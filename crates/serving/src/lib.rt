@@ -1,0 +1,48 @@
+// The serial run of a text (document 01, The serial run). It takes any text and whatever is lent, and refuses what it can't take; a refusal leaves all that is
+// lent as it came.
+ghost use Rattle.syntax.specs.Text.{read as readText};
+ghost use Rattle.serving.specs.Serial.{SerialOf};
+use answers::Served;
+use fitting::prepare;
+use fitting::unfit;
+
+// The serial run, in place over the cells: the text and the cells alone decide it. The workspace is left with the cells at entry and the accesses.
+pub fn run_serially(text: &[u8], cells: &mut [i32], workspace: &mut [u32]) -> Served
+    ensures { λ r. ⌜ SerialOf (readText (now (text .entry))) (now (cells .entry)) (now (workspace .entry)) r (now (cells .exit)) (now (workspace .exit)) ⌝ }
+{
+    let mut code = [0; 8194];
+    let mut classes = [0; 4096];
+    let r = prepare(text, &mut code, &mut classes);
+    if r.number != 0 {
+        return Served::Refused {
+            number: r.number,
+            line: r.line,
+        };
+    }
+    let setting = r.setting;
+    let number = unfit(
+        r.cells,
+        setting.processors,
+        cells.len(),
+        workspace.len(),
+        b"",
+    );
+    if number != 0 {
+        return Served::Refused { number, line: 0 };
+    }
+    let end = r.end;
+    let from = setting.from;
+    let t = serial::run(&code[0..end], setting, &classes, cells, workspace);
+    if t.fault == 0 {
+        return Served::Finished {
+            pairs: findings::pair_count(workspace),
+            cells: findings::cell_count(workspace),
+        };
+    }
+    let i = t.iteration;
+    Served::Faulted {
+        number: t.fault,
+        line: t.line,
+        v: stepping::value_at(from, i),
+    }
+}

@@ -1,0 +1,153 @@
+// One step of a processor (document 01, Steps): the code up to its next cell access, and that access, noted in the shadow tables. `carry_on` is the only
+// caller of the step. A schedule's byte takes one, the run to the end all that are left; the serial run takes all of them, with accesses in place.
+// What a step does to cells, words and pending values is in specs/Step.antt; that it is the step rule's is shown in crates/trial, the serial run's in
+// crates/serial.
+ghost use mathlib.Core.Path.{_≡_};
+ghost use Prim.Native.Nat.{_≤_};
+ghost use lib.IntN.{pos, _+ℤ_};
+ghost use mir.Syntax.{w32};
+ghost use mir.Val.{SFits};
+ghost use Rattle.stepping.specs.Step.{unstopped, scene, CanGo, Goes};
+ghost use Rattle.stepping.specs.Carrying.{opened, CanCarry, Carries};
+use machine::Move;
+use rules::Iteration;
+use rules::Processor;
+
+mod access;
+
+// How accesses work: by the class of the cell, with private values kept apart, or in place, whatever the class.
+pub enum Manner {
+    ByClass,
+    InPlace,
+}
+
+// How far a processor goes: one step, or until it is finished or stopped.
+pub enum Extent {
+    Once,
+    ToTheEnd,
+}
+
+// What is fixed for a processor: how its accesses work, for how many processors the tables are laid out, its number, the first value of the loop's variable,
+// and the iteration that its block ends before.
+pub struct Role {
+    pub manner: Manner,
+    pub processors: u32,
+    pub number: Processor,
+    pub from: i32,
+    pub end: Iteration,
+}
+
+// Where a processor is: how many values are pending, its place in the code and its iteration; 0 or the number of the fault that stopped it, and that fault's
+// line.
+pub struct Point {
+    pub depth: usize,
+    pub place: usize,
+    pub iteration: Iteration,
+    pub fault: u32,
+    pub line: u32,
+}
+
+// The value of the loop's variable in an iteration.
+pub fn value_at(from: i32, i: Iteration) -> i32
+    requires { ⌜ (i .0 ≤ 65535) × SFits w32 (from +ℤ pos (i .0)) ⌝ }
+    ensures { λ r. ⌜ r ≡ from +ℤ pos (i .0) ⌝ }
+{
+    from + i.0 as i32
+}
+
+// Where a processor is that no fault stopped.
+fn unstopped_at(depth: usize, place: usize, iteration: Iteration) -> Point
+    ensures { λ r. ⌜ r ≡ unstopped depth place (iteration .0) ⌝ }
+{
+    Point {
+        depth: depth,
+        place: place,
+        iteration: iteration,
+        fault: 0,
+        line: 0,
+    }
+}
+
+// One step of a processor that is not finished and not stopped: up to and including its next cell access, or to the end of its iteration or a fault.
+fn go_on(
+    code: &[u32],
+    role: Role,
+    cells: &mut [i32],
+    w: &mut [u32],
+    pending: &mut [i32; 32],
+    t: Point,
+) -> Point
+    requires { ⌜ CanGo role (now code) (scene (now cells) (now w) (now pending) t) ⌝ }
+    ensures { λ r. ⌜ Goes role (now (code .entry)) (scene (now (cells .entry)) (now (w .entry)) (now (pending .entry)) t) (scene (now (cells .exit)) (now (w .exit)) (now (pending .exit)) r) ⌝ }
+{
+    let i = t.iteration;
+    let v = value_at(role.from, i);
+    let r = machine::advance(code, t.place, t.depth, pending, v);
+    let done = r.done;
+    let place = r.place;
+    let depth = r.depth;
+    match done {
+        Move::Read { cell } => {
+            let x = access::read_cell(role, i, cells, w, cell);
+            let d = machine::push(pending, depth, x);
+            unstopped_at(d, place, i)
+        }
+        Move::Write { cell, value } => {
+            access::write_cell(role, i, cells, w, cell, value);
+            unstopped_at(depth, place, i)
+        }
+        Move::Update { cell, value } => {
+            access::update_cell(role, i, cells, w, cell, value);
+            unstopped_at(depth, place, i)
+        }
+        Move::Fault { number, line } => Point {
+            depth: depth,
+            place: place,
+            iteration: i,
+            fault: number,
+            line: line,
+        },
+        Move::End => {
+            let next = Iteration(i.0 + 1);
+            unstopped_at(0, 0, next)
+        }
+    }
+}
+
+// Whether a processor whose block ends before an iteration is neither stopped nor finished.
+fn is_open(t: Point, end: Iteration) -> bool
+    ensures { λ r. ⌜ r ≡ opened t (end .0) ⌝ }
+{
+    if t.fault == 0 {
+        t.iteration.0 < end.0
+    } else {
+        false
+    }
+}
+
+// The steps of a processor, as far as it is to go. A finished or stopped one does nothing.
+pub fn carry_on(
+    code: &[u32],
+    role: Role,
+    cells: &mut [i32],
+    w: &mut [u32],
+    pending: &mut [i32; 32],
+    from: Point,
+    extent: Extent,
+) -> Point
+    requires { ⌜ CanCarry role (now code) (scene (now cells) (now w) (now pending) from) ⌝ }
+    ensures { λ r. ⌜ Carries extent role (now (code .entry)) (scene (now (cells .entry)) (now (w .entry)) (now (pending .entry)) from) (scene (now (cells .exit)) (now (w .exit)) (now (pending .exit)) r) ⌝ }
+{
+    let end = role.end;
+    let mut t = from;
+    while is_open(t, end) {
+        t = go_on(code, role, cells, w, pending, t);
+        match extent {
+            Extent::Once => {
+                return t;
+            }
+            Extent::ToTheEnd => {}
+        }
+    }
+    t
+}

@@ -1,0 +1,2 @@
+-- The trial of a text.
+mod Trying

@@ -1,0 +1,2 @@
+-- What the trial of a text leaves.
+pub mod Trial
