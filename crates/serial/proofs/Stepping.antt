@@ -104,7 +104,7 @@ module _ (code : List ℕ) (v : ℤ) (l : Loop) (z : Scene) (m : ℕ → ℤ) (g
     reach = λ b r h. reach b r h (r .done) refl;
   }
     where
-      reach : (b : List ℤ) (r : Advanced) → Comes x code z b r → (w : Move) → r .done ≡ w → CanMove x z (r .done)
+      reach : (b : List ℤ) (r : Advanced) → Comes x code z b r → (w : Move) → r .done ≡ w → CanMove x (z .cells) (z .words) (r .done)
       reach b r h (Read c) q = let y = sized _ (rw q at (h .meaning)) in rw q (serves-accessible l (at z) c (z .cells) (z .words) m g (serves c (y .0)) v)
       reach b r h (Write c u) q = let y = sized _ (rw q at (h .meaning)) in rw q (serves-accessible l (at z) c (z .cells) (z .words) m g (serves c (y .0)) v)
       reach b r h (Update c u) q = let y = sized _ (rw q at (h .meaning)) in rw q (serves-accessible l (at z) c (z .cells) (z .words) m g (serves c (y .0)) v)

@@ -39,7 +39,7 @@ pub data Happens (x : Role) (code : List ℕ) (z z′ : Scene) : Type 0 where
 
 pub happens : (x : Role) (code : List ℕ) (z z′ : Scene) → Goes x code z z′ → Happens x code z z′
 unfolding moved left Fitting
-happens x code z z′ g = by (g .reached .done) refl (g .after)
+happens x code z z′ g = by (g .reached .done) refl (g .makes .after)
   where
     on : List ℤ → Act
     on s = resume (instructions code) (g .reached .place) s (variable x z)
@@ -50,15 +50,15 @@ happens x code z z′ g = by (g .reached .done) refl (g .after)
     room : (m : Move) → g .reached .done ≡ m → Holding (g .pending) (g .reached .depth)
     room m q = record { size = g .comes .size; most = omega (arith, g .comes .room) }
 
-    by : (m : Move) → g .reached .done ≡ m → z′ ≡ moved x z (g .pending) (g .reached .place) (g .reached .depth) m → Happens x code z z′
+    by : (m : Move) → g .reached .done ≡ m → z′ ≡ moved x (at z) (z .cells) (z .words) (g .pending) (g .reached .place) (g .reached .depth) m → Happens x code z z′
     by (Read c) q h =
         let low : g .reached .depth < 32 = omega (arith, rw q at (g .comes .room)) in
         let v = seen x (at z) (z .cells) (z .words) c in
         rw h (reads c (λ y. on (y ∷ pendings (g .pending) (g .reached .depth))) (came (Read c) q)
         (ap on (pendings-push (g .pending) (g .reached .depth) v (omega (arith, g .comes .size)))) refl refl
         (record { same = refl; unstopped = refl; lineless = refl; holding = record { size = simp length-set (g .comes .size); most = omega arith } }))
-    by (Write c v) q h = rw h (writes c v (rw q at (g .fits)) (came (Write c v) q) refl refl (record { same = refl; unstopped = refl; lineless = refl; holding = room (Write c v) q }))
-    by (Update c v) q h = rw h (updates c v (rw q at (g .fits)) (came (Update c v) q) refl refl (record { same = refl; unstopped = refl; lineless = refl; holding = room (Update c v) q }))
+    by (Write c v) q h = rw h (writes c v (rw q at (g .makes .fits)) (came (Write c v) q) refl refl (record { same = refl; unstopped = refl; lineless = refl; holding = room (Write c v) q }))
+    by (Update c v) q h = rw h (updates c v (rw q at (g .makes .fits)) (came (Update c v) q) refl refl (record { same = refl; unstopped = refl; lineless = refl; holding = room (Update c v) q }))
     by (Fault n t) q h =
         rw h (faults n t (resume-fault (instructions code) (z .point .place) (pendings (z .pending) (z .point .depth)) (variable x z) n t (came (Fault n t) q)) (came (Fault n t) q) refl refl refl refl refl (room (Fault n t) q))
     by End q h = rw h (ends (came End q) refl refl (add-one (at z)) refl refl refl refl (g .comes .size))

@@ -1,4 +1,4 @@
--- A step by the move that the code comes to: what its access may ask for, and that the step is the one of specs/Step.
+-- A step by the move that the code comes to: what its access may ask for, and where it leads.
 use mathlib.Core.Path.{_≡_}
 use mathlib.Core.List.{List}
 use Prim.Native.Nat.{ℕ, _+_, _<_}
@@ -8,61 +8,49 @@ use mir.Syntax.{w32}
 use mir.Val.{SFits}
 use Rattle.machine.specs.declared.Move.the-variants.{Read, Write, Update, Fault, End}
 use Rattle.machine.specs.declared.Advanced.{Advanced}
-use Rattle.machine.specs.Machine.{Pushed, Advances}
+use Rattle.machine.specs.Machine.{Pushed}
 use Rattle.stepping.specs.declared.Point.{Point}
 use Rattle.stepping.specs.declared.Role.{Role}
 use Rattle.stepping.specs.Access.{Accessible, Reads, Writes, Updates}
-use Rattle.stepping.specs.Step.{unstopped, Scene, scene, at, variable, Comes, moved, CanMove, Fitting, CanGo, Goes}
+use Rattle.stepping.specs.Step.{unstopped, scene, moved, CanMove, Fitting, CanMake, Makes}
 
-module _ (x : Role) (code : List ℕ) (z : Scene) (v : ℤ) (e : v ≡ variable x z) (b : List ℤ) (r : Advanced) (h : Advances code (z .point .place) (z .point .depth) (z .pending) v b r) where
-  comes : Comes x code z b r
-  comes = rw e at h
-
+module _ (x : Role) (i : ℕ) (M : List ℤ) (W : List ℕ) (b : List ℤ) (r : Advanced) where
   -- ---- what may be asked for
 
-  pub can-push : (c : ℕ) → r .done ≡ Read c → r .depth < 32
-  can-push c q = omega (arith, rw q at (h .room))
+  module _ (h : CanMake x i M W b r) where
+    pub can-push : (c : ℕ) → r .done ≡ Read c → r .depth < 32
+    can-push c q = omega (arith, rw q at (h .room))
 
-  module _ (p : CanGo x code z) where
-    pub can-read : (c : ℕ) → r .done ≡ Read c → Accessible x (z .cells) (z .words) c
+    pub can-read : (c : ℕ) → r .done ≡ Read c → Accessible x M W c
     unfolding CanMove
-    can-read c q = rw q at (p .reach b r comes)
+    can-read c q = rw q at (h .can)
 
-    pub can-write : (c : ℕ) (y : ℤ) → r .done ≡ Write c y → Accessible x (z .cells) (z .words) c
+    pub can-write : (c : ℕ) (y : ℤ) → r .done ≡ Write c y → Accessible x M W c
     unfolding CanMove
-    can-write c y q = rw q at (p .reach b r comes)
+    can-write c y q = rw q at (h .can)
 
-    pub can-update : (c : ℕ) (y : ℤ) → r .done ≡ Update c y → Accessible x (z .cells) (z .words) c
+    pub can-update : (c : ℕ) (y : ℤ) → r .done ≡ Update c y → Accessible x M W c
     unfolding CanMove
-    can-update c y q = rw q at (p .reach b r comes)
+    can-update c y q = rw q at (h .can)
 
-  -- ---- the step
+  -- ---- where it leads
 
-  pub goes-read : (c : ℕ) (y : ℤ) (W′ : List ℕ) (a′ : List ℤ) (d : ℕ) (t′ : Point) → r .done ≡ Read c → Reads x (at z) (z .cells) (z .words) c W′ y → Pushed b (r .depth) y a′ d → t′ ≡ unstopped d (r .place) (at z)
-      → Goes x code z (scene (z .cells) W′ a′ t′)
+  pub makes-read : (c : ℕ) (y : ℤ) (W′ : List ℕ) (a′ : List ℤ) (d : ℕ) (t′ : Point) → r .done ≡ Read c → Reads x i M W c W′ y → Pushed b (r .depth) y a′ d → t′ ≡ unstopped d (r .place) i → Makes x i M W b r (scene M W′ a′ t′)
   unfolding moved Fitting
-  goes-read c y W′ a′ d t′ q g u f = record {
-    pending = b;
-    reached = r;
-    comes = comes;
-    fits = rw q tt;
-    after = rw (q, f, g .words, u .array, u .deeper, g .value);
-  }
+  makes-read c y W′ a′ d t′ q g u f = record { fits = rw q tt; after = rw (q, f, g .words, u .array, u .deeper, g .value) }
 
-  pub goes-write : (c : ℕ) (y : ℤ) (M′ : List ℤ) (W′ : List ℕ) (t′ : Point) → r .done ≡ Write c y → SFits w32 y → Writes x (at z) (z .cells) (z .words) c y M′ W′ → t′ ≡ unstopped (r .depth) (r .place) (at z)
-      → Goes x code z (scene M′ W′ b t′)
+  pub makes-write : (c : ℕ) (y : ℤ) (M′ : List ℤ) (W′ : List ℕ) (t′ : Point) → r .done ≡ Write c y → SFits w32 y → Writes x i M W c y M′ W′ → t′ ≡ unstopped (r .depth) (r .place) i → Makes x i M W b r (scene M′ W′ b t′)
   unfolding moved Fitting
-  goes-write c y M′ W′ t′ q s g f = record { pending = b; reached = r; comes = comes; fits = rw q s; after = rw (q, f, g .cells, g .words) }
+  makes-write c y M′ W′ t′ q s g f = record { fits = rw q s; after = rw (q, f, g .cells, g .words) }
 
-  pub goes-update : (c : ℕ) (y : ℤ) (M′ : List ℤ) (W′ : List ℕ) (t′ : Point) → r .done ≡ Update c y → SFits w32 y → Updates x (at z) (z .cells) (z .words) c y M′ W′ → t′ ≡ unstopped (r .depth) (r .place) (at z)
-      → Goes x code z (scene M′ W′ b t′)
+  pub makes-update : (c : ℕ) (y : ℤ) (M′ : List ℤ) (W′ : List ℕ) (t′ : Point) → r .done ≡ Update c y → SFits w32 y → Updates x i M W c y M′ W′ → t′ ≡ unstopped (r .depth) (r .place) i → Makes x i M W b r (scene M′ W′ b t′)
   unfolding moved Fitting
-  goes-update c y M′ W′ t′ q s g f = record { pending = b; reached = r; comes = comes; fits = rw q s; after = rw (q, f, g .cells, g .words) }
+  makes-update c y M′ W′ t′ q s g f = record { fits = rw q s; after = rw (q, f, g .cells, g .words) }
 
-  pub goes-fault : (n k : ℕ) → r .done ≡ Fault n k → Goes x code z (scene (z .cells) (z .words) b (record { depth = r .depth; place = r .place; iteration = z .point .iteration; fault = n; line = k }))
+  pub makes-fault : (n k : ℕ) → r .done ≡ Fault n k → Makes x i M W b r (scene M W b (record { depth = r .depth; place = r .place; iteration = record { 0 = i }; fault = n; line = k }))
   unfolding moved Fitting
-  goes-fault n k q = record { pending = b; reached = r; comes = comes; fits = rw q tt; after = rw q }
+  makes-fault n k q = record { fits = rw q tt; after = rw q }
 
-  pub goes-end : (t′ : Point) → r .done ≡ End → t′ ≡ unstopped 0 0 (at z + 1) → Goes x code z (scene (z .cells) (z .words) b t′)
+  pub makes-end : (t′ : Point) → r .done ≡ End → t′ ≡ unstopped 0 0 (i + 1) → Makes x i M W b r (scene M W b t′)
   unfolding moved Fitting
-  goes-end t′ q f = record { pending = b; reached = r; comes = comes; fits = rw q tt; after = rw (q, f) }
+  makes-end t′ q f = record { fits = rw q tt; after = rw (q, f) }

@@ -57,7 +57,7 @@ module _ (x : Role) (code : List ℕ) (z z′ : Scene) (g : Goes x code z z′) 
 
   pub goes-nearer : (e : ℕ) → z .point .fault ≡ 0 → at z < e → togo n e (z′ .point) < togo n e (z .point)
   unfolding moved
-  goes-nearer e f b = by (g .reached .done) refl (g .after)
+  goes-nearer e f b = by (g .reached .done) refl (g .makes .after)
     where
       -- past an access the machine stands further on
       access : (m : Move) → g .reached .done ≡ m → 1 ≤ accesses m → z′ .point .fault ≡ 0 → at z′ ≡ at z → z′ .point .place ≡ g .reached .place → togo n e (z′ .point) < togo n e (z .point)
@@ -66,7 +66,7 @@ module _ (x : Role) (code : List ℕ) (z z′ : Scene) (g : Goes x code z z′) 
           let v : accesses m ≤ n - z .point .place = rw q at (g .comes .inside) in
           nearer-on n e (z .point) (z′ .point) f h i (omega arith) (omega arith)
 
-      by : (m : Move) → g .reached .done ≡ m → z′ ≡ moved x z (g .pending) (g .reached .place) (g .reached .depth) m → togo n e (z′ .point) < togo n e (z .point)
+      by : (m : Move) → g .reached .done ≡ m → z′ ≡ moved x (at z) (z .cells) (z .words) (g .pending) (g .reached .place) (g .reached .depth) m → togo n e (z′ .point) < togo n e (z .point)
       by (Read c) q h = access (Read c) q (omega arith) (ap (λ (u : Scene). u .point .fault) h) (ap at h) (ap (λ (u : Scene). u .point .place) h)
       by (Write c v) q h = access (Write c v) q (omega arith) (ap (λ (u : Scene). u .point .fault) h) (ap at h) (ap (λ (u : Scene). u .point .place) h)
       by (Update c v) q h = access (Update c v) q (omega arith) (ap (λ (u : Scene). u .point .fault) h) (ap at h) (ap (λ (u : Scene). u .point .place) h)

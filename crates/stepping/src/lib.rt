@@ -7,8 +7,9 @@ ghost use Prim.Native.Nat.{_≤_};
 ghost use lib.IntN.{pos, _+ℤ_};
 ghost use mir.Syntax.{w32};
 ghost use mir.Val.{SFits};
-ghost use Rattle.stepping.specs.Step.{unstopped, scene, CanGo, Goes};
+ghost use Rattle.stepping.specs.Step.{unstopped, scene, CanMake, Makes, CanGo, Goes};
 ghost use Rattle.stepping.specs.Carrying.{opened, CanCarry, Carries};
+use machine::Advanced;
 use machine::Move;
 use rules::Iteration;
 use rules::Processor;
@@ -68,6 +69,47 @@ fn unstopped_at(depth: usize, place: usize, iteration: Iteration) -> Point
     }
 }
 
+// The move that the code came to: its access, and where the processor then is.
+fn make(
+    role: Role,
+    i: Iteration,
+    cells: &mut [i32],
+    w: &mut [u32],
+    pending: &mut [i32; 32],
+    r: Advanced,
+) -> Point
+    requires { ⌜ CanMake role (i .0) (now cells) (now w) (now pending) r ⌝ }
+    ensures { λ t. ⌜ Makes role (i .0) (now (cells .entry)) (now (w .entry)) (now (pending .entry)) r (scene (now (cells .exit)) (now (w .exit)) (now (pending .exit)) t) ⌝ }
+{
+    let done = r.done;
+    match done {
+        Move::Read { cell } => {
+            let x = access::read_cell(role, i, cells, w, cell);
+            let d = machine::push(pending, r.depth, x);
+            unstopped_at(d, r.place, i)
+        }
+        Move::Write { cell, value } => {
+            access::write_cell(role, i, cells, w, cell, value);
+            unstopped_at(r.depth, r.place, i)
+        }
+        Move::Update { cell, value } => {
+            access::update_cell(role, i, cells, w, cell, value);
+            unstopped_at(r.depth, r.place, i)
+        }
+        Move::Fault { number, line } => Point {
+            depth: r.depth,
+            place: r.place,
+            iteration: i,
+            fault: number,
+            line: line,
+        },
+        Move::End => {
+            let next = Iteration(i.0 + 1);
+            unstopped_at(0, 0, next)
+        }
+    }
+}
+
 // One step of a processor that is not finished and not stopped: up to and including its next cell access, or to the end of its iteration or a fault.
 fn go_on(
     code: &[u32],
@@ -83,35 +125,7 @@ fn go_on(
     let i = t.iteration;
     let v = value_at(role.from, i);
     let r = machine::advance(code, t.place, t.depth, pending, v);
-    let done = r.done;
-    let place = r.place;
-    let depth = r.depth;
-    match done {
-        Move::Read { cell } => {
-            let x = access::read_cell(role, i, cells, w, cell);
-            let d = machine::push(pending, depth, x);
-            unstopped_at(d, place, i)
-        }
-        Move::Write { cell, value } => {
-            access::write_cell(role, i, cells, w, cell, value);
-            unstopped_at(depth, place, i)
-        }
-        Move::Update { cell, value } => {
-            access::update_cell(role, i, cells, w, cell, value);
-            unstopped_at(depth, place, i)
-        }
-        Move::Fault { number, line } => Point {
-            depth: depth,
-            place: place,
-            iteration: i,
-            fault: number,
-            line: line,
-        },
-        Move::End => {
-            let next = Iteration(i.0 + 1);
-            unstopped_at(0, 0, next)
-        }
-    }
+    make(role, i, cells, w, pending, r)
 }
 
 // Whether a processor whose block ends before an iteration is neither stopped nor finished.

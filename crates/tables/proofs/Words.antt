@@ -9,7 +9,7 @@ use lib.ListN.{length, getD, set, drop, replicate, length-set, drop-of-length-le
 use lib.Seq.{getD-set-same, getD-set-other}
 use Rattle.int32.specs.Integers.{word, value, sum}
 use Rattle.rules.specs.Choose.{pick}
-use Rattle.tables.specs.Changes.{Placed, Ready, one-more, read-noted, counted, written, updated, entered}
+use Rattle.tables.specs.Changes.{Placed, Ready, one-more, read-noted, counted, row-written, own-written, written, updated, entered}
 
 -- with at most 8 processors
 pub stride-most : (p : ℕ) → p ≤ 8 → 4 + 5 * p ≤ 44
@@ -110,11 +110,11 @@ module _ (W : List ℕ) (row own g : ℕ) (v : ℤ) (p : Placed W row own) where
   write4 = set write3 own (word v)
 
   pub written-length : length (written W row own g v) ≡ length W
-  unfolding written
+  unfolding written row-written own-written
   written-length = simp length-set
 
   pub written-met : getD (written W row own g v) (row + 1) 0 ≡ one-more (getD W (own + 1) 0) (getD W (own + 2) 0) (g + 1) (getD W (row + 1) 0)
-  unfolding written
+  unfolding written row-written own-written
   written-met =
       let a = p .apart in
       unset write4 (own + 1) (row + 1) _ (omega arith)
@@ -124,7 +124,7 @@ module _ (W : List ℕ) (row own g : ℕ) (v : ℤ) (p : Placed W row own) where
       ∙ hit W (row + 1) _ (omega (arith, p .inside))
 
   pub written-writers : getD (written W row own g v) (row + 2) 0 ≡ pick (getD W (own + 1) 0) (g + 1) (getD W (row + 2) 0) (getD W (row + 2) 0 + 1)
-  unfolding written
+  unfolding written row-written own-written
   written-writers =
       let a = p .apart in
       unset write4 (own + 1) (row + 2) _ (omega arith)
@@ -133,7 +133,7 @@ module _ (W : List ℕ) (row own g : ℕ) (v : ℤ) (p : Placed W row own) where
       ∙ hit write1 (row + 2) _ (simp length-set (omega (arith, p .inside)))
 
   pub written-flags : getD (written W row own g v) (row + 3) 0 ≡ pick (getD W (own + 2) 0) (g + 1) (getD W (row + 3) 0 / 2 * 2 + 1) (getD W (row + 3) 0)
-  unfolding written
+  unfolding written row-written own-written
   written-flags =
       let a = p .apart in
       unset write4 (own + 1) (row + 3) _ (omega arith)
@@ -141,15 +141,15 @@ module _ (W : List ℕ) (row own g : ℕ) (v : ℤ) (p : Placed W row own) where
       ∙ hit write2 (row + 3) _ (simp length-set (omega (arith, p .inside)))
 
   pub written-value : getD (written W row own g v) own 0 ≡ word v
-  unfolding written
+  unfolding written row-written own-written
   written-value = unset write4 (own + 1) own _ (omega arith) ∙ hit write3 own _ (simp length-set (omega (arith, p .inside)))
 
   pub written-wrote : getD (written W row own g v) (own + 1) 0 ≡ g + 1
-  unfolding written
+  unfolding written row-written own-written
   written-wrote = hit write4 (own + 1) _ (simp length-set (omega (arith, p .inside)))
 
   pub written-other : (k : ℕ) → (k ≡ row + 1 → ⊥) → (k ≡ row + 2 → ⊥) → (k ≡ row + 3 → ⊥) → (k ≡ own → ⊥) → (k ≡ own + 1 → ⊥) → getD (written W row own g v) k 0 ≡ getD W k 0
-  unfolding written
+  unfolding written row-written own-written
   written-other k a b c d e = unset write4 (own + 1) k _ e ∙ unset write3 own k _ d ∙ unset write2 (row + 3) k _ c ∙ unset write1 (row + 2) k _ b ∙ unset W (row + 1) k _ a
 
 -- ---- an update

@@ -47,22 +47,24 @@ counted W row own i =
     (touched-at own)
     (i + 1)
 
--- a write of v by group g, whose counts are done
-unfoldable pub written : List ℕ → ℕ → ℕ → ℕ → ℤ → List ℕ
-written W row own g v =
+-- a write by group g, whose counts are done: the words of the row
+unfoldable pub row-written : List ℕ → ℕ → ℕ → ℕ → List ℕ
+row-written W row own g =
     set
-    (set
-    (set
     (set
     (set W (met-at row) (one-more (wrote-word W own) (exposed-word W own) (g + 1) (met-word W row)))
     (writers-at row)
     (pick (wrote-word W own) (g + 1) (writers-word W row) (writers-word W row + 1)))
     (flags-at row)
-    (pick (exposed-word W own) (g + 1) (flags-word W row / 2 * 2 + 1) (flags-word W row)))
-    own
-    (word v))
-    (wrote-at own)
-    (g + 1)
+    (pick (exposed-word W own) (g + 1) (flags-word W row / 2 * 2 + 1) (flags-word W row))
+
+-- and those of the processor
+unfoldable pub own-written : List ℕ → ℕ → ℕ → ℤ → List ℕ
+own-written W own g v = set (set W own (word v)) (wrote-at own) (g + 1)
+
+-- a write of v
+unfoldable pub written : List ℕ → ℕ → ℕ → ℕ → ℤ → List ℕ
+written W row own g v = own-written (row-written W row own g) own g v
 
 -- an update by v, whose counts are done
 unfoldable pub updated : List ℕ → ℕ → ℕ → ℤ → List ℕ

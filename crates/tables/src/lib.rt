@@ -7,7 +7,7 @@ ghost use lib.ListN.{length, replicate};
 ghost use Rattle.int32.specs.Integers.{value};
 ghost use Rattle.rules.specs.Choose.{pick};
 ghost use Rattle.tables.specs.Layout.{row-at, own-at, met-word, writers-word, class-word};
-ghost use Rattle.tables.specs.Changes.{Placed, Ready, one-more, read-noted, counted, written, updated, entered, own-seen};
+ghost use Rattle.tables.specs.Changes.{Placed, Ready, one-more, read-noted, counted, row-written, own-written, written, updated, entered, own-seen};
 use rules::Group;
 use rules::Iteration;
 use rules::Processor;
@@ -138,10 +138,10 @@ fn with_update(flags: u32) -> u32
     flags / 4 * 4 + 2 + flags % 2
 }
 
-// A group writes the cell, whose counts are done.
-fn mark_written(w: &mut [u32], row: usize, own: usize, group: Group, value: i32)
+// A group writes the cell: the words of its row.
+fn mark_row(w: &mut [u32], row: usize, own: usize, group: Group)
     requires { ⌜ (Placed (now w) row own) × (met-word (now w) row < 4294967295) × (writers-word (now w) row < 4294967295) × (group .0 < 4294967295) ⌝ }
-    ensures { λ _. ⌜ now (w .exit) ≡ written (now (w .entry)) row own (group .0) value ⌝ }
+    ensures { λ _. ⌜ now (w .exit) ≡ row-written (now (w .entry)) row own (group .0) ⌝ }
 {
     let g = group_stamp(group);
     let wrote = w[own + WROTE];
@@ -152,6 +152,14 @@ fn mark_written(w: &mut [u32], row: usize, own: usize, group: Group, value: i32)
     w[row + MET] = met_by(wrote, exposed, g, met);
     w[row + WRITERS] = choose(wrote, g, writers, writers + 1);
     w[row + FLAGS] = choose(exposed, g, crossed(flags), flags);
+}
+
+// A group writes the cell: the words of its processor.
+fn mark_own(w: &mut [u32], own: usize, group: Group, value: i32)
+    requires { ⌜ (own + 5 ≤ length (now w)) × (group .0 < 4294967295) ⌝ }
+    ensures { λ _. ⌜ now (w .exit) ≡ own-written (now (w .entry)) own (group .0) value ⌝ }
+{
+    let g = group_stamp(group);
     w[own] = int32::to_word(value);
     w[own + WROTE] = g;
 }
@@ -180,7 +188,8 @@ pub fn note_write(
     ensures { λ _. ⌜ now (w .exit) ≡ written (counted (now (w .entry)) row own (iteration .0)) row own (group .0) value ⌝ }
 {
     count(w, row, own, iteration);
-    mark_written(w, row, own, group, value);
+    mark_row(w, row, own, group);
+    mark_own(w, own, group, value);
 }
 
 // An iteration adds to the cell.

@@ -114,7 +114,7 @@ module _ (code : List ℕ) (m : ℤ) (k : ℕ) (l : Loop) (M : List ℤ) (W : Li
     reach = λ b r h. reach b r h (r .done) refl;
   }
     where
-      reach : (b : List ℤ) (r : Advanced) → Comes x code z b r → (w : Move) → r .done ≡ w → CanMove x z (r .done)
+      reach : (b : List ℤ) (r : Advanced) → Comes x code z b r → (w : Move) → r .done ≡ w → CanMove x (z .cells) (z .words) (r .done)
       reach b r h (Read c) q = let y = sized _ (rw q at (h .meaning)) in rw q (access-accessible k l M W s p i c (allowed c (y .0)) m e)
       reach b r h (Write c v) q = let y = sized _ (rw q at (h .meaning)) in rw q (access-accessible k l M W s p i c (allowed c (y .0)) m e)
       reach b r h (Update c v) q = let y = sized _ (rw q at (h .meaning)) in rw q (access-accessible k l M W s p i c (allowed c (y .0)) m e)

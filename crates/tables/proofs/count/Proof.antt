@@ -10,40 +10,40 @@ iteration-stamp-requires : tie.Need-iteration-stamp-requires
 iteration-stamp-requires c κs = search needs
 
 slice-read-pairs : tie.Need-slice-read-pairs
-slice-read-pairs c = search needs
+slice-read-pairs c = omega arith
 
 slice-read-cells : tie.Need-slice-read-cells
-slice-read-cells c = search needs
+slice-read-cells c = omega arith
 
 add-touched : tie.Need-add-touched
-add-touched c = search needs
+add-touched c = omega arith
 
 mul-touched : tie.Need-mul-touched
-mul-touched c = search needs
+mul-touched c = omega arith
 
 slice-read-touched : tie.Need-slice-read-touched
-slice-read-touched c = search needs
+slice-read-touched c = omega arith
 
 add-writers : tie.Need-add-writers
-add-writers c = search needs
+add-writers c = omega arith
 
 mul-writers : tie.Need-mul-writers
-mul-writers c = search needs
+mul-writers c = omega arith
 
 slice-read-writers : tie.Need-slice-read-writers
-slice-read-writers c = search needs
+slice-read-writers c = omega arith
 
 add-is-updated : tie.Need-add-is-updated
-add-is-updated c = search needs
+add-is-updated c = omega arith
 
 mul-is-updated : tie.Need-mul-is-updated
-mul-is-updated c = search needs
+mul-is-updated c = omega arith
 
 slice-read-is-updated : tie.Need-slice-read-is-updated
-slice-read-is-updated c = search needs
+slice-read-is-updated c = omega arith
 
 add-more : tie.Need-add-more
-add-more c = search needs
+add-more c = omega arith
 
 choose-requires : tie.Need-choose-requires
 choose-requires c κs = search needs
@@ -52,7 +52,7 @@ slice-write-w : tie.Need-slice-write-w
 slice-write-w c = search needs
 
 add-choose : tie.Need-add-choose
-add-choose c = search needs
+add-choose c = omega arith
 
 choose-requires-2 : tie.Need-choose-requires-2
 choose-requires-2 c κs = search needs
@@ -64,10 +64,10 @@ slice-write-w-2 : tie.Need-slice-write-w-2
 slice-write-w-2 c = simp length-set (omega arith)
 
 add-w : tie.Need-add-w
-add-w c = search needs
+add-w c = omega arith
 
 mul-w : tie.Need-mul-w
-mul-w c = search needs
+mul-w c = omega arith
 
 slice-write-w-3 : tie.Need-slice-write-w-3
 slice-write-w-3 c = simp length-set (omega arith)

@@ -10,22 +10,22 @@ use Rattle.tables.proofs.mark_updated.Statement.{statement}
 use Rattle.tables.proofs.mark_updated.Tie as tie
 
 add-flags : tie.Need-add-flags
-add-flags c = search needs
+add-flags c = omega arith
 
 mul-flags : tie.Need-mul-flags
-mul-flags c = search needs
+mul-flags c = omega arith
 
 slice-read-flags : tie.Need-slice-read-flags
-slice-read-flags c = search needs
+slice-read-flags c = omega arith
 
 add-of-word : tie.Need-add-of-word
-add-of-word c = search needs
+add-of-word c = omega arith
 
 mul-of-word : tie.Need-mul-of-word
-mul-of-word c = search needs
+mul-of-word c = omega arith
 
 slice-read-of-word : tie.Need-slice-read-of-word
-slice-read-of-word c = search needs
+slice-read-of-word c = omega arith
 
 of-word-requires : tie.Need-of-word-requires
 of-word-requires c κs = search needs
@@ -37,10 +37,10 @@ with-update-requires : tie.Need-with-update-requires
 with-update-requires c κs = search needs
 
 add-w : tie.Need-add-w
-add-w c = search needs
+add-w c = omega arith
 
 mul-w : tie.Need-mul-w
-mul-w c = search needs
+mul-w c = omega arith
 
 slice-write-w : tie.Need-slice-write-w
 slice-write-w c = search needs
@@ -49,10 +49,10 @@ to-word-requires : tie.Need-to-word-requires
 to-word-requires c κs = search needs
 
 add-w-2 : tie.Need-add-w-2
-add-w-2 c = search needs
+add-w-2 c = omega arith
 
 mul-w-2 : tie.Need-mul-w-2
-mul-w-2 c = search needs
+mul-w-2 c = omega arith
 
 slice-write-w-2 : tie.Need-slice-write-w-2
 slice-write-w-2 c = simp length-set (omega arith)

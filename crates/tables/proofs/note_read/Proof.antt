@@ -10,40 +10,40 @@ group-stamp-requires : tie.Need-group-stamp-requires
 group-stamp-requires c κs = search needs
 
 add-wrote : tie.Need-add-wrote
-add-wrote c = search needs
+add-wrote c = omega arith
 
 mul-wrote : tie.Need-mul-wrote
-mul-wrote c = search needs
+mul-wrote c = omega arith
 
 slice-read-wrote : tie.Need-slice-read-wrote
-slice-read-wrote c = search needs
+slice-read-wrote c = omega arith
 
 add-exposed : tie.Need-add-exposed
-add-exposed c = search needs
+add-exposed c = omega arith
 
 mul-exposed : tie.Need-mul-exposed
-mul-exposed c = search needs
+mul-exposed c = omega arith
 
 slice-read-exposed : tie.Need-slice-read-exposed
-slice-read-exposed c = search needs
+slice-read-exposed c = omega arith
 
 add-met-by : tie.Need-add-met-by
-add-met-by c = search needs
+add-met-by c = omega arith
 
 mul-met-by : tie.Need-mul-met-by
-mul-met-by c = search needs
+mul-met-by c = omega arith
 
 slice-read-met-by : tie.Need-slice-read-met-by
-slice-read-met-by c = search needs
+slice-read-met-by c = omega arith
 
 met-by-requires : tie.Need-met-by-requires
 met-by-requires c κs = search needs
 
 add-w : tie.Need-add-w
-add-w c = search needs
+add-w c = omega arith
 
 mul-w : tie.Need-mul-w
-mul-w c = search needs
+mul-w c = omega arith
 
 slice-write-w : tie.Need-slice-write-w
 slice-write-w c = search needs
@@ -52,10 +52,10 @@ choose-requires : tie.Need-choose-requires
 choose-requires c κs = search needs
 
 add-w-2 : tie.Need-add-w-2
-add-w-2 c = search needs
+add-w-2 c = omega arith
 
 mul-w-2 : tie.Need-mul-w-2
-mul-w-2 c = search needs
+mul-w-2 c = omega arith
 
 slice-write-w-2 : tie.Need-slice-write-w-2
 slice-write-w-2 c = simp length-set (omega arith)

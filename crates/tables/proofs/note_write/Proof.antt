@@ -1,8 +1,10 @@
 -- `tables::note_write` meets its contract.
 use mathlib.Core.Path.{_≡_}
+use native.Mathlib.Omega.{arith}
 use borrow.Author.Needs.{needs}
 use mir.Syntax.{w32}
 use mir.Val.{toZ, ofZ}
+use Rattle.tables.specs.Changes.{written}
 use Rattle.tables.proofs.Words.{counted-ready}
 use Rattle.tables.proofs.note_write.Statement.{statement}
 use Rattle.tables.proofs.note_write.Tie as tie
@@ -10,20 +12,24 @@ use Rattle.tables.proofs.note_write.Tie as tie
 count-requires : tie.Need-count-requires
 count-requires c κs = search needs
 
-mark-written-requires : tie.Need-mark-written-requires
-mark-written-requires c κs =
+mark-row-requires : tie.Need-mark-row-requires
+mark-row-requires c κs =
     let a = c .before .before .before .before .before .before .args in
     let p = c .before .before .before .before .before .before .pre in
     rw (c .before .before .before .count .ensures) (counted-ready (a .w .now) (a .row) (a .own) (a .iteration .0) (a .group .0) (p .0) (p .1))
+
+mark-own-requires : tie.Need-mark-own-requires
+mark-own-requires c κs = search needs
 
 same-length : tie.Need-same-length
 same-length c = search needs
 
 returns : tie.Need-returns
+unfolding written
 returns c =
-    let a = c .before .before .before .before .before .before .before .before .before .args in
-    let e : toZ w32 (ofZ w32 (a .value)) ≡ a .value = search needs in
-    rw (e, c .before .before .before .before .before .before .count .ensures) at (c .before .before .mark-written .ensures)
+    let e : toZ w32 (ofZ w32 (c .before .before .before .before .before .before .before .before .before .before .before .before .before .args .value)) ≡ c .before .before .before .before .before .before .before .before .before .before .before .before .before .args .value = search needs in
+    rw (e, c .before .before .before .before .before .before .mark-row .ensures, c .before .before .before .before .before .before .before .before .before .before .count .ensures) at (c .before .before .mark-own .ensures)
 
 pub note-write-spec : {M : Type 1} → statement M
-note-write-spec = tie.close (tie.spec count-requires mark-written-requires same-length returns)
+note-write-spec =
+    tie.close (tie.spec count-requires mark-row-requires mark-own-requires same-length returns)

@@ -1,5 +1,6 @@
 -- `tables::own_value` meets its contract.
 use mathlib.Core.Path.{_≡_}
+use native.Mathlib.Omega.{arith}
 use borrow.Author.Needs.{needs}
 use mir.Syntax.{w32}
 use mir.Val.{toZ, ofZ}
@@ -7,28 +8,28 @@ use Rattle.tables.proofs.own_value.Statement.{statement}
 use Rattle.tables.proofs.own_value.Tie as tie
 
 add-choose : tie.Need-add-choose
-add-choose c = search needs
+add-choose c = omega arith
 
 mul-choose : tie.Need-mul-choose
-mul-choose c = search needs
+mul-choose c = omega arith
 
 shared-slice-read-choose : tie.Need-shared-slice-read-choose
-shared-slice-read-choose c = search needs
+shared-slice-read-choose c = omega arith
 
 group-stamp-requires : tie.Need-group-stamp-requires
 group-stamp-requires c κs = search needs
 
 mul-choose-2 : tie.Need-mul-choose-2
-mul-choose-2 c = search needs
+mul-choose-2 c = omega arith
 
 shared-slice-read-choose-2 : tie.Need-shared-slice-read-choose-2
-shared-slice-read-choose-2 c = search needs
+shared-slice-read-choose-2 c = omega arith
 
 mul-choose-3 : tie.Need-mul-choose-3
-mul-choose-3 c = search needs
+mul-choose-3 c = omega arith
 
 shared-slice-read-choose-3 : tie.Need-shared-slice-read-choose-3
-shared-slice-read-choose-3 c = search needs
+shared-slice-read-choose-3 c = omega arith
 
 choose-requires : tie.Need-choose-requires
 choose-requires c κs = search needs

@@ -12,37 +12,37 @@ to-word-requires : tie.Need-to-word-requires
 to-word-requires c κs = search needs
 
 mul-w : tie.Need-mul-w
-mul-w c = search needs
+mul-w c = omega arith
 
 slice-write-w : tie.Need-slice-write-w
 slice-write-w c = search needs
 
 add-w : tie.Need-add-w
-add-w c = search needs
+add-w c = omega arith
 
 mul-w-2 : tie.Need-mul-w-2
-mul-w-2 c = search needs
+mul-w-2 c = omega arith
 
 slice-write-w-2 : tie.Need-slice-write-w-2
 slice-write-w-2 c = simp length-set (omega arith)
 
 add-w-2 : tie.Need-add-w-2
-add-w-2 c = search needs
+add-w-2 c = omega arith
 
 mul-w-3 : tie.Need-mul-w-3
-mul-w-3 c = search needs
+mul-w-3 c = omega arith
 
 slice-write-w-3 : tie.Need-slice-write-w-3
 slice-write-w-3 c = simp length-set (omega arith)
 
 mul-w-4 : tie.Need-mul-w-4
-mul-w-4 c = search needs
+mul-w-4 c = omega arith
 
 add-w-3 : tie.Need-add-w-3
-add-w-3 c = search needs
+add-w-3 c = omega arith
 
 mul-w-5 : tie.Need-mul-w-5
-mul-w-5 c = search needs
+mul-w-5 c = omega arith
 
 slice-write-w-4 : tie.Need-slice-write-w-4
 slice-write-w-4 c = simp length-set (omega arith)

@@ -1,84 +1,83 @@
--- `tables::mark_written` meets its contract.
+-- `tables::mark_row` meets its contract.
 use mathlib.Core.Path.{_∙_}
 use native.Mathlib.Omega.{arith}
 use borrow.Author.Needs.{needs}
 use lib.ListN.{length-set}
-use Rattle.int32.proofs.Laws.{seen}
-use Rattle.tables.specs.Changes.{written}
-use Rattle.tables.proofs.mark_written.Statement.{statement}
-use Rattle.tables.proofs.mark_written.Tie as tie
+use Rattle.tables.specs.Changes.{row-written}
+use Rattle.tables.proofs.mark_row.Statement.{statement}
+use Rattle.tables.proofs.mark_row.Tie as tie
 
 group-stamp-requires : tie.Need-group-stamp-requires
 group-stamp-requires c κs = search needs
 
 add-wrote : tie.Need-add-wrote
-add-wrote c = search needs
+add-wrote c = omega arith
 
 mul-wrote : tie.Need-mul-wrote
-mul-wrote c = search needs
+mul-wrote c = omega arith
 
 slice-read-wrote : tie.Need-slice-read-wrote
-slice-read-wrote c = search needs
+slice-read-wrote c = omega arith
 
 add-exposed : tie.Need-add-exposed
-add-exposed c = search needs
+add-exposed c = omega arith
 
 mul-exposed : tie.Need-mul-exposed
-mul-exposed c = search needs
+mul-exposed c = omega arith
 
 slice-read-exposed : tie.Need-slice-read-exposed
-slice-read-exposed c = search needs
+slice-read-exposed c = omega arith
 
 add-met : tie.Need-add-met
-add-met c = search needs
+add-met c = omega arith
 
 mul-met : tie.Need-mul-met
-mul-met c = search needs
+mul-met c = omega arith
 
 slice-read-met : tie.Need-slice-read-met
-slice-read-met c = search needs
+slice-read-met c = omega arith
 
 add-writers : tie.Need-add-writers
-add-writers c = search needs
+add-writers c = omega arith
 
 mul-writers : tie.Need-mul-writers
-mul-writers c = search needs
+mul-writers c = omega arith
 
 slice-read-writers : tie.Need-slice-read-writers
-slice-read-writers c = search needs
+slice-read-writers c = omega arith
 
 add-flags : tie.Need-add-flags
-add-flags c = search needs
+add-flags c = omega arith
 
 mul-flags : tie.Need-mul-flags
-mul-flags c = search needs
+mul-flags c = omega arith
 
 slice-read-flags : tie.Need-slice-read-flags
-slice-read-flags c = search needs
+slice-read-flags c = omega arith
 
 met-by-requires : tie.Need-met-by-requires
 met-by-requires c κs = search needs
 
 add-w : tie.Need-add-w
-add-w c = search needs
+add-w c = omega arith
 
 mul-w : tie.Need-mul-w
-mul-w c = search needs
+mul-w c = omega arith
 
 slice-write-w : tie.Need-slice-write-w
 slice-write-w c = search needs
 
 add-choose : tie.Need-add-choose
-add-choose c = search needs
+add-choose c = omega arith
 
 choose-requires : tie.Need-choose-requires
 choose-requires c κs = search needs
 
 add-w-2 : tie.Need-add-w-2
-add-w-2 c = search needs
+add-w-2 c = omega arith
 
 mul-w-2 : tie.Need-mul-w-2
-mul-w-2 c = search needs
+mul-w-2 c = omega arith
 
 slice-write-w-2 : tie.Need-slice-write-w-2
 slice-write-w-2 c = simp length-set (omega arith)
@@ -90,43 +89,23 @@ choose-requires-2 : tie.Need-choose-requires-2
 choose-requires-2 c κs = search needs
 
 add-w-3 : tie.Need-add-w-3
-add-w-3 c = search needs
+add-w-3 c = omega arith
 
 mul-w-3 : tie.Need-mul-w-3
-mul-w-3 c = search needs
+mul-w-3 c = omega arith
 
 slice-write-w-3 : tie.Need-slice-write-w-3
 slice-write-w-3 c = simp length-set (omega arith)
-
-to-word-requires : tie.Need-to-word-requires
-to-word-requires c κs = search needs
-
-mul-w-4 : tie.Need-mul-w-4
-mul-w-4 c = search needs
-
-slice-write-w-4 : tie.Need-slice-write-w-4
-slice-write-w-4 c = simp length-set (omega arith)
-
-add-w-4 : tie.Need-add-w-4
-add-w-4 c = search needs
-
-mul-w-5 : tie.Need-mul-w-5
-mul-w-5 c = search needs
-
-slice-write-w-5 : tie.Need-slice-write-w-5
-slice-write-w-5 c = simp length-set (omega arith)
 
 same-length : tie.Need-same-length
 same-length c = search needs
 
 returns : tie.Need-returns
-unfolding written
-returns c =
-    let e = c .to-word .ensures ∙ seen (c .before .before .before .before .before .before .before .before .before .before .before .before .fits .value) in
-    rw (c .before .before .before .before .met-by .ensures, c .before .before .before .choose .ensures, c .before .choose2 .ensures, c .before .before .crossed .ensures, e, c .before .before .before .before .before .before .before .before .before .before .group-stamp .ensures)
+unfolding row-written
+returns c = rw (c .before .before .before .met-by .ensures, c .before .before .choose .ensures, c .choose2 .ensures, c .before .crossed .ensures, c .before .before .before .before .before .before .before .before .before .group-stamp .ensures)
 
-pub mark-written-spec : {M : Type 1} → statement M
-mark-written-spec =
+pub mark-row-spec : {M : Type 1} → statement M
+mark-row-spec =
     tie.close
     (tie.spec
     group-stamp-requires
@@ -159,11 +138,5 @@ mark-written-spec =
     add-w-3
     mul-w-3
     slice-write-w-3
-    to-word-requires
-    mul-w-4
-    slice-write-w-4
-    add-w-4
-    mul-w-5
-    slice-write-w-5
     same-length
     returns)
