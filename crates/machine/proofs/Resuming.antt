@@ -7,10 +7,12 @@ use lib.ListN.{length, getD}
 use lib.IntN.{ℤ}
 use Rattle.rules.specs.Loop.{Act, done}
 use Rattle.code.specs.Instr.{Instr, end, decode, instructions, perform, resume}
-use Rattle.machine.specs.declared.Move.{Move}
-use Rattle.machine.specs.declared.Move.the-variants.{Read, Write, Update, Fault, End}
-use Rattle.machine.specs.declared.instructions.Performed.{Performed}
-use Rattle.machine.specs.Machine.{pendings, accesses, then, does, Performs}
+use Rattle.operands.specs.declared.Move.{Move}
+use Rattle.operands.specs.declared.Move.the-variants.{Read, Write, Update, Fault, End}
+use Rattle.operands.specs.declared.Performed.{Performed}
+use Rattle.operands.specs.Pending.{pendings}
+use Rattle.machine.specs.Machine.{accesses}
+use Rattle.operands.specs.Performing.{then, does, Performs}
 
 -- ---- the instruction at a place
 

@@ -12,7 +12,7 @@ use Rattle.rules.specs.Serial.{finished, failed, Result, along, from, serial}
 use Rattle.shadow.proofs.Counts.{Inside}
 use Rattle.shadow.proofs.Shows.{Ascending}
 use Rattle.tables.proofs.Logged.{Logged}
-use Rattle.machine.specs.Machine.{Holding}
+use Rattle.operands.specs.Pending.{Holding}
 use Rattle.stepping.specs.declared.Manner.the-variants.{InPlace}
 use Rattle.stepping.specs.declared.Role.{Role}
 use Rattle.stepping.specs.Step.{Scene, at}

@@ -20,10 +20,11 @@ use Rattle.shadow.proofs.Counts.{inside-nil}
 use Rattle.shadow.proofs.Shows.{tables-right}
 use Rattle.tables.proofs.Logged.{Logged}
 use Rattle.findings.proofs.Logged.{logged-pairs, logged-cells}
-use Rattle.machine.specs.declared.Move.{Move}
-use Rattle.machine.specs.declared.Move.the-variants.{Read, Write, Update, Fault, End}
+use Rattle.operands.specs.declared.Move.{Move}
+use Rattle.operands.specs.declared.Move.the-variants.{Read, Write, Update, Fault, End}
 use Rattle.machine.specs.declared.Advanced.{Advanced}
-use Rattle.machine.specs.Machine.{pendings, Holding, left}
+use Rattle.operands.specs.Pending.{pendings, Holding}
+use Rattle.operands.specs.Performing.{left}
 use Rattle.stepping.specs.declared.Extent.the-variants.{ToTheEnd}
 use Rattle.stepping.specs.declared.Role.{Role}
 use Rattle.stepping.specs.Step.{Scene, scene, at, Comes, CanMove, CanGo, Goes}

@@ -10,10 +10,11 @@ use mir.Syntax.{w32}
 use mir.Val.{SFits}
 use Rattle.rules.specs.Loop.{Act, read, write, update, fault, done}
 use Rattle.code.specs.Instr.{instructions, resume}
-use Rattle.machine.specs.declared.Move.{Move}
-use Rattle.machine.specs.declared.Move.the-variants.{Read, Write, Update, Fault, End}
-use Rattle.machine.specs.Machine.{pendings, Holding, left}
-use Rattle.machine.proofs.Pending.{pendings-push}
+use Rattle.operands.specs.declared.Move.{Move}
+use Rattle.operands.specs.declared.Move.the-variants.{Read, Write, Update, Fault, End}
+use Rattle.operands.specs.Pending.{pendings, Holding}
+use Rattle.operands.specs.Performing.{left}
+use Rattle.operands.proofs.Pending.{pendings-push}
 use Rattle.stepping.specs.declared.Role.{Role}
 use Rattle.stepping.specs.Access.{seen, read-words, stored, written-words, added, updated-words}
 use Rattle.stepping.specs.Step.{Scene, at, variable, moved, Fitting, Goes}

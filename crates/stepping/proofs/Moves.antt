@@ -6,9 +6,9 @@ use native.Mathlib.Omega.{arith}
 use lib.IntN.{ℤ}
 use mir.Syntax.{w32}
 use mir.Val.{SFits}
-use Rattle.machine.specs.declared.Move.the-variants.{Read, Write, Update, Fault, End}
+use Rattle.operands.specs.declared.Move.the-variants.{Read, Write, Update, Fault, End}
 use Rattle.machine.specs.declared.Advanced.{Advanced}
-use Rattle.machine.specs.Machine.{Pushed}
+use Rattle.operands.specs.Pending.{Pushed}
 use Rattle.stepping.specs.declared.Point.{Point}
 use Rattle.stepping.specs.declared.Role.{Role}
 use Rattle.stepping.specs.Access.{Accessible, Reads, Writes, Updates}

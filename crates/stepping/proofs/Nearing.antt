@@ -8,9 +8,11 @@ use lib.ListN.{length}
 use Rattle.rules.specs.Choose.{pick}
 use Rattle.rules.specs.ChooseLaws.{pick-same, pick-other}
 use Rattle.code.specs.Instr.{instructions}
-use Rattle.machine.specs.declared.Move.{Move}
-use Rattle.machine.specs.declared.Move.the-variants.{Read, Write, Update, Fault, End}
-use Rattle.machine.specs.Machine.{pendings, accesses, left}
+use Rattle.operands.specs.declared.Move.{Move}
+use Rattle.operands.specs.declared.Move.the-variants.{Read, Write, Update, Fault, End}
+use Rattle.operands.specs.Pending.{pendings}
+use Rattle.machine.specs.Machine.{accesses}
+use Rattle.operands.specs.Performing.{left}
 use Rattle.stepping.specs.declared.Point.{Point}
 use Rattle.stepping.specs.declared.Role.{Role}
 use Rattle.stepping.specs.Step.{Scene, at, variable, moved, Goes}

@@ -6,10 +6,12 @@ use lib.ListN.{length, set}
 use lib.IntN.{ℤ, pos, _+ℤ_}
 use mir.Syntax.{w32}
 use mir.Val.{SFits}
-use Rattle.machine.specs.declared.Move.{Move}
-use Rattle.machine.specs.declared.Move.the-variants.{Read, Write, Update, Fault, End}
+use Rattle.operands.specs.declared.Move.{Move}
+use Rattle.operands.specs.declared.Move.the-variants.{Read, Write, Update, Fault, End}
 use Rattle.machine.specs.declared.Advanced.{Advanced}
-use Rattle.machine.specs.Machine.{Holding, coming, Advances}
+use Rattle.operands.specs.Pending.{Holding}
+use Rattle.operands.specs.Performing.{coming}
+use Rattle.machine.specs.Machine.{Advances}
 use Rattle.stepping.specs.declared.Point.{Point}
 use Rattle.stepping.specs.declared.Role.{Role}
 use Rattle.stepping.specs.Access.{Accessible, seen, read-words, stored, written-words, added, updated-words}

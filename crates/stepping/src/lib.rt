@@ -10,7 +10,7 @@ ghost use mir.Val.{SFits};
 ghost use Rattle.stepping.specs.Step.{unstopped, scene, CanMake, Makes, CanGo, Goes};
 ghost use Rattle.stepping.specs.Carrying.{opened, CanCarry, Carries};
 use machine::Advanced;
-use machine::Move;
+use operands::Move;
 use rules::Iteration;
 use rules::Processor;
 
@@ -85,7 +85,7 @@ fn make(
     match done {
         Move::Read { cell } => {
             let x = access::read_cell(role, i, cells, w, cell);
-            let d = machine::push(pending, r.depth, x);
+            let d = operands::put(pending, r.depth, x);
             unstopped_at(d, r.place, i)
         }
         Move::Write { cell, value } => {

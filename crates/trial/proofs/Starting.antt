@@ -21,7 +21,7 @@ use Rattle.tables.specs.Changes.{entered}
 use Rattle.tables.proofs.Held.{rows-apart}
 use Rattle.tables.proofs.Start.{Begun, begun-clear, begun-more}
 use Rattle.tables.proofs.Logged.{Logged, logged-nil}
-use Rattle.machine.specs.Machine.{pendings}
+use Rattle.operands.specs.Pending.{pendings}
 use Rattle.trial.specs.declared.Worker.{Worker}
 use Rattle.trial.specs.declared.Setting.{Setting}
 use Rattle.trial.specs.Standing.{dealt, left-of}

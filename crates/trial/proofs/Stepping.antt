@@ -17,10 +17,11 @@ use Rattle.rules.proofs.TrialRun.{Home, home}
 use Rattle.shadow.proofs.Orderly.{step-keeps}
 use Rattle.tables.proofs.Logged.{Logged}
 use Rattle.code.specs.Instr.{instructions, resume}
-use Rattle.machine.specs.declared.Move.{Move}
-use Rattle.machine.specs.declared.Move.the-variants.{Read, Write, Update, Fault, End}
+use Rattle.operands.specs.declared.Move.{Move}
+use Rattle.operands.specs.declared.Move.the-variants.{Read, Write, Update, Fault, End}
 use Rattle.machine.specs.declared.Advanced.{Advanced}
-use Rattle.machine.specs.Machine.{pendings, left}
+use Rattle.operands.specs.Pending.{pendings}
+use Rattle.operands.specs.Performing.{left}
 use Rattle.stepping.specs.declared.Manner.the-variants.{ByClass}
 use Rattle.stepping.specs.declared.Point.{Point}
 use Rattle.stepping.specs.declared.Role.{Role}

@@ -17,7 +17,7 @@ use Rattle.rules.specs.Steps.{Place, State}
 use Rattle.shadow.proofs.Orderly.{Orderly}
 use Rattle.tables.proofs.Logged.{Logged}
 use Rattle.code.specs.Instr.{instructions, resume}
-use Rattle.machine.specs.Machine.{pendings, Holding}
+use Rattle.operands.specs.Pending.{pendings, Holding}
 use Rattle.stepping.specs.declared.Point.{Point}
 
 -- ---- the loop

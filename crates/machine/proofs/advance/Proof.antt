@@ -6,8 +6,9 @@ use borrow.Author.Needs.{needs}
 use mir.Syntax.{w32}
 use mir.Val.{toZ, ofZ}
 use lib.ListN.{length}
-use Rattle.machine.specs.declared.instructions.Next.the-variants.{On, Stop}
-use Rattle.machine.specs.Machine.{pendings, left, then}
+use Rattle.operands.specs.declared.Next.the-variants.{On, Stop}
+use Rattle.operands.specs.Pending.{pendings}
+use Rattle.operands.specs.Performing.{left, then}
 use Rattle.machine.proofs.Resuming.{from, from-past, from-performed, accesses-most}
 use Rattle.machine.proofs.advance.Statement.{statement}
 use Rattle.machine.proofs.advance.Tie as tie

@@ -2,7 +2,7 @@
 use mathlib.Core.Path.{_≡_}
 use mir.Syntax.{w32}
 use mir.Val.{toZ, ofZ, SFits}
-use Rattle.machine.specs.declared.Move.the-variants.{Read, Write, Update, Fault, End}
+use Rattle.operands.specs.declared.Move.the-variants.{Read, Write, Update, Fault, End}
 use Rattle.stepping.proofs.Moves.{can-push, can-read, can-write, can-update, makes-read, makes-write, makes-update, makes-fault, makes-end}
 use borrow.Author.Needs.{needs}
 use Rattle.stepping.proofs.make.Statement.{statement}
@@ -17,8 +17,8 @@ read-cell-requires c κs =
     let m : c .before .before .before .before .before .before .args .r .done ≡ Read (g .0) = c .before .before .before .done .given .1 in
     (can-read (c .before .before .before .before .before .before .args .role) (c .before .before .before .before .before .before .args .i .0) (c .before .before .before .before .before .before .args .cells .now) (c .before .before .before .before .before .before .args .w .now) (c .before .before .before .before .before .before .args .pending .now) (c .before .before .before .before .before .before .args .r) (c .before .before .before .before .before .before .pre) (g .0) m, c .before .before .before .before .before .before .pre .low)
 
-push-requires : tie.Need-push-requires
-push-requires c κs =
+put-requires : tie.Need-put-requires
+put-requires c κs =
     let g = c .before .before .before .before .before .before .before .done .given .0 in
     let m : c .before .before .before .before .before .before .before .before .before .before .args .r .done ≡ Read (g .0) = c .before .before .before .before .before .before .before .done .given .1 in
     (c .before .before .before .before .before .before .before .before .before .before .pre .size, can-push (c .before .before .before .before .before .before .before .before .before .before .args .role) (c .before .before .before .before .before .before .before .before .before .before .args .i .0) (c .before .before .before .before .before .before .before .before .before .before .args .cells .now) (c .before .before .before .before .before .before .before .before .before .before .args .w .now) (c .before .before .before .before .before .before .before .before .before .before .args .pending .now) (c .before .before .before .before .before .before .before .before .before .before .args .r) (c .before .before .before .before .before .before .before .before .before .before .pre) (g .0) m)
@@ -73,7 +73,7 @@ returns c =
     let g = c .before .before .before .before .before .before .before .before .before .done .given .0 in
     let m : c .before .before .before .before .before .before .before .before .before .before .before .before .args .r .done ≡ Read (g .0) = c .before .before .before .before .before .before .before .before .before .done .given .1 in
     let y : toZ w32 (ofZ w32 (c .before .before .before .before .before .read-cell .result)) ≡ c .before .before .before .before .before .read-cell .result = search needs in
-    makes-read (c .before .before .before .before .before .before .before .before .before .before .before .before .args .role) (c .before .before .before .before .before .before .before .before .before .before .before .before .args .i .0) (c .before .before .before .before .before .before .before .before .before .before .before .before .args .cells .now) (c .before .before .before .before .before .before .before .before .before .before .before .before .args .w .now) (c .before .before .before .before .before .before .before .before .before .before .before .before .args .pending .now) (c .before .before .before .before .before .before .before .before .before .before .before .before .args .r) (g .0) (c .before .before .before .before .before .read-cell .result) _ _ (c .before .push .result) _ m (c .before .before .before .before .before .read-cell .ensures) (rw y at (c .before .push .ensures)) (c .unstopped-at .ensures)
+    makes-read (c .before .before .before .before .before .before .before .before .before .before .before .before .args .role) (c .before .before .before .before .before .before .before .before .before .before .before .before .args .i .0) (c .before .before .before .before .before .before .before .before .before .before .before .before .args .cells .now) (c .before .before .before .before .before .before .before .before .before .before .before .before .args .w .now) (c .before .before .before .before .before .before .before .before .before .before .before .before .args .pending .now) (c .before .before .before .before .before .before .before .before .before .before .before .before .args .r) (g .0) (c .before .before .before .before .before .read-cell .result) _ _ (c .before .put .result) _ m (c .before .before .before .before .before .read-cell .ensures) (rw y at (c .before .put .ensures)) (c .unstopped-at .ensures)
 
 same-length-3 : tie.Need-same-length-3
 same-length-3 c = search needs
@@ -120,7 +120,7 @@ make-spec =
     (tie.spec
     enum-known-done
     read-cell-requires
-    push-requires
+    put-requires
     unstopped-at-requires
     enum-known-done-2
     write-cell-requires

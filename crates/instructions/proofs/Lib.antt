@@ -1,0 +1,3 @@
+-- The instruction of two words, and subscripts.
+mod Decoding
+mod Subscripts

@@ -1,0 +1,10 @@
+-- The cell of a subscript.
+use Prim.Native.Nat.{ℕ}
+use Rattle.rules.specs.Loop.{Act, fault}
+use Rattle.instructions.specs.declared.Located.{Located}
+use Rattle.instructions.specs.declared.Located.the-variants.{Cell, Outside}
+
+-- at the cell of a subscript, or the fault of one outside its array
+unfoldable pub at-cell : Located → ℕ → (ℕ → Act) → Act
+at-cell (Cell c) line k = k c
+at-cell Outside line k = fault 9 line

@@ -1,0 +1,2 @@
+-- The cell of a subscript.
+pub mod Cells

@@ -1,0 +1,3 @@
+-- The pending values, and what an instruction does.
+pub mod Pending
+pub mod Performing
