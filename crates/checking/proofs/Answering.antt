@@ -17,7 +17,7 @@ use Rattle.reader.specs.Judged.{Reads}
 use Rattle.answers.specs.declared.Checked.the-variants.{Sizes, Refused}
 use Rattle.answers.specs.declared.Completed.the-variants.{Done, Refused as Rejected}
 use Rattle.answers.specs.Answers.{checkOf, taken, completed, loadOf, cellsLoaded}
-use Rattle.fitting.proofs.Verdicts.{Bad, Fine}
+use Rattle.preparing.proofs.Verdicts.{Bad, Fine}
 use Rattle.fitting.proofs.Copies.{copied-whole}
 
 module _ (text : List ℕ) (r : Reading) (T : List ℕ) (I : List ℤ) (C : List ℕ) (h : Reads (read text) r T I C) where

@@ -1,6 +1,5 @@
--- What the callers cite: what the reader found, that a run can begin, and a copy of cells.
-pub mod Verdicts
-pub mod Fitting
+-- What the callers cite: what is lent fits, and a copy of cells.
+pub mod Fits
 pub mod Copies
--- The argument: what is made ready.
-mod Preparing
+-- The number of what can't be taken.
+mod Numbers

@@ -11,12 +11,13 @@ use Rattle.rules.specs.Answer.{look}
 use Rattle.syntax.specs.Known.{State, cells}
 use Rattle.syntax.specs.Text.{Verdict, refused, good, read}
 use Rattle.syntax.specs.Meaning.{loopOf, partitionOf}
-use Rattle.fitting.specs.declared.Ready.{Ready}
+use Rattle.preparing.specs.declared.Ready.{Ready}
 use Rattle.answers.specs.declared.Completed.{Completed}
 use Rattle.answers.specs.declared.Completed.the-variants.{Done, Refused as Rejected}
 use Rattle.answers.specs.Answers.{fitNumber, runNumber, viewNumber, lookNumber, taken, completed, lookOf, viewShown, lookWorkspace}
-use Rattle.looking.specs.Showing.{ShowsAfter}
-use Rattle.fitting.proofs.Fitting.{Accepted, fit-zero, number-as, begins, as-dealt}
+use Rattle.view.specs.View.{ShowsAfter}
+use Rattle.preparing.proofs.Beginning.{Accepted, number-as, begins, as-dealt}
+use Rattle.fitting.proofs.Fits.{fit-zero}
 
 module _ (text : List ℕ) (r : Ready) (K C : List ℕ) (M : List ℤ) (W ps U : List ℕ) where
   -- the answer, the view and the workspace

@@ -1,3 +1,2 @@
--- Look's answer, and what it does step by step.
+-- Look's answer.
 mod Answering
-mod Looking

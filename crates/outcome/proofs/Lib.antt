@@ -1,5 +1,5 @@
 -- What the callers cite: what a run leaves, and what is read off.
 pub mod Leaving
 pub mod ReadingOff
--- The view.
-mod Viewing
+-- The argument: after the serial run.
+mod Concluding

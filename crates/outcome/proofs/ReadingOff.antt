@@ -29,7 +29,7 @@ use Rattle.trial.specs.Standing.{dealt, Standing, Kept}
 use Rattle.trial.specs.Running.{nobody, Run, AllOver}
 use Rattle.outcome.specs.ReadOff.{Fails}
 use Rattle.trial.proofs.Turns.{run-turn, turn-end, turn-fault}
-use Rattle.outcome.proofs.Viewing.{standing-size}
+use Rattle.trial.proofs.StandingLaws.{standing-size}
 use Rattle.rules.specs.Merge as merge
 use Rattle.findings.specs.Findings as findings
 

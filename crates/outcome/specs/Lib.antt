@@ -1,4 +1,4 @@
--- What a run leaves, the view, and what is read off.
+-- What a run leaves, what is read off, and what Run answers after the serial run.
 pub mod Leaves
-pub mod View
 pub mod ReadOff
+pub mod Concluding

@@ -1,25 +1,15 @@
-// What is read off cells, words and records: what Look shows, whether a run met a fault or an obstacle, the cells that it leaves, and those at entry.
+// What is read off cells, words and records after a run: whether it met a fault or an obstacle, the cells that it leaves, and those at entry; and what Run
+// answers after the serial run.
 ghost use mathlib.Core.Path.{_≡_};
-ghost use Prim.Native.Nat.{_*_, _≤_};
-ghost use lib.ListN.{length};
-ghost use Rattle.outcome.specs.View.{Stands, Shown};
+ghost use mathlib.Core.Bool.{_||_};
+ghost use Prim.Native.Nat.{_≤_};
+ghost use Rattle.trial.specs.Standing.{Stands};
 ghost use Rattle.outcome.specs.ReadOff.{Fails, Judges, Merges, CanRestore, Restores};
+ghost use Rattle.outcome.specs.Concluding.{CanConclude, ConcludesBy};
+use answers::Ran;
+use answers::Served;
 use rules::Processor;
 use trial::Worker;
-
-// For each cell the word of its shared value, and its marks.
-pub fn show(processors: u32, cells: &[i32], w: &[u32], view: &mut [u32])
-    requires { ⌜ Stands processors (now cells) (now w) × (length (now view) ≡ 2 * length (now cells)) ⌝ }
-    ensures { λ _. ⌜ Shown processors (now (cells .entry)) (now (w .entry)) (now (view .exit)) ⌝ }
-{
-    let mut c = 0;
-    while c < cells.len() {
-        let row = tables::row_of(c, processors);
-        view[2 * c] = int32::to_word(cells[c]);
-        view[2 * c + 1] = findings::marks_of(w, row);
-        c += 1;
-    }
-}
 
 // Whether a fault stopped some processor.
 pub fn is_faulty(processors: u32, workers: [Worker; 8]) -> bool
@@ -79,5 +69,31 @@ pub fn restore(processors: u32, cells: &mut [i32], w: &[u32])
         let row = tables::row_of(c, processors);
         cells[c] = findings::entry_value(w, row);
         c += 1;
+    }
+}
+
+// Whether a trial is rejected: a fault stopped a processor, or a cell has an obstacle.
+pub fn is_rejected(faulty: bool, obstructed: bool) -> bool
+    ensures { λ r. ⌜ r ≡ faulty || obstructed ⌝ }
+{
+    if faulty { true } else { obstructed }
+}
+
+// What Run answers after the serial run: a fault brings the cells back to entry. The workspace is left all zero.
+pub fn conclude(s: Served, cells: &mut [i32], workspace: &mut [u32]) -> Ran
+    requires { ⌜ CanConclude s (now cells) (now workspace) ⌝ }
+    ensures { λ r. ⌜ ConcludesBy s (now (cells .entry)) (now (workspace .entry)) r (now (cells .exit)) (now (workspace .exit)) ⌝ }
+{
+    match s {
+        Served::Finished { pairs: a, cells: b } => {
+            tables::clear(workspace);
+            Ran::Rerun { pairs: a, cells: b }
+        }
+        Served::Faulted { number, line, v } => {
+            restore(1, cells, workspace);
+            tables::clear(workspace);
+            Ran::Faulted { number, line, v }
+        }
+        Served::Refused { number, line } => Ran::Refused { number, line },
     }
 }

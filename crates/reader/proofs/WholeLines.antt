@@ -1,33 +1,17 @@
 -- Whole lines: their bytes, and what they begin with.
 use mathlib.Core.Path.{_≡_, refl, sym, _∙_, ap}
-use mathlib.Core.Bool.{Bool, true, false, cond, _&&_, _||_, not}
+use mathlib.Core.Bool.{Bool, true, false, _&&_, _||_, not}
 use mathlib.Core.List.{List, [], _∷_}
 use Prim.Native.Nat.{ℕ, zero, suc, _+_, _-_, _≤_, _<_}
 use native.Mathlib.Omega.{arith}
 use borrow.Author.Tests.{le-leb, lt-leb, leb-true, leb-false, eq-eqb, ne-eqb}
 use lib.Dec.{leb, eqb}
-use lib.ListN.{length, getD, take, drop, length-drop}
+use lib.ListN.{length, take, drop, length-drop}
 use lib.Seq.{take-all}
-use Rattle.syntax.specs.Bytes.{choose, all, same, bytes, run, starts, printable, trimmed, directive-line, skipped-line, sound-line}
+use Rattle.syntax.specs.Bytes.{choose, all, same, bytes, run, starts, printable, trimmed, skipped-line, sound-line}
 use Rattle.lexer.specs.Lex.{goes}
 
 -- ---- all bytes of a line
-
-pub all-on : (p : ℕ → Bool) (s : List ℕ) (i : ℕ) → i < length s → p (getD s i 0) ≡ true → all p (drop i s) ≡ all p (drop (i + 1) s)
-all-on p [] i h e = absurd (omega arith)
-all-on p (b ∷ s) zero h e = ap (λ (x : Bool). x && all p s) e
-all-on p (b ∷ s) (suc i) h e = let z : suc i + 1 ≡ suc (i + 1) = omega arith in all-on p s i (omega arith) e ∙ ap (λ (n : ℕ). all p (drop n (b ∷ s))) (sym z)
-
-pub all-off : (p : ℕ → Bool) (s : List ℕ) (i : ℕ) → i < length s → p (getD s i 0) ≡ false → all p (drop i s) ≡ false
-all-off p [] i h e = absurd (omega arith)
-all-off p (b ∷ s) zero h e = ap (λ (x : Bool). x && all p s) e
-all-off p (b ∷ s) (suc i) h e = all-off p s i (omega arith) e
-
-pub all-out : (p : ℕ → Bool) (s : List ℕ) (i : ℕ) → length s ≤ i → all p (drop i s) ≡ true
-all-out p [] zero h = refl
-all-out p [] (suc i) h = refl
-all-out p (b ∷ s) zero h = absurd (omega arith)
-all-out p (b ∷ s) (suc i) h = all-out p s i (omega arith)
 
 pub printable-low : (b : ℕ) → b < 32 → printable b ≡ false
 printable-low b h = ap (λ (x : Bool). x && leb b 126) (lt-leb 32 b (omega arith))

@@ -2,6 +2,5 @@
 pub mod Theorem
 -- The examples of document 01.
 pub mod Examples
--- The argument: after the serial run, and Run by what the trial and the serial run leave.
-mod Concluding
+-- The argument: Run by what the trial and the serial run leave.
 mod Settling

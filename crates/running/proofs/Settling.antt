@@ -20,7 +20,7 @@ use Rattle.syntax.specs.Text.{Verdict, refused, good, read}
 use Rattle.syntax.specs.Meaning.{loopOf, partitionOf}
 use Rattle.syntax.proofs.ProperLoop.{accepted-proper}
 use Rattle.trial.specs.Standing.{dealt, Standing, Kept}
-use Rattle.outcome.specs.View.{Stands}
+use Rattle.trial.specs.Standing.{Stands}
 use Rattle.outcome.specs.ReadOff.{Merges, CanRestore, Restores}
 use Rattle.outcome.proofs.ReadingOff.{standing-kept}
 use Rattle.serial.proofs.Verdicts.{run-passed, run-again}
@@ -32,8 +32,8 @@ use Rattle.answers.specs.declared.Ran.the-variants.{Passed, Refused as Unfit}
 use Rattle.answers.specs.Answers.{fitNumber, runNumber, taken, answered, settles, runOf, cellsRun, runWorkspace}
 use Rattle.trying.specs.Trial.{Tries, TriesBy, TrialOf}
 use Rattle.serving.specs.Serial.{Serves, ServesBy, SerialOf, servedBy}
-use Rattle.running.specs.Concluding.{CanConclude, ConcludesBy}
-use Rattle.fitting.proofs.Fitting.{Fits, fit-zero, fits-none}
+use Rattle.outcome.specs.Concluding.{CanConclude, ConcludesBy}
+use Rattle.fitting.proofs.Fits.{Fits, fit-zero, fits-none}
 
 module _ (text : List ℕ) (M : List ℤ) (W ps : List ℕ) where
   -- the answer, the cells and the workspace

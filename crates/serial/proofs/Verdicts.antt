@@ -1,4 +1,4 @@
--- What Look shows and what Run answers (crates/rules, Answer), by what the functions leave and what is read off.
+-- What Run answers (crates/rules, Answer), by what the functions leave and what is read off.
 use mathlib.Core.Path.{_≡_, refl, sym, _∙_, ap}
 use mathlib.Core.Logic.{_≢_, _⊎_, inl, inr, _↔_}
 use mathlib.Core.Bool.{Bool, true, false}
@@ -9,24 +9,14 @@ use lib.IntN.{ℤ}
 use Rattle.rules.specs.ChooseLaws.{pick-same, pick-other}
 use Rattle.rules.specs.Cells.{listed}
 use Rattle.rules.specs.Loop.{Loop, Partition}
-use Rattle.rules.specs.Marks.{marks}
 use Rattle.rules.specs.Obstacles.{Obstructed}
 use Rattle.rules.specs.Merge.{merged, pairs, written-cells}
 use Rattle.rules.specs.Serial.{finished, failed, serial}
-use Rattle.rules.specs.Steps.{State, start, steps, trial, Faulty}
-use Rattle.rules.specs.Answer.{viewed, look, passed, rerun, faulted, TrialPasses, trial-passes?, again, run-by, run}
+use Rattle.rules.specs.Steps.{State, trial, Faulty}
+use Rattle.rules.specs.Answer.{passed, rerun, faulted, TrialPasses, trial-passes?, again, run-by, run}
 use Rattle.tables.specs.Layout.{pairs-word, cells-word}
 use Rattle.stepping.specs.declared.Point.{Point}
 use Rattle.serial.specs.Serving.{outcome-of, IsSerial}
-
--- ---- Look
-
--- what is shown after a schedule is what Look shows
-pub shown-look : (l : Loop) (δ : Partition) (ps : List ℕ) (v : List ℕ) → (let s = steps l δ ps (start l δ) in v ≡ viewed (l .size) (s .cells) (λ c. marks (δ .group) c (s .log))) → v ≡ look l δ ps
-unfolding look
-shown-look l δ ps v e = e
-
--- ---- Run
 
 module _ (l : Loop) (δ : Partition) (ps : List ℕ) where
   abbrev s : State

@@ -20,12 +20,13 @@ use Rattle.stepping.specs.declared.Point.{Point}
 use Rattle.trial.specs.Start.{Starts}
 use Rattle.serial.specs.Serving.{CanSerial, outcome-of, IsSerial, RunsSerially}
 use Rattle.serial.proofs.Starting.{serials-of}
-use Rattle.fitting.specs.declared.Ready.{Ready}
+use Rattle.preparing.specs.declared.Ready.{Ready}
 use Rattle.answers.specs.declared.Served.{Served}
 use Rattle.answers.specs.declared.Served.the-variants.{Finished, Faulted, Refused}
 use Rattle.answers.specs.Answers.{fitNumber, runNumber}
 use Rattle.serving.specs.Serial.{servedBy, ServesBy, SerialOf}
-use Rattle.fitting.proofs.Fitting.{Accepted, Fits, fit-zero, number-as, begins}
+use Rattle.preparing.proofs.Beginning.{Accepted, number-as, begins}
+use Rattle.fitting.proofs.Fits.{Fits, fit-zero}
 
 -- ---- a fault lies in an iteration
 

@@ -3,8 +3,8 @@
 ghost use Rattle.syntax.specs.Text.{read as readText};
 ghost use Rattle.serving.specs.Serial.{SerialOf};
 use answers::Served;
-use fitting::prepare;
 use fitting::unfit;
+use preparing::prepare;
 
 // The serial run, in place over the cells: the text and the cells alone decide it. The workspace is left with the cells at entry and the accesses.
 pub fn run_serially(text: &[u8], cells: &mut [i32], workspace: &mut [u32]) -> Served

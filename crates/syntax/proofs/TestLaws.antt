@@ -3,9 +3,9 @@ use mathlib.Core.Path.{_≡_, refl, sym, _∙_, ap}
 use mathlib.Core.Logic.{_⊎_, inl, inr}
 use mathlib.Core.Bool.{Bool, true, false, cond, _&&_, _||_, and-assoc, or-assoc}
 use mathlib.Core.List.{List, [], _∷_, _++_, map}
-use Prim.Native.Nat.{ℕ, zero, suc, _<_}
+use Prim.Native.Nat.{ℕ, zero, suc, _+_, _≤_, _<_}
 use native.Mathlib.Omega.{arith}
-use lib.ListN.{length, getD, replicate}
+use lib.ListN.{length, getD, replicate, drop}
 use borrow.Author.Tests.{eq-eqb}
 use Rattle.syntax.specs.Bytes.{choose, all, any, same}
 use Rattle.syntax.proofs.Spelling.{both-true, same-true}
@@ -95,3 +95,21 @@ each-weaken P Q g (x ∷ xs) h = (g x (h .0), each-weaken P Q g xs (h .1))
 pub each-map : {A B : Type 0} (P : A → Type 0) (Q : B → Type 0) (f : A → B) → ((x : A) → P x → Q (f x)) → (xs : List A) → Each P xs → Each Q (map f xs)
 each-map P Q f g [] h = tt
 each-map P Q f g (x ∷ xs) h = (g x (h .0), each-map P Q f g xs (h .1))
+
+-- ---- a test of what is left of a list
+
+pub all-on : (p : ℕ → Bool) (s : List ℕ) (i : ℕ) → i < length s → p (getD s i 0) ≡ true → all p (drop i s) ≡ all p (drop (i + 1) s)
+all-on p [] i h e = absurd (omega arith)
+all-on p (b ∷ s) zero h e = ap (λ (x : Bool). x && all p s) e
+all-on p (b ∷ s) (suc i) h e = let z : suc i + 1 ≡ suc (i + 1) = omega arith in all-on p s i (omega arith) e ∙ ap (λ (n : ℕ). all p (drop n (b ∷ s))) (sym z)
+
+pub all-off : (p : ℕ → Bool) (s : List ℕ) (i : ℕ) → i < length s → p (getD s i 0) ≡ false → all p (drop i s) ≡ false
+all-off p [] i h e = absurd (omega arith)
+all-off p (b ∷ s) zero h e = ap (λ (x : Bool). x && all p s) e
+all-off p (b ∷ s) (suc i) h e = all-off p s i (omega arith) e
+
+pub all-out : (p : ℕ → Bool) (s : List ℕ) (i : ℕ) → length s ≤ i → all p (drop i s) ≡ true
+all-out p [] zero h = refl
+all-out p [] (suc i) h = refl
+all-out p (b ∷ s) zero h = absurd (omega arith)
+all-out p (b ∷ s) (suc i) h = all-out p s i (omega arith)

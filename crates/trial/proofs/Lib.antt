@@ -1,5 +1,6 @@
--- What the callers cite: the start, and a run's turns.
+-- What the callers cite: the start, what stands for a state, and a run's turns.
 pub mod Starting
+pub mod StandingLaws
 pub mod Turns
 -- What the serial run cites too: a store in a list of cells.
 pub mod AccessLaws

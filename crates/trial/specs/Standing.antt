@@ -50,6 +50,10 @@ pub record Standing (k : ℕ) (l : Loop) (M : List ℤ) (W : List ℕ) (s : Stat
   pub cells : M ≡ listed (l .size) (s .cells)
   pub words : Logged l (dealt l k) (s .log) W
 
+-- for some loop and state
+abbrev pub Stands : ℕ → List ℤ → List ℕ → Type 0
+Stands k M W = (l : Loop) × (s : State) × Standing k l M W s
+
 -- the words keep the entry values, whatever is noted in them
 pub record Kept (k : ℕ) (l : Loop) (M : List ℤ) (W : List ℕ) : Type 0 where
   pub suits : Suits k l

@@ -21,16 +21,17 @@ use Rattle.trial.specs.Standing.{dealt}
 use Rattle.trial.specs.Running.{Run, AllOver}
 use Rattle.trial.specs.Start.{Starts, Tries as TriesLoop}
 use Rattle.outcome.specs.Leaves.{Leaves}
-use Rattle.outcome.specs.View.{Stands}
+use Rattle.trial.specs.Standing.{Stands}
 use Rattle.outcome.specs.ReadOff.{Fails, Judges}
 use Rattle.outcome.proofs.ReadingOff.{fails-right}
 use Rattle.outcome.proofs.Leaving.{run-leaves}
 use Rattle.rules.specs.Steps as rule
-use Rattle.fitting.specs.declared.Ready.{Ready}
+use Rattle.preparing.specs.declared.Ready.{Ready}
 use Rattle.trying.specs.declared.Tried.{Tried}
 use Rattle.answers.specs.Answers.{fitNumber, runNumber}
 use Rattle.trying.specs.Trial.{settingOf, untriedOf, TriesBy, TrialOf}
-use Rattle.fitting.proofs.Fitting.{Accepted, Fits, fit-zero, number-as, code-as, begins}
+use Rattle.preparing.proofs.Beginning.{Accepted, number-as, code-as, begins}
+use Rattle.fitting.proofs.Fits.{Fits, fit-zero}
 
 module _ (text : List ℕ) (M : List ℤ) (W ps : List ℕ) (t : Tried) where
   pub try-refused : (n k : ℕ) → (n ≡ 0 → ⊥) → read text ≡ refused n k → t ≡ untriedOf n k → TrialOf (read text) M W ps t M W

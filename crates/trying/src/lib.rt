@@ -3,8 +3,8 @@
 ghost use mathlib.Core.Path.{_≡_};
 ghost use Rattle.syntax.specs.Text.{read as readText};
 ghost use Rattle.trying.specs.Trial.{untriedOf, TrialOf};
-use fitting::prepare;
 use fitting::unfit;
+use preparing::prepare;
 use rules::Iteration;
 use trial::Worker;
 

@@ -1,5 +1,5 @@
 -- `checking::check` meets its contract.
-use Rattle.fitting.proofs.Verdicts.{is-bad, is-fine}
+use Rattle.preparing.proofs.Verdicts.{is-bad, is-fine}
 use Rattle.checking.proofs.Answering.{check-bad, check-fine}
 use borrow.Author.Needs.{needs}
 use Rattle.checking.proofs.check.Statement.{statement}

@@ -1,6 +1,6 @@
 -- `checking::load` meets its contract.
 use mathlib.Core.Path.{_∙_}
-use Rattle.fitting.proofs.Verdicts.{is-bad, is-fine}
+use Rattle.preparing.proofs.Verdicts.{is-bad, is-fine}
 use Rattle.checking.proofs.Answering.{load-bad, load-other, load-fine, load-long, load-copied}
 use borrow.Author.Needs.{needs}
 use Rattle.checking.proofs.load.Statement.{statement}

@@ -7,13 +7,13 @@ use lib.Dec.{ltb}
 use lib.ListN.{length, drop}
 use borrow.Author.Needs.{needs}
 use Rattle.syntax.specs.Bytes.{all}
-use Rattle.reader.proofs.WholeLines.{all-on, all-off, all-out}
+use Rattle.syntax.proofs.TestLaws.{all-on, all-off, all-out}
 use borrow.Author.Needs.{needs}
 use Rattle.syntax.specs.Bytes.{all}
-use Rattle.reader.proofs.WholeLines.{all-on, all-off, all-out}
+use Rattle.syntax.proofs.TestLaws.{all-on, all-off, all-out}
 use borrow.Author.Needs.{needs}
 use Rattle.syntax.specs.Bytes.{all}
-use Rattle.reader.proofs.WholeLines.{all-on, all-off, all-out}
+use Rattle.syntax.proofs.TestLaws.{all-on, all-off, all-out}
 use Rattle.fitting.proofs.is_schedule.Statement.{statement}
 use Rattle.fitting.proofs.is_schedule.Tie as tie
 

@@ -1,6 +1,6 @@
 -- `fitting::needed_words` meets its contract.
 use native.Mathlib.Omega.{arith}
-use Rattle.fitting.proofs.Preparing.{needed-most}
+use Rattle.fitting.proofs.Numbers.{needed-most}
 use borrow.Author.Needs.{needs}
 use Rattle.fitting.proofs.needed_words.Statement.{statement}
 use Rattle.fitting.proofs.needed_words.Tie as tie

@@ -2,7 +2,7 @@
 use mathlib.Core.Path.{sym, _∙_}
 use mathlib.Core.Bool.{true, false}
 use native.Mathlib.Omega.{arith}
-use Rattle.fitting.proofs.Preparing.{other-cells, few-words, by-schedule}
+use Rattle.fitting.proofs.Numbers.{other-cells, few-words, by-schedule}
 use borrow.Author.Needs.{needs}
 use Rattle.fitting.proofs.unfit.Statement.{statement}
 use Rattle.fitting.proofs.unfit.Tie as tie

@@ -3,7 +3,8 @@ use mathlib.Core.Path.{sym, _∙_, ap}
 use Prim.Native.Nat.{ℕ, _*_}
 use native.Mathlib.Omega.{arith}
 use lib.ListN.{length}
-use Rattle.fitting.proofs.Fitting.{ready-bad, ready-fine, ready-few, fit-zero, can-try}
+use Rattle.preparing.proofs.Beginning.{ready-bad, ready-fine, ready-few, can-try}
+use Rattle.fitting.proofs.Fits.{fit-zero}
 use Rattle.looking.proofs.Answering.{look-refused, look-unfit, look-view, look-done}
 use borrow.Author.Needs.{needs}
 use Rattle.looking.proofs.look.Statement.{statement}

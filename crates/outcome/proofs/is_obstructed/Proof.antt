@@ -6,7 +6,7 @@ use Prim.Native.Nat.{ℕ, _≤_, _<_, _-_}
 use native.Mathlib.Omega.{arith}
 use borrow.Author.Count.{below-more}
 use lib.ListN.{length}
-use Rattle.outcome.proofs.Viewing.{standing-low, standing-room}
+use Rattle.trial.proofs.StandingLaws.{standing-low, standing-room}
 use Rattle.outcome.proofs.ReadingOff.{blocked-at, standing-obstructed, standing-free}
 use Rattle.outcome.proofs.is_obstructed.Statement.{statement}
 use Rattle.outcome.proofs.is_obstructed.Tie as tie

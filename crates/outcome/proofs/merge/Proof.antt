@@ -12,7 +12,7 @@ use Rattle.rules.specs.Cells.{cellOf, listed}
 use Rattle.rules.specs.Merge.{merged}
 use Rattle.tables.specs.Layout.{row-at}
 use Rattle.trial.specs.Standing.{dealt}
-use Rattle.outcome.proofs.Viewing.{standing-size, standing-low, standing-room}
+use Rattle.trial.proofs.StandingLaws.{standing-size, standing-low, standing-room}
 use Rattle.outcome.proofs.ReadingOff.{Setting-to, set-none, set-more, set-all, standing-merged}
 use Rattle.tables.proofs.Held.{row-small}
 use Rattle.findings.specs.Findings as findings

@@ -3,7 +3,7 @@ use mathlib.Core.Path.{_≡_}
 use native.Mathlib.Omega.{arith}
 use mir.Syntax.{w32}
 use mir.Val.{toZ, ofZ}
-use Rattle.fitting.proofs.Fitting.{ready-bad, ready-fine, ready-few}
+use Rattle.preparing.proofs.Beginning.{ready-bad, ready-fine, ready-few}
 use Rattle.serving.proofs.Serially.{serial-refused, serial-unfit, can-serve, words-two, serial-done, value-fits, serial-fault}
 use borrow.Author.Needs.{needs}
 use Rattle.serving.proofs.run_serially.Statement.{statement}

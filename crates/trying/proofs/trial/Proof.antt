@@ -2,7 +2,8 @@
 use mathlib.Core.Path.{refl, sym, _∙_}
 use native.Mathlib.Omega.{arith}
 use lib.ListN.{length}
-use Rattle.fitting.proofs.Fitting.{ready-bad, ready-fine, ready-few, fit-zero, can-try}
+use Rattle.preparing.proofs.Beginning.{ready-bad, ready-fine, ready-few, can-try}
+use Rattle.fitting.proofs.Fits.{fit-zero}
 use Rattle.trying.proofs.Trying.{try-refused, try-unfit, stands-there, try-done}
 use borrow.Author.Needs.{needs}
 use Rattle.trying.proofs.trial.Statement.{statement}

@@ -1,4 +1,4 @@
--- `outcome::show` meets its contract: the cells passed are shown.
+-- `view::show` meets its contract: the cells passed are shown.
 use borrow.Author.Needs.{needs}
 use mathlib.Core.Path.{_≡_, refl}
 use Prim.Native.Nat.{_≤_, _-_}
@@ -12,9 +12,10 @@ use Rattle.int32.specs.Integers.{word}
 use Rattle.rules.specs.Cells.{cellOf}
 use Rattle.tables.specs.Layout.{row-at}
 use Rattle.findings.specs.Findings.{marks-of}
-use Rattle.outcome.proofs.Viewing.{Showing, showing-more, standing-low, standing-room, standing-shown}
-use Rattle.outcome.proofs.show.Statement.{statement}
-use Rattle.outcome.proofs.show.Tie as tie
+use Rattle.view.proofs.Viewing.{Showing, showing-more, standing-shown}
+use Rattle.trial.proofs.StandingLaws.{standing-low, standing-room}
+use Rattle.view.proofs.show.Statement.{statement}
+use Rattle.view.proofs.show.Tie as tie
 
 abbrev Inv-loop : tie.InvT-loop
 Inv-loop processors cells w view₀ c₀ view c = (c ≤ length cells) × (length view ≡ length view₀) × Showing view c (λ j. word (cellOf cells j)) (λ j. marks-of w (row-at processors j))

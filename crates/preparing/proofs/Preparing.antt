@@ -1,15 +1,11 @@
 -- What is made ready for a run.
 use mathlib.Core.Path.{_≡_, sym, _∙_, ap, subst}
-use mathlib.Core.Bool.{Bool, cond}
 use mathlib.Core.List.{List}
-use Prim.Native.Nat.{ℕ, _+_, _*_, _≤_, _<_}
-use native.Mathlib.Nat.{mul-le-mul}
+use Prim.Native.Nat.{ℕ, _*_, _≤_}
 use native.Mathlib.Omega.{arith}
-use borrow.Author.Tests.{leb-true, eq-eqb, ne-eqb, le-leb, lt-leb}
-use lib.Dec.{leb, ltb}
+use borrow.Author.Tests.{leb-true}
 use lib.ListN.{length, take}
 use lib.IntN.{ℤ}
-use Rattle.syntax.specs.Bytes.{all}
 use Rattle.syntax.specs.Known.{State, cells}
 use Rattle.syntax.specs.Text.{Verdict, read}
 use Rattle.syntax.proofs.Sane.{Sane, accepted-sane, accepted-finished}
@@ -17,10 +13,9 @@ use Rattle.reader.specs.declared.Reading.{Reading}
 use Rattle.reader.specs.Judged.{Reads}
 use Rattle.code.proofs.CodeLength.{text-length}
 use Rattle.setup.specs.Classes.{Classifies}
-use Rattle.fitting.specs.declared.Ready.{Ready}
-use Rattle.answers.specs.Answers.{needed, fitNumber}
-use Rattle.fitting.specs.Prepared.{Prepared}
-use Rattle.fitting.proofs.Verdicts.{Fine, is-bad, is-fine}
+use Rattle.preparing.specs.declared.Ready.{Ready}
+use Rattle.preparing.specs.Prepared.{Prepared}
+use Rattle.preparing.proofs.Verdicts.{Fine, is-bad, is-fine}
 
 module _ (text : List ℕ) (d : Reading) (T : List ℕ) (I : List ℤ) (K : List ℕ) (h : Reads (read text) d T I K) where
   pub prepared-bad : (d .progress .number ≡ 0 → ⊥) → (r : Ready) (C : List ℕ) → r .number ≡ d .progress .number → r .line ≡ d .line → Prepared (read text) r K C
@@ -64,17 +59,3 @@ module _ (text : List ℕ) (d : Reading) (T : List ℕ) (I : List ℤ) (K : List
       few-processors = sane .few-processors (omega (arith, late));
       classes = λ c b. cl .numbers (s .table) (f .represents .table) c (omega (arith, b, f .represents .cells-so-far));
     })
-
--- ---- what can't be taken
-
-pub needed-most : (n p : ℕ) → n ≤ 4096 → p ≤ 8 → n * (4 + 6 * p) ≤ 4096 * 52
-needed-most n p a b = let q : 4 + 6 * p ≤ 52 = omega arith in mul-le-mul a q
-
-pub other-cells : (n p m w : ℕ) (ps : List ℕ) → (m ≡ n → ⊥) → 5 ≡ fitNumber n p m w ps
-other-cells n p m w ps h = sym (ap (λ (b : Bool). cond b (cond (leb (needed n p) w) (cond (all (λ x. ltb x p) ps) 0 7) 6) 5) (ne-eqb m n h))
-
-pub few-words : (n p m w : ℕ) (ps : List ℕ) → m ≡ n → w < needed n p → 6 ≡ fitNumber n p m w ps
-few-words n p m w ps e h = sym (λ i. cond (eq-eqb m n e i) (cond (lt-leb (needed n p) w h i) (cond (all (λ x. ltb x p) ps) 0 7) 6) 5)
-
-pub by-schedule : (n p m w : ℕ) (ps : List ℕ) (b : Bool) → m ≡ n → needed n p ≤ w → all (λ x. ltb x p) ps ≡ b → cond b 0 7 ≡ fitNumber n p m w ps
-by-schedule n p m w ps b e h q = sym (λ i. cond (eq-eqb m n e i) (cond (le-leb (needed n p) w h i) (cond (q i) 0 7) 6) 5)

@@ -4,11 +4,11 @@ use mathlib.Core.List.{List}
 use Prim.Native.Nat.{ℕ}
 use lib.ListN.{length, replicate}
 use lib.IntN.{ℤ}
 use Rattle.outcome.specs.ReadOff.{CanRestore, Restores}
 use Rattle.answers.specs.declared.Served.{Served}
 use Rattle.answers.specs.declared.Served.the-variants.{Finished, Faulted, Refused}
 use Rattle.answers.specs.declared.Ran.the-variants.{Rerun, Faulted as Failed, Refused as Unfit}
-use Rattle.running.specs.Concluding.{CanConclude, ConcludesBy}
+use Rattle.outcome.specs.Concluding.{CanConclude, ConcludesBy}
 
 pub can-restore : (s : Served) (M : List ℤ) (W : List ℕ) (n t : ℕ) (v : ℤ) → CanConclude s M W → s ≡ Faulted n t v → CanRestore 1 M W
 unfolding CanConclude

@@ -9,7 +9,7 @@ use Rattle.syntax.specs.Meaning.{class-of}
 use Rattle.code.specs.Instr.{words}
 use Rattle.code.specs.Compile.{codeOf}
 use Rattle.tables.specs.Layout.{class-number}
-use Rattle.fitting.specs.declared.Ready.{Ready}
+use Rattle.preparing.specs.declared.Ready.{Ready}
 
 -- for the text of s: the first words of K are its code, and C has its cells' classes
 pub record Prepares (s : State) (r : Ready) (K C : List ℕ) : Type 0 where

@@ -1,11 +1,11 @@
--- `looking::show_after` meets its contract.
+-- `view::show_after` meets its contract.
 use mathlib.Core.Path.{sym, _∙_, ap}
 use Prim.Native.Nat.{ℕ, _*_}
 use lib.ListN.{replicate}
-use Rattle.looking.proofs.Looking.{can-follow, can-show, same-size, shows-after}
+use Rattle.view.proofs.Looking.{can-follow, can-show, same-size, shows-after}
 use borrow.Author.Needs.{needs}
-use Rattle.looking.proofs.show_after.Statement.{statement}
-use Rattle.looking.proofs.show_after.Tie as tie
+use Rattle.view.proofs.show_after.Statement.{statement}
+use Rattle.view.proofs.show_after.Tie as tie
 
 begin-requires : tie.Need-begin-requires
 begin-requires c κs = search needs

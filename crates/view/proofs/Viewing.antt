@@ -1,7 +1,7 @@
 -- The view, word by word.
 use mathlib.Core.Path.{_≡_, refl, sym, _∙_, ap}
 use mathlib.Core.List.{List, [], _∷_}
-use Prim.Native.Nat.{ℕ, zero, suc, _+_, _*_, _≤_, _<_}
+use Prim.Native.Nat.{ℕ, zero, suc, _+_, _*_, _<_}
 use native.Mathlib.Decide.{ℕ-discrete}
 use native.Mathlib.Omega.{arith}
 use lib.ListN.{length, getD, set, length-set}
@@ -9,7 +9,7 @@ use lib.Seq.{getD-set-same, getD-set-other}
 use lib.IntN.{ℤ}
 use Rattle.int32.specs.Integers.{word}
 use Rattle.rules.specs.Cells.{cellOf}
-use Rattle.rules.proofs.CellsLaws.{listed-length, cell-listed}
+use Rattle.rules.proofs.CellsLaws.{cell-listed}
 use Rattle.rules.specs.Loop.{Loop}
 use Rattle.rules.specs.Blocks.{singles}
 use Rattle.rules.specs.Marks.{marks}
@@ -18,9 +18,9 @@ use Rattle.rules.specs.Answer.{viewed}
 use Rattle.shadow.proofs.Shows.{tables-right}
 use Rattle.tables.specs.Layout.{row-at}
 use Rattle.findings.specs.Findings.{marks-of}
-use Rattle.tables.proofs.Held.{rows-apart}
 use Rattle.findings.proofs.Logged.{logged-marks}
 use Rattle.trial.specs.Standing.{dealt, Standing}
+use Rattle.trial.proofs.StandingLaws.{standing-size}
 
 -- the first c cells are shown by f and g
 abbrev pub Showing : List ℕ → ℕ → (ℕ → ℕ) → (ℕ → ℕ) → Type 0
@@ -60,20 +60,10 @@ showing-all (x ∷ y ∷ B) (suc n) m k e s =
         (ap (λ (d : ℕ). getD (x ∷ y ∷ B) d 0) (sym p) ∙ t .0, ap (λ (d : ℕ). getD (x ∷ y ∷ B) d 0) (sym q) ∙ t .1)
 
 module _ (k : ℕ) (l : Loop) (M : List ℤ) (W : List ℕ) (s : State) (h : Standing k l M W s) where
-  pub standing-size : length M ≡ l .size
-  standing-size = ap length (h .cells) ∙ listed-length (l .size) (s .cells)
-
-  pub standing-low : (c : ℕ) → c < length M → (c ≤ 4096) × (k ≤ 8)
-  standing-low c b = let u = h .suits in (omega (arith, standing-size, u .cells-most), u .most)
-
-  pub standing-room : (c : ℕ) → c < length M → row-at k c + 4 + 5 * k ≤ length W
-  unfolding singles
-  standing-room c b = omega (arith, h .words .size, rows-apart k c (l .size) (omega (arith, standing-size)))
-
   pub standing-shown : (B : List ℕ) → length B ≡ 2 * length M → Showing B (length M) (λ j. word (cellOf M j)) (λ c. marks-of W (row-at k c)) → B ≡ viewed (l .size) (s .cells) (λ c. marks (dealt l k .group) c (s .log))
   unfolding singles
-  standing-shown B e v = showing-all B (l .size) (s .cells) (λ c. marks (dealt l k .group) c (s .log)) (omega (arith, standing-size)) (λ j b.
-      let w = v j (omega (arith, standing-size)) in (
+  standing-shown B e v = showing-all B (l .size) (s .cells) (λ c. marks (dealt l k .group) c (s .log)) (omega (arith, standing-size k l M W s h)) (λ j b.
+      let w = v j (omega (arith, standing-size k l M W s h)) in (
         w .0 ∙ ap word (ap (λ (m : List ℤ). cellOf m j) (h .cells) ∙ cell-listed (l .size) (s .cells) j b),
         w .1 ∙ logged-marks l (dealt l k) (s .log) W (h .words) (tables-right l (dealt l k) (h .suits .proper) (s .log) (h .orderly .inside) (h .orderly .ascending)) j b,
       ))

@@ -1,12 +1,12 @@
--- `running::conclude` meets its contract.
+-- `outcome::conclude` meets its contract.
 use mathlib.Core.List.{[]}
 use mathlib.Core.Path.{_≡_}
 use mir.Syntax.{w32}
 use mir.Val.{toZ, ofZ}
-use Rattle.running.proofs.Concluding.{can-restore, concluded-finished, concluded-faulted, concluded-refused}
+use Rattle.outcome.proofs.Concluding.{can-restore, concluded-finished, concluded-faulted, concluded-refused}
 use borrow.Author.Needs.{needs}
-use Rattle.running.proofs.conclude.Statement.{statement}
-use Rattle.running.proofs.conclude.Tie as tie
+use Rattle.outcome.proofs.conclude.Statement.{statement}
+use Rattle.outcome.proofs.conclude.Tie as tie
 
 enum-known-s : tie.Need-enum-known-s
 enum-known-s c = search needs

@@ -5,7 +5,9 @@ use Prim.Native.Nat.{ℕ, _-_, _*_}
 use native.Mathlib.Omega.{arith}
 use lib.ListN.{length, take, drop}
 use lib.IntN.{ℤ}
-use Rattle.rules.specs.Loop.{Loop}
+use Rattle.rules.specs.Loop.{Loop, Partition}
+use Rattle.rules.specs.Marks.{marks}
+use Rattle.rules.specs.Answer.{viewed, look}
 use Rattle.rules.specs.Steps.{start, steps}
 use Rattle.rules.proofs.CellsLaws.{listed-length}
 use Rattle.trial.specs.declared.Setting.{Setting}
@@ -13,9 +15,14 @@ use Rattle.trial.specs.declared.Worker.{Worker}
 use Rattle.trial.specs.Standing.{dealt}
 use Rattle.trial.specs.Running.{Run, Follows, CanFollow}
 use Rattle.trial.specs.Start.{Starts, CanTry, Begins}
-use Rattle.outcome.specs.View.{Stands, Shown}
-use Rattle.serial.proofs.Verdicts.{shown-look}
-use Rattle.looking.specs.Showing.{ShowsAfter}
+use Rattle.trial.specs.Standing.{Stands}
+use Rattle.view.specs.View.{Shown}
+use Rattle.view.specs.View.{ShowsAfter}
+
+-- what is shown after a schedule is what Look shows
+shown-look : (l : Loop) (δ : Partition) (ps : List ℕ) (v : List ℕ) → (let s = steps l δ ps (start l δ) in v ≡ viewed (l .size) (s .cells) (λ c. marks (δ .group) c (s .log))) → v ≡ look l δ ps
+unfolding look
+shown-look l δ ps v e = e
 
 module _ (code : List ℕ) (g : Setting) (M : List ℤ) (C ps : List ℕ) (n : ℕ) (W′ : List ℕ) (ws : List Worker) (b : Begins g M C n W′ ws) where
   pub can-follow : CanTry code g M C ps n → CanFollow code g M W′ ws ps

@@ -1,12 +1,12 @@
--- `fitting::prepare` meets its contract.
+-- `preparing::prepare` meets its contract.
 use mathlib.Core.Path.{_≡_, refl}
 use native.Mathlib.Omega.{arith}
 use mir.Syntax.{w32}
 use mir.Val.{toZ, ofZ}
-use Rattle.fitting.proofs.Preparing.{prepared-bad, few-cells, few-iterations, few-places, prepared-fine}
+use Rattle.preparing.proofs.Preparing.{prepared-bad, few-cells, few-iterations, few-places, prepared-fine}
 use borrow.Author.Needs.{needs}
-use Rattle.fitting.proofs.prepare.Statement.{statement}
-use Rattle.fitting.proofs.prepare.Tie as tie
+use Rattle.preparing.proofs.prepare.Statement.{statement}
+use Rattle.preparing.proofs.prepare.Tie as tie
 
 slice-aggregate-read : tie.Need-slice-aggregate-read
 slice-aggregate-read c = search needs

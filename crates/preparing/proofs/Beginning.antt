@@ -1,19 +1,14 @@
 -- A run can begin: by the verdict on the text and by what is lent.
 use mathlib.Core.Path.{_≡_, refl, sym, _∙_, ap, subst}
-use mathlib.Core.Bool.{Bool, true, false, cond}
-use mathlib.Core.List.{List, [], _∷_}
-use Prim.Native.Nat.{ℕ, zero, suc, _+_, _-_, _*_, _≤_, _<_}
+use mathlib.Core.List.{List}
+use Prim.Native.Nat.{ℕ, _+_, _-_, _*_, _≤_}
 use native.Mathlib.Nat.{mul-le-mul}
 use native.Mathlib.Omega.{arith}
-use borrow.Author.Tests.{eqb-true, leb-true, ltb-true, eq-eqb, le-leb}
-use lib.Dec.{eqb, leb, ltb}
-use lib.ListN.{length, getD, take, drop}
+use lib.ListN.{length, take, drop}
 use lib.IntN.{ℤ}
-use Rattle.syntax.specs.Bytes.{all}
 use Rattle.syntax.specs.Known.{State, cells}
 use Rattle.syntax.specs.Text.{Verdict, refused, good, read}
 use Rattle.syntax.specs.Meaning.{loopOf, partitionOf}
-use Rattle.syntax.proofs.Spelling.{both-true}
 use Rattle.syntax.proofs.Sane.{accepted-sane}
 use Rattle.code.specs.Instr.{words}
 use Rattle.code.specs.Compile.{codeOf}
@@ -21,9 +16,10 @@ use Rattle.tables.specs.Layout.{row-at}
 use Rattle.trial.specs.Standing.{dealt}
 use Rattle.trial.specs.Start.{Starts, CanTry}
 use Rattle.setup.proofs.Setting.{starts-by}
-use Rattle.fitting.specs.declared.Ready.{Ready}
+use Rattle.preparing.specs.declared.Ready.{Ready}
 use Rattle.answers.specs.Answers.{needed, fitNumber, runNumber}
-use Rattle.fitting.specs.Prepared.{Prepares, Prepared}
+use Rattle.preparing.specs.Prepared.{Prepares, Prepared}
+use Rattle.fitting.proofs.Fits.{Fits}
 
 -- ---- what was read
 
@@ -52,29 +48,7 @@ module _ (text : List ℕ) (r : Ready) (K C : List ℕ) (h : Prepared (read text
   pub ready-few : (a : Accepted text r K C) → (r .cells ≤ 4096) × (r .setting .processors ≤ 8)
   ready-few a = let q = accepted-sane text (a .state) (a .verdict) .table .few-cells in (omega (arith, q, a .prepares .cells-are), omega (arith, a .prepares .processors, a .prepares .few-processors))
 
--- ---- what is lent
-
-pub record Fits (n p m w : ℕ) (ps : List ℕ) : Type 0 where
-  pub cells-are : m ≡ n
-  pub words-are : needed n p ≤ w
-  pub names : (j : ℕ) → j < length ps → getD ps j 0 < p
-
-all-at : (p : ℕ) (ps : List ℕ) → all (λ b. ltb b p) ps ≡ true → (j : ℕ) → j < length ps → getD ps j 0 < p
-all-at p [] h j b = absurd (omega arith)
-all-at p (x ∷ ps) h zero b = ltb-true x p (both-true (ltb x p) _ h .0)
-all-at p (x ∷ ps) h (suc j) b = all-at p ps (both-true (ltb x p) _ h .1) j (omega arith)
-
-pub fit-zero : (n p m w : ℕ) (ps : List ℕ) → fitNumber n p m w ps ≡ 0 → Fits n p m w ps
-fit-zero n p m w ps = go (eqb m n) (leb (needed n p) w) (all (λ b. ltb b p) ps) refl refl refl
-  where
-    go : (a b c : Bool) → eqb m n ≡ a → leb (needed n p) w ≡ b → all (λ b. ltb b p) ps ≡ c → _≡_ {A = ℕ} (cond a (cond b (cond c 0 7) 6) 5) 0 → Fits n p m w ps
-    go true true true ea eb ec z = record { cells-are = eqb-true m n ea; words-are = leb-true (needed n p) w eb; names = all-at p ps ec }
-    go true true false ea eb ec z = absurd (omega (arith, z))
-    go true false c ea eb ec z = absurd (omega (arith, z))
-    go false b c ea eb ec z = absurd (omega (arith, z))
-
-pub fits-none : (n p m w : ℕ) → m ≡ n → needed n p ≤ w → fitNumber n p m w [] ≡ 0
-fits-none n p m w e h = λ i. cond (eq-eqb m n e i) (cond (le-leb (needed n p) w h i) 0 6) 5
+-- ---- the tables have room
 
 row-room : (n p : ℕ) → row-at p n ≤ needed n p
 row-room n p = let q : n * (4 + 5 * p) ≤ n * (4 + 6 * p) = (let a : n ≤ n = omega arith in let b : 4 + 5 * p ≤ 4 + 6 * p = omega arith in mul-le-mul a b) in omega (arith, q)

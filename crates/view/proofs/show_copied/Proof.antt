@@ -1,8 +1,8 @@
--- `looking::show_copied` meets its contract.
-use Rattle.looking.proofs.Looking.{can-front, shows-front}
+-- `view::show_copied` meets its contract.
+use Rattle.view.proofs.Looking.{can-front, shows-front}
 use borrow.Author.Needs.{needs}
-use Rattle.looking.proofs.show_copied.Statement.{statement}
-use Rattle.looking.proofs.show_copied.Tie as tie
+use Rattle.view.proofs.show_copied.Statement.{statement}
+use Rattle.view.proofs.show_copied.Tie as tie
 
 copy-front-requires : tie.Need-copy-front-requires
 copy-front-requires c κs = search needs

@@ -1,2 +1,0 @@
--- What the functions below Look promise.
-pub mod Showing

@@ -1,2 +1,0 @@
--- What Run answers after the serial run.
-pub mod Concluding

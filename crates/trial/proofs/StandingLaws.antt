@@ -1,0 +1,25 @@
+-- What cells and words that stand for a state have room for.
+use mathlib.Core.Path.{_≡_, _∙_, ap}
+use mathlib.Core.List.{List}
+use Prim.Native.Nat.{ℕ, _+_, _*_, _≤_, _<_}
+use native.Mathlib.Omega.{arith}
+use lib.ListN.{length}
+use lib.IntN.{ℤ}
+use Rattle.rules.proofs.CellsLaws.{listed-length}
+use Rattle.rules.specs.Loop.{Loop}
+use Rattle.rules.specs.Blocks.{singles}
+use Rattle.rules.specs.Steps.{State}
+use Rattle.tables.specs.Layout.{row-at}
+use Rattle.tables.proofs.Held.{rows-apart}
+use Rattle.trial.specs.Standing.{Standing}
+
+module _ (k : ℕ) (l : Loop) (M : List ℤ) (W : List ℕ) (s : State) (h : Standing k l M W s) where
+  pub standing-size : length M ≡ l .size
+  standing-size = ap length (h .cells) ∙ listed-length (l .size) (s .cells)
+
+  pub standing-low : (c : ℕ) → c < length M → (c ≤ 4096) × (k ≤ 8)
+  standing-low c b = let u = h .suits in (omega (arith, standing-size, u .cells-most), u .most)
+
+  pub standing-room : (c : ℕ) → c < length M → row-at k c + 4 + 5 * k ≤ length W
+  unfolding singles
+  standing-room c b = omega (arith, h .words .size, rows-apart k c (l .size) (omega (arith, standing-size)))

@@ -1,0 +1,3 @@
+-- The view, word by word, and after a schedule.
+mod Viewing
+mod Looking

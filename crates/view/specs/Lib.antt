@@ -1,0 +1,2 @@
+-- What Look shows.
+pub mod View
