@@ -1,17 +1,13 @@
-//! Links the product's library, which `rt staticlib exports` writes.
+//! Links the product's library, which `rt staticlib exports` writes, into the program alone.
 
 use std::path::Path;
 
 fn main() {
     let bench = Path::new(env!("CARGO_MANIFEST_DIR"));
-    let folder = bench
+    let library = bench
         .parent()
         .expect("the repository")
-        .join("target/staticlib");
-    println!("cargo:rustc-link-search=native={}", folder.display());
-    println!("cargo:rustc-link-lib=static=exports");
-    println!(
-        "cargo:rerun-if-changed={}",
-        folder.join("libexports.a").display()
-    );
+        .join("target/staticlib/libexports.a");
+    println!("cargo:rustc-link-arg-bins={}", library.display());
+    println!("cargo:rerun-if-changed={}", library.display());
 }

@@ -1,113 +1,196 @@
-//! Run's time beside that of a plain serial interpreter, and how it grows.
+//! Run's time beside that of two serial interpreters, and how it grows.
 //!
 //!     bench                     the times
-//!     bench WHICH LOOP TIMES    one alone, so many times, for a profiler: WHICH is run or plain,
+//!     bench WHICH LOOP TIMES    one alone, so many times, for a profiler: WHICH is run, plain or strong,
 //!                               LOOP is turns, shortest or forms
 
+mod clock;
 mod loops;
-mod postfix;
 mod product;
-mod reader;
 
+use clock::thread_time;
+use interpreters::postfix::{Fault, Loop};
+use interpreters::reader;
+use interpreters::three_address::{self, Program};
 use loops::{forms, shortest, turns, Timed};
-use std::time::{Duration, Instant};
+use std::fmt;
+use std::time::Duration;
 
-/// The loop of the measure.
+/// The size of the loops that are compared.
 const ITERATIONS: u32 = 65_535;
 const CELLS: usize = 4_096;
 
-/// How often each is timed; the least time counts.
-const TIMES: usize = 60;
+/// A loop with so many iterations, cells and processors.
+type Make = fn(u32, usize, usize) -> Timed;
+
+const LOOPS: [(&str, Make); 3] = [("turns", turns), ("shortest", shortest), ("forms", forms)];
+
+/// One call: the processor time, reading included, and the cells that are left.
+type Call = fn(&Timed) -> (Duration, Vec<i32>);
+
+const CALLS: [(&str, Call); 3] = [
+    ("run", time_run),
+    ("plain", time_plain),
+    ("strong", time_strong),
+];
+
+/// How often each is timed: an odd number has a median, and each of three begins a third of the rounds.
+const ROUNDS: usize = 99;
 
 fn main() {
     let words: Vec<String> = std::env::args().skip(1).collect();
-    if let [which, name, times] = &words[..] {
-        return profile(which, name, times.parse().expect("how often"));
-    }
-    println!("Run and the plain interpreter, P = 1, {CELLS} cells, {ITERATIONS} iterations; best of {TIMES}:");
-    compare("turns", &turns(ITERATIONS, CELLS, 1));
-    compare("shortest", &shortest(ITERATIONS, CELLS, 1));
-    compare("forms", &forms(ITERATIONS, CELLS, 1));
-
-    println!("\nRun's time for the loop `turns` as it grows, in ms:");
-    for iterations in [0, 4_096, 16_384, 32_768, 65_535] {
-        grown(iterations, CELLS, 1);
-    }
-    for cells in [64, 256, 1_024, 4_096] {
-        grown(ITERATIONS, cells, 1);
-    }
-    for processors in [1, 2, 4, 8] {
-        grown(ITERATIONS, CELLS, processors);
+    match &words[..] {
+        [] => measure(),
+        [which, name, times] => profile(which, name, times.parse().expect("how often")),
+        _ => panic!("bench, or bench WHICH LOOP TIMES"),
     }
 }
 
-/// One of the two on a loop of the measure, so many times, for a profiler.
+/// One alone, so many times, for a profiler.
 fn profile(which: &str, name: &str, times: usize) {
-    let timed = match name {
-        "turns" => turns(ITERATIONS, CELLS, 1),
-        "shortest" => shortest(ITERATIONS, CELLS, 1),
-        "forms" => forms(ITERATIONS, CELLS, 1),
-        _ => panic!("no loop has the name {name}"),
-    };
+    let call = named(&CALLS, which);
+    let timed = named(&LOOPS, name)(ITERATIONS, CELLS, 1);
     for _ in 0..times {
-        match which {
-            "run" => time_run(&timed),
-            "plain" => time_plain(&timed),
-            _ => panic!("{which} is neither run nor plain"),
-        };
+        call(&timed);
     }
 }
 
-/// Times both, one after the other in turn, and compares the cells.
+fn named<T: Copy>(all: &[(&str, T)], name: &str) -> T {
+    let found = all.iter().find(|(known, _)| *known == name);
+    found
+        .unwrap_or_else(|| panic!("nothing has the name {name}"))
+        .1
+}
+
+fn measure() {
+    assert_aligned();
+    println!("Processor time in ms, and ratios: median (best) of {ROUNDS} rounds");
+    println!("\n{ITERATIONS} iterations, {CELLS} cells, P = 1:");
+    println!(
+        "  {:8}{:>18}{:>18}{:>18}{:>18}{:>18}",
+        "", "run", "plain", "strong", "run / plain", "run / strong"
+    );
+    for (name, make) in LOOPS {
+        compare(name, &make(ITERATIONS, CELLS, 1));
+    }
+    println!("  All left the same cells in every round.");
+    println!("\nRun, the loop `turns` as it grows:");
+    grow();
+}
+
+/// The interpreters begin a page, or their time would change from build to build.
+fn assert_aligned() {
+    let plain: fn(&Loop, &mut [i32]) -> Result<(), Fault> = Loop::run;
+    let strong: fn(&mut Program, &mut [i32]) -> Result<(), Fault> = Program::run;
+    assert!(
+        (plain as usize | strong as usize).is_multiple_of(4_096),
+        "built without the flags of bench/.cargo/config.toml"
+    );
+}
+
+/// Times all three on a loop and compares the cells that each call leaves.
 fn compare(name: &str, timed: &Timed) {
-    let (mut run, mut plain) = (Duration::MAX, Duration::MAX);
-    for _ in 0..TIMES {
-        let (time, cells) = time_run(timed);
-        run = run.min(time);
-        let (time, expected) = time_plain(timed);
-        plain = plain.min(time);
-        assert!(cells == expected, "the cells of {name} differ");
+    let (_, expected) = time_plain(timed);
+    let times = take_turns(CALLS.len(), |which| {
+        let (by, call) = CALLS[which];
+        let (time, cells) = call(timed);
+        assert!(cells == expected, "other cells of {name} by {by}");
+        time
+    });
+    let (run, plain, strong) = (times[0], times[1], times[2]);
+    let (by_plain, by_strong) = (run.over(plain), run.over(strong));
+    println!("  {name:8}{run:.3}{plain:.3}{strong:.3}{by_plain:.2}{by_strong:.2}");
+}
+
+/// Times Run on `turns` with other numbers of iterations, cells and processors.
+fn grow() {
+    let mut sizes = Vec::new();
+    sizes.extend([0, 4_096, 16_384, 32_768, ITERATIONS].map(|count| (count, CELLS, 1)));
+    sizes.extend([64, 256, 1_024, CELLS].map(|count| (ITERATIONS, count, 1)));
+    sizes.extend([1, 2, 4, 8].map(|count| (ITERATIONS, CELLS, count)));
+    let loops: Vec<Timed> = sizes.iter().map(|&(i, c, p)| turns(i, c, p)).collect();
+    let times = take_turns(loops.len(), |which| time_run(&loops[which]).0);
+    for ((iterations, cells, processors), time) in sizes.iter().zip(times) {
+        println!("  {iterations:6} iterations, {cells:5} cells, P = {processors}:{time:.3}");
     }
-    println!(
-        "  {name}: Run {:.2} ms, plain {:.2} ms, ratio {:.2}; the cells are the same",
-        milliseconds(run),
-        milliseconds(plain),
-        run.as_secs_f64() / plain.as_secs_f64()
-    );
 }
 
-fn grown(iterations: u32, cells: usize, processors: usize) {
-    let timed = turns(iterations, cells, processors);
-    let best = (0..TIMES).map(|_| time_run(&timed).0).min();
-    println!(
-        "  {iterations:6} iterations, {cells:5} cells, P = {processors}: {:7.2}",
-        milliseconds(best.unwrap_or_default())
-    );
+/// Times each of so many in every round; another begins in each.
+fn take_turns(count: usize, mut time: impl FnMut(usize) -> Duration) -> Vec<Figures> {
+    let mut times = vec![Vec::new(); count];
+    for round in 0..ROUNDS {
+        for turn in 0..count {
+            let which = (round + turn) % count;
+            times[which].push(time(which));
+        }
+    }
+    times.into_iter().map(Figures::of).collect()
 }
 
-fn milliseconds(time: Duration) -> f64 {
-    1000.0 * time.as_secs_f64()
+/// What is told of a row of times, in ms, or of two rows' ratio.
+#[derive(Clone, Copy)]
+struct Figures {
+    median: f64,
+    best: f64,
 }
 
-/// One call of Run: its time, reading included, and the cells it leaves.
+impl Figures {
+    fn of(mut times: Vec<Duration>) -> Figures {
+        times.sort_unstable();
+        Figures {
+            median: 1000.0 * times[times.len() / 2].as_secs_f64(),
+            best: 1000.0 * times[0].as_secs_f64(),
+        }
+    }
+
+    fn over(self, other: Figures) -> Figures {
+        Figures {
+            median: self.median / other.median,
+            best: self.best / other.best,
+        }
+    }
+}
+
+impl fmt::Display for Figures {
+    /// In 18 characters, with as many digits as asked for.
+    fn fmt(&self, out: &mut fmt::Formatter) -> fmt::Result {
+        let digits = out.precision().unwrap_or(2);
+        let best = format!("({:.digits$})", self.best);
+        write!(out, "{:9.digits$}{best:>9}", self.median)
+    }
+}
+
+/// Run.
 fn time_run(timed: &Timed) -> (Duration, Vec<i32>) {
     let mut cells = timed.cells.clone();
     let mut workspace = vec![1; product::workspace_words(cells.len(), timed.processors)];
-    let start = Instant::now();
+    let start = thread_time();
     let answer = product::run(timed.text.as_bytes(), &mut cells, &mut workspace);
-    let time = start.elapsed();
+    let time = thread_time() - start;
     assert!(answer.number == 0 && answer.rerun == 0, "{answer:?}");
     (time, cells)
 }
 
-/// The plain interpreter: its time, reading included, and the cells it leaves.
+/// The plain interpreter.
 fn time_plain(timed: &Timed) -> (Duration, Vec<i32>) {
+    time_serial(timed, Loop::run)
+}
+
+/// The stronger interpreter.
+fn time_strong(timed: &Timed) -> (Duration, Vec<i32>) {
+    time_serial(timed, |read, cells| three_address::prepare(read).run(cells))
+}
+
+fn time_serial(
+    timed: &Timed,
+    run: fn(&Loop, &mut [i32]) -> Result<(), Fault>,
+) -> (Duration, Vec<i32>) {
     let mut cells = timed.cells.clone();
-    let start = Instant::now();
+    let start = thread_time();
     let read = reader::read(&timed.text);
     assert_eq!(read.cells, cells.len());
-    let outcome = read.run(&mut cells);
-    let time = start.elapsed();
+    let outcome = run(&read, &mut cells);
+    let time = thread_time() - start;
     assert_eq!(outcome, Ok(()));
     (time, cells)
 }

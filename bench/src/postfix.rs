@@ -149,7 +149,7 @@ fn element(first: u32, length: i32, subscript: i32) -> Result<usize, Fault> {
     Ok(first as usize + (subscript - 1) as usize)
 }
 
-fn divisor(value: i32) -> Result<i32, Fault> {
+pub(crate) fn divisor(value: i32) -> Result<i32, Fault> {
     if value == 0 {
         return Err(Fault::Divisor);
     }
@@ -157,7 +157,7 @@ fn divisor(value: i32) -> Result<i32, Fault> {
 }
 
 /// The nearest whole number, halves away from zero.
-fn rounded(left: i32, right: i32) -> i32 {
+pub(crate) fn rounded(left: i32, right: i32) -> i32 {
     let (left, right) = (i64::from(left), i64::from(right));
     let size = (2 * left.abs() + right.abs()) / (2 * right.abs());
     let sign = if (left < 0) == (right < 0) { 1 } else { -1 };
@@ -165,7 +165,7 @@ fn rounded(left: i32, right: i32) -> i32 {
 }
 
 impl Relation {
-    fn holds(self, left: i32, right: i32) -> bool {
+    pub(crate) fn holds(self, left: i32, right: i32) -> bool {
         match self {
             Relation::Equal => left == right,
             Relation::Unequal => left != right,
