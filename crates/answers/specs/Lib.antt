@@ -1,2 +1,3 @@
--- What each service answers and leaves.
+-- What each service answers and leaves, and the serial run's answer in numbers.
 pub mod Answers
+pub mod Numbers

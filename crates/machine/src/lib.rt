@@ -13,6 +13,7 @@ pub struct Advanced {
 }
 
 // Up to and including the next cell access, or to the end of the iteration or a fault; v is the value of the loop's variable.
+// Free: the values from the new depth on; place and depth themselves, where others come to the same rest of the iteration.
 pub fn advance(
     code: &[u32],
     place: usize,

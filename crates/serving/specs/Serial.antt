@@ -13,7 +13,8 @@ use Rattle.syntax.specs.Meaning.{loopOf}
 use Rattle.trial.specs.Standing.{Kept}
 use Rattle.answers.specs.declared.Served.{Served}
 use Rattle.answers.specs.declared.Served.the-variants.{Finished, Faulted, Refused}
-use Rattle.answers.specs.Answers.{runNumber}
+use Rattle.answers.specs.Answers.{runNumber, taken}
+use Rattle.answers.specs.Numbers.{Returned, done, failure, refusal}
 
 -- "its write counts are the different pairs of iteration and cell, and the different cells"; "The first fault ends the run and gives its number, the
 -- line ... and v"
@@ -31,6 +32,18 @@ abbrev pub ServesBy : State → ℕ → List ℤ → List ℕ → Served → Lis
 ServesBy s zero M W r M′ W′ = Serves s M r M′ W′
 ServesBy s (suc n) M W r M′ W′ = (r ≡ Refused (suc n) 0) × (M′ ≡ M) × (W′ ≡ W)
 
+-- the answer and what is left, by the verdict on the text
 unfoldable pub SerialOf : Verdict → List ℤ → List ℕ → Served → List ℤ → List ℕ → Type 0
 SerialOf (refused n k) M W r M′ W′ = (r ≡ Refused n k) × (M′ ≡ M) × (W′ ≡ W)
 SerialOf (good s) M W r M′ W′ = ServesBy s (runNumber s (length M) (length W) []) M W r M′ W′
+
+-- the answer's numbers: 1 to 6, or 0 with both write counts, or 9 or 10 with line and v
+abbrev pub numbersBy : State → List ℤ → Outcome → Returned
+numbersBy s M finished = done (pairs (loopOf s M) (serial (loopOf s M) .log)) (written-cells (loopOf s M) (serial (loopOf s M) .log))
+numbersBy s M (failed n t i) = failure n t (s .from +ℤ pos i)
+
+unfoldable pub serialNumbers : Verdict → List ℤ → ℕ → Returned
+serialNumbers (refused n k) M w = refusal n k
+serialNumbers (good s) M w =
+    let n = runNumber s (length M) w [] in
+    taken n (numbersBy s M (serial (loopOf s M) .outcome)) (refusal n 0)

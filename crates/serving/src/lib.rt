@@ -1,14 +1,19 @@
 // The serial run of a text (document 01, The serial run). It takes any text and whatever is lent, and refuses what it can't take; a refusal leaves all that is
 // lent as it came.
+ghost use mathlib.Core.Path.{_≡_};
+ghost use lib.ListN.{length};
 ghost use Rattle.syntax.specs.Text.{read as readText};
-ghost use Rattle.serving.specs.Serial.{SerialOf};
+ghost use Rattle.answers.specs.Numbers.{servedNumbers};
+ghost use Rattle.serving.specs.Serial.{SerialOf, serialNumbers};
 use answers::Served;
 use fitting::unfit;
 use preparing::prepare;
 
-// The serial run, in place over the cells: the text and the cells alone decide it. The workspace is left with the cells at entry and the accesses.
+// The serial run, in place over the cells: the text and the cells alone decide it. A refusal apart, the workspace keeps the cells at entry, in the rows of
+// tables for one processor, for whoever restores them. Free: its other words.
 pub fn run_serially(text: &[u8], cells: &mut [i32], workspace: &mut [u32]) -> Served
     ensures { λ r. ⌜ SerialOf (readText (now (text .entry))) (now (cells .entry)) (now (workspace .entry)) r (now (cells .exit)) (now (workspace .exit)) ⌝ }
+    ensures { λ r. ⌜ servedNumbers r ≡ serialNumbers (readText (now (text .entry))) (now (cells .entry)) (length (now (workspace .entry))) ⌝ }
 {
     let mut code = [0; 8194];
     let mut classes = [0; 4096];
