@@ -7,6 +7,7 @@ ghost use Rattle.syntax.specs.Text.{read as readText};
 ghost use Rattle.syntax.specs.Bytes.{all};
 ghost use Rattle.answers.specs.Answers.{needed, fitNumber};
 ghost use Rattle.fitting.specs.Prepared.{Prepared};
+ghost use Rattle.code.specs.Compile.{codeWords};
 use trial::Setting;
 
 // What is made ready for a run: a refusal's number (0: none) and line, N, the setting, and where the code ends.
@@ -32,10 +33,10 @@ pub fn copy_front(own: &mut [i32], from: &[i32])
 
 // Reads a text, and makes its code and the classes of its cells ready.
 pub fn prepare(text: &[u8], code: &mut [u32], classes: &mut [u32]) -> Ready
-    requires { ⌜ (length (now code) ≡ 8194) × (length (now classes) ≡ 4096) ⌝ }
+    requires { ⌜ (length (now code) ≡ codeWords) × (length (now classes) ≡ 4096) ⌝ }
     ensures { λ r. ⌜ Prepared (readText (now (text .entry))) r (now (code .exit)) (now (classes .exit)) ⌝ }
 {
-    let mut table = [0; 613];
+    let mut table = [0; names::WORDS];
     let mut initial: [i32; 4096] = [0; 4096];
     let r = reader::read(text, &mut table, &mut initial, code);
     let p = r.progress;

@@ -1,6 +1,6 @@
 -- Whole lines: their bytes, and what they begin with.
 use mathlib.Core.Path.{_≡_, refl, sym, _∙_, ap}
-use mathlib.Core.Bool.{Bool, true, false, cond, _&&_, _||_, not}
+use mathlib.Core.Bool.{Bool, true, false, _&&_, _||_, not}
 use mathlib.Core.List.{List, [], _∷_}
 use Prim.Native.Nat.{ℕ, zero, suc, _+_, _-_, _≤_, _<_}
 use native.Mathlib.Omega.{arith}
@@ -8,7 +8,7 @@ use borrow.Author.Tests.{le-leb, lt-leb, leb-true, leb-false, eq-eqb, ne-eqb}
 use lib.Dec.{leb, eqb}
 use lib.ListN.{length, getD, take, drop, length-drop}
 use lib.Seq.{take-all}
-use Rattle.syntax.specs.Bytes.{choose, all, same, bytes, run, starts, printable, trimmed, directive-line, skipped-line, sound-line}
+use Rattle.syntax.specs.Bytes.{choose, all, same, bytes, run, starts, printable, trimmed, skipped-line, sound-line}
 use Rattle.lexer.specs.Lex.{goes}
 
 -- ---- all bytes of a line

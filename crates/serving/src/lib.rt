@@ -10,7 +10,7 @@ use fitting::unfit;
 pub fn run_serially(text: &[u8], cells: &mut [i32], workspace: &mut [u32]) -> Served
     ensures { λ r. ⌜ SerialOf (readText (now (text .entry))) (now (cells .entry)) (now (workspace .entry)) r (now (cells .exit)) (now (workspace .exit)) ⌝ }
 {
-    let mut code = [0; 8194];
+    let mut code = [0; code::WORDS];
     let mut classes = [0; 4096];
     let r = prepare(text, &mut code, &mut classes);
     if r.number != 0 {

@@ -5,14 +5,8 @@ use native.Mathlib.Omega.{arith}
 use lib.ListN.{length, drop}
 use Rattle.syntax.specs.Bytes.{all, printable}
 use Rattle.reader.proofs.WholeLines.{all-on, all-off, all-out, printable-low, printable-high, printable-mid}
-use Rattle.syntax.specs.Bytes.{all, printable}
-use Rattle.reader.proofs.WholeLines.{all-on, all-off, all-out, printable-low, printable-high, printable-mid}
-use Rattle.syntax.specs.Bytes.{all, printable}
-use Rattle.reader.proofs.WholeLines.{all-on, all-off, all-out, printable-low, printable-high, printable-mid}
 use Rattle.reader.proofs.is_printable.Statement.{statement}
 use Rattle.reader.proofs.is_printable.Tie as tie
-use Rattle.reader.proofs.is_printable.Reads as reads
-use Rattle.reader.proofs.is_printable.Lts as lts
 
 abbrev Inv-loop : tie.InvT-loop
 Inv-loop s i₀ i = (i ≤ length s) × (all printable s ≡ all printable (drop i s))
