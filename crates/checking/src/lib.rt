@@ -12,9 +12,9 @@ use fitting::copy_front;
 pub fn check(text: &[u8]) -> Checked
     ensures { λ r. ⌜ r ≡ checkOf (readText (now (text .entry))) ⌝ }
 {
-    let mut table = [0; 613];
+    let mut table = [0; names::WORDS];
     let mut initial: [i32; 4096] = [0; 4096];
-    let mut code = [0; 8194];
+    let mut code = [0; code::WORDS];
     let r = reader::read(text, &mut table, &mut initial, &mut code);
     let line = r.line;
     let p = r.progress;
@@ -35,9 +35,9 @@ pub fn load(text: &[u8], cells: &mut [i32]) -> Completed
     ensures { λ r. ⌜ r ≡ loadOf (readText (now (text .entry))) (length (now (cells .entry))) ⌝ }
     ensures { λ _. ⌜ now (cells .exit) ≡ cellsLoaded (readText (now (text .entry))) (now (cells .entry)) ⌝ }
 {
-    let mut table = [0; 613];
+    let mut table = [0; names::WORDS];
     let mut initial: [i32; 4096] = [0; 4096];
-    let mut code = [0; 8194];
+    let mut code = [0; code::WORDS];
     let r = reader::read(text, &mut table, &mut initial, &mut code);
     let line = r.line;
     let p = r.progress;

@@ -104,3 +104,7 @@ codeOf s = codeLines (s .table) (s .variable) (s .opens) (s .inner)
 
 abbrev pub placesOf : State → List ℕ
 placesOf s = places (s .table) (s .variable) (s .opens)
+
+-- the words that hold the code of any text, and what is written past it while a line is read
+abbrev pub codeWords : ℕ
+codeWords = 8194

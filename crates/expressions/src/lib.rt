@@ -16,33 +16,26 @@ ghost use Rattle.lexer.specs.Places.{leadOf};
 ghost use Rattle.expressions.specs.Answer.{Answers, Ready};
 ghost use Rattle.expressions.specs.Readers.{readRemainder, readQuotient};
 ghost use Rattle.expressions.specs.Parts.{kindAt, textAt, Sign, Joins, Begins, Inside, Sealed, Ranks, Ranked, Worded, spanOf, Room, Emits, Fetches, Pushes, Loads};
+ghost use Rattle.names.specs.Table.{nameWords};
+use code::ADD;
+use code::DIVIDE;
+use code::LINE;
+use code::LOAD;
+use code::LOAD_AT;
+use code::MULTIPLY;
+use code::NEGATE;
+use code::PUSH;
+use code::PUSH_V;
+use code::ROUND;
+use code::SUBTRACT;
 use lexer::Tok;
 use lexer::literal;
 use lexer::reads;
 use lexer::token;
+use names::Table;
+use names::VARIABLE;
 use names::find;
 use names::is_named;
-
-// The numbers of the operations (`operation` of Rattle.code.specs.Instr).
-const PUSH: u32 = 0;
-
-const PUSH_V: u32 = 1;
-
-const LOAD: u32 = 2;
-
-const LOAD_AT: u32 = 3;
-
-const ADD: u32 = 4;
-
-const SUBTRACT: u32 = 5;
-
-const MULTIPLY: u32 = 6;
-
-const NEGATE: u32 = 7;
-
-const DIVIDE: u32 = 8;
-
-const ROUND: u32 = 9;
 
 // What a reader answers: the next place of the line and of the code, and the highest rank so far (0 in order, 1 over a limit, 2 a wrong name).
 pub enum Got {
@@ -85,11 +78,11 @@ fn literal_rank(n: u32) -> u32
 }
 
 // The rank of a name, with a subscript or without.
-fn name_rank(table: &[u32; 613], w: &[u8], subscript: bool) -> u32
-    requires { ⌜ length (now w) ≤ 32 ⌝ }
+fn name_rank(table: &Table, w: &[u8], subscript: bool) -> u32
+    requires { ⌜ length (now w) ≤ nameWords ⌝ }
     ensures { λ r. ⌜ Ranks (now (table .entry)) (now (w .entry)) subscript r ⌝ }
 {
-    if is_named(table, 16, w) {
+    if is_named(table, VARIABLE, w) {
         return if subscript { 2 } else { 0 };
     }
     let n = find(table, w);
@@ -104,7 +97,7 @@ fn name_rank(table: &[u32; 613], w: &[u8], subscript: bool) -> u32
 }
 
 // The highest rank, with that of the name at a place.
-fn named(s: &[u8], at: usize, rank: u32, table: &[u32; 613], subscript: bool) -> u32
+fn named(s: &[u8], at: usize, rank: u32, table: &Table, subscript: bool) -> u32
     requires { ⌜ (at ≤ length (now s)) × (kindAt (now s) at ≡ 1) ⌝ }
     ensures { λ r. ⌜ Ranked (now (table .entry)) (textAt (now (s .entry)) at) subscript rank r ⌝ }
 {
@@ -274,7 +267,7 @@ fn factor_operation(sign: u32, line: u32) -> u32
     requires { ⌜ line ≤ 2049 ⌝ }
     ensures { λ r. ⌜ r ≡ cond (eqb sign 1) (operationOf multiply) (operationOf (divide line)) ⌝ }
 {
-    let over = DIVIDE + 32 * line;
+    let over = DIVIDE + LINE * line;
     if sign == 1 { MULTIPLY } else { over }
 }
 
@@ -292,8 +285,8 @@ pub fn span(first: u32, size: u32) -> u32
 }
 
 // The instruction that reads the cell of a name, with a subscript or without.
-fn read_of(table: &[u32; 613], w: &[u8], line: u32, subscript: bool) -> Words
-    requires { ⌜ (length (now w) ≤ 32) × (line ≤ 2049) ⌝ }
+fn read_of(table: &Table, w: &[u8], line: u32, subscript: bool) -> Words
+    requires { ⌜ (length (now w) ≤ nameWords) × (line ≤ 2049) ⌝ }
     ensures { λ r. ⌜ Worded (now (table .entry)) line (now (w .entry)) subscript r ⌝ }
 {
     let n = find(table, w);
@@ -301,11 +294,11 @@ fn read_of(table: &[u32; 613], w: &[u8], line: u32, subscript: bool) -> Words
     let size = n.size;
     if subscript {
         return Words {
-            operation: LOAD_AT + 32 * line,
+            operation: LOAD_AT + LINE * line,
             argument: span(first, size),
         };
     }
-    if is_named(table, 16, w) {
+    if is_named(table, VARIABLE, w) {
         return Words {
             operation: PUSH_V,
             argument: 0,
@@ -322,7 +315,7 @@ fn then_read(
     s: &[u8],
     at: usize,
     line: u32,
-    table: &[u32; 613],
+    table: &Table,
     code: &mut [u32],
     g: Got,
     subscript: bool,
@@ -368,7 +361,7 @@ fn variable(
     at: usize,
     rank: u32,
     line: u32,
-    table: &[u32; 613],
+    table: &Table,
     code: &mut [u32],
     place: usize,
 ) -> Got
@@ -395,6 +388,8 @@ fn variable(
 
 // ---- the readers
 
+// They call each other. The bytes that are left and the brackets that may still open, fewer than bytes, give the number that falls with each call.
+
 // An expression: a sign or none, a term, and further terms.
 pub fn expression(
     s: &[u8],
@@ -402,7 +397,7 @@ pub fn expression(
     depth: usize,
     rank: u32,
     line: u32,
-    table: &[u32; 613],
+    table: &Table,
     code: &mut [u32],
     place: usize,
 ) -> Got
@@ -434,7 +429,7 @@ fn more_terms(
     depth: usize,
     rank: u32,
     line: u32,
-    table: &[u32; 613],
+    table: &Table,
     code: &mut [u32],
     place: usize,
 ) -> Got
@@ -470,7 +465,7 @@ fn term(
     depth: usize,
     rank: u32,
     line: u32,
-    table: &[u32; 613],
+    table: &Table,
     code: &mut [u32],
     place: usize,
 ) -> Got
@@ -495,7 +490,7 @@ fn more_factors(
     depth: usize,
     rank: u32,
     line: u32,
-    table: &[u32; 613],
+    table: &Table,
     code: &mut [u32],
     place: usize,
 ) -> Got
@@ -531,7 +526,7 @@ fn factor(
     depth: usize,
     rank: u32,
     line: u32,
-    table: &[u32; 613],
+    table: &Table,
     code: &mut [u32],
     place: usize,
 ) -> Got
@@ -580,7 +575,7 @@ fn quotient(
     depth: usize,
     rank: u32,
     line: u32,
-    table: &[u32; 613],
+    table: &Table,
     code: &mut [u32],
     place: usize,
 ) -> Got
@@ -597,7 +592,7 @@ fn quotient(
             rank: d,
         } => {
             let b = expression(s, n, inner, d, line, table, code, p);
-            then_emit(expect(s, b, b')'), code, ROUND + 32 * line, 0)
+            then_emit(expect(s, b, b')'), code, ROUND + LINE * line, 0)
         }
         Got::Broken => Got::Broken,
     }
@@ -609,7 +604,7 @@ pub fn reference(
     at: usize,
     rank: u32,
     line: u32,
-    table: &[u32; 613],
+    table: &Table,
     code: &mut [u32],
     place: usize,
 ) -> Got
@@ -641,7 +636,7 @@ pub fn remainder(
     at: usize,
     rank: u32,
     line: u32,
-    table: &[u32; 613],
+    table: &Table,
     code: &mut [u32],
     place: usize,
 ) -> Got

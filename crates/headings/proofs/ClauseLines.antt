@@ -22,7 +22,7 @@ use Rattle.lexer.proofs.PlaceLaws.{lands-next, lands-yield, lands-expect, goes-
 use Rattle.syntax.proofs.Spelling.{same-true, both-true}
 use Rattle.syntax.proofs.TestLaws.{both-hold, any-append, same-refl, same-comm-false}
 use Rattle.names.specs.declared.Named.{Named}
-use Rattle.names.specs.Table.{wordAt, classOf, class-to, Tabled, Knows, Stands, Classed}
+use Rattle.names.specs.Table.{classOf, class-to, Tabled, Knows, Stands, Classed, clauseAt}
 use Rattle.names.proofs.Rows.{name-length, getD-map, unknown-at}
 use Rattle.headings.specs.Lists.{readSome, order, Keeps, Standing}
 use Rattle.headings.specs.Directive.{free, frees, claim-to, claims-to, Claimed, Marked, Claim, Claiming, ClaimAt, Claims, readClass, clauses-to, Clausal, ClauseAt, Clauses, Directing, Directive}
@@ -39,7 +39,7 @@ any-more x w xs = any-append (same x) xs (w ∷ []) ∙ ap (λ (b : Bool). any (
 
 -- which is none of the names, or is among xs already
 module _ (T : List ℕ) (t : List Entry) (xs : List (List ℕ)) (m : Marked T t xs) (w : List ℕ) where
-  more-other : (i : ℕ) → i < length t → same (getD t i nowhere .name) w ≡ false → ltb 0 (wordAt T i 35 / 4) ≡ any (same (getD t i nowhere .name)) (xs ++ (w ∷ []))
+  more-other : (i : ℕ) → i < length t → same (getD t i nowhere .name) w ≡ false → ltb 0 (clauseAt T i) ≡ any (same (getD t i nowhere .name)) (xs ++ (w ∷ []))
   more-other i l e = m .claimed i l ∙ sym (any-more (getD t i nowhere .name) w xs ∙ ap (λ (b : Bool). any (same (getD t i nowhere .name)) xs || b) e ∙ or-false _)
 
   unknown-marked : known w t ≡ false → Marked T t (xs ++ (w ∷ []))
@@ -48,7 +48,7 @@ module _ (T : List ℕ) (t : List Entry) (xs : List (List ℕ)) (m : Marked T t 
   taken-marked : any (same w) xs ≡ true → Marked T t (xs ++ (w ∷ []))
   taken-marked a = record { table = m .table; claimed = λ i l. go i l (same (getD t i nowhere .name) w) refl }
     where
-      go : (i : ℕ) → i < length t → (b : Bool) → same (getD t i nowhere .name) w ≡ b → ltb 0 (wordAt T i 35 / 4) ≡ any (same (getD t i nowhere .name)) (xs ++ (w ∷ []))
+      go : (i : ℕ) → i < length t → (b : Bool) → same (getD t i nowhere .name) w ≡ b → ltb 0 (clauseAt T i) ≡ any (same (getD t i nowhere .name)) (xs ++ (w ∷ []))
       go i l false e = more-other i l e
       go i l true e =
           m .claimed i l ∙ ap (λ (x : List ℕ). any (same x) xs) (same-true (getD t i nowhere .name) w e) ∙ a
@@ -89,10 +89,10 @@ module _ (T : List ℕ) (t : List Entry) (xs : List (List ℕ)) (m : Marked T t 
             name-of : (i : ℕ) → i < length t → getD (map (class-to w (classOf c)) t) i nowhere .name ≡ getD t i nowhere .name
             name-of i l = ap (λ (x : Entry). x .name) (getD-map (class-to w (classOf c)) t i nowhere nowhere l) ∙ named-so (getD t i nowhere)
 
-            mark : (i : ℕ) → i < length t → ltb 0 (wordAt T′ i 35 / 4) ≡ any (same (getD t i nowhere .name)) (xs ++ (w ∷ []))
+            mark : (i : ℕ) → i < length t → ltb 0 (clauseAt T′ i) ≡ any (same (getD t i nowhere .name)) (xs ++ (w ∷ []))
             mark i l = elim (ℕ-discrete i (n .index)) [
               | yes q ↦
-                  ap (λ (j : ℕ). ltb 0 (wordAt T′ j 35 / 4)) q ∙ ap (ltb 0) (k .here (m .table .long)) ∙ lt-ltb 0 c (omega arith)
+                  ap (λ (j : ℕ). ltb 0 (clauseAt T′ j)) q ∙ ap (ltb 0) (k .here (m .table .long)) ∙ lt-ltb 0 c (omega arith)
                   ∙ sym (any-more (getD t i nowhere .name) w xs ∙ ap (λ (b : Bool). any (same (getD t i nowhere .name)) xs || b) (ap (λ (x : List ℕ). same x w) (ap (λ (j : ℕ). getD t j nowhere .name) q ∙ st .name) ∙ same-refl w) ∙ or-true (any (same (getD t i nowhere .name)) xs))
               | no q ↦ ap (λ (x : ℕ). ltb 0 (x / 4)) (k .others i q) ∙ more-other i l (ap (same (getD t i nowhere .name)) (sym (st .name)) ∙ apart i l q)
             ]
@@ -112,11 +112,11 @@ module _ (T : List ℕ) (t : List Entry) (xs : List (List ℕ)) (m : Marked T t 
 
 abbrev marked-names : List ℕ → ℕ → List Entry → List (List ℕ)
 marked-names T i [] = []
-marked-names T i (e ∷ t) = cond (ltb 0 (wordAt T i 35 / 4)) (e .name ∷ marked-names T (suc i) t) (marked-names T (suc i) t)
+marked-names T i (e ∷ t) = cond (ltb 0 (clauseAt T i)) (e .name ∷ marked-names T (suc i) t) (marked-names T (suc i) t)
 
 none-marked : (T : List ℕ) (i : ℕ) (t : List Entry) (x : List ℕ) → ((j : ℕ) → j < length t → same x (getD t j nowhere .name) ≡ false) → any (same x) (marked-names T i t) ≡ false
 none-marked T i [] x h = refl
-none-marked T i (e ∷ t) x h = go (ltb 0 (wordAt T i 35 / 4)) (none-marked T (suc i) t x (λ j l. h (suc j) (omega arith)))
+none-marked T i (e ∷ t) x h = go (ltb 0 (clauseAt T i)) (none-marked T (suc i) t x (λ j l. h (suc j) (omega arith)))
   where
     go : (b : Bool) → any (same x) (marked-names T (suc i) t) ≡ false → any (same x) (cond b (e .name ∷ marked-names T (suc i) t) (marked-names T (suc i) t)) ≡ false
     go true r = λ k. h 0 (omega arith) k || r k
@@ -125,21 +125,21 @@ none-marked T i (e ∷ t) x h = go (ltb 0 (wordAt T i 35 / 4)) (none-marked T (s
 abbrev Distinct : List Entry → Type 0
 Distinct t = (i j : ℕ) → i < j → j < length t → same (getD t j nowhere .name) (getD t i nowhere .name) ≡ false
 
-marks-of : (T : List ℕ) (i : ℕ) (t : List Entry) → Distinct t → (j : ℕ) → j < length t → ltb 0 (wordAt T (i + j) 35 / 4) ≡ any (same (getD t j nowhere .name)) (marked-names T i t)
+marks-of : (T : List ℕ) (i : ℕ) (t : List Entry) → Distinct t → (j : ℕ) → j < length t → ltb 0 (clauseAt T (i + j)) ≡ any (same (getD t j nowhere .name)) (marked-names T i t)
 marks-of T i [] d j l = absurd (omega arith)
-marks-of T i (e ∷ t) d zero l = ap (λ (k : ℕ). ltb 0 (wordAt T k 35 / 4)) (omega arith) ∙ go (ltb 0 (wordAt T i 35 / 4)) (none-marked T (suc i) t (e .name) (λ j b. same-comm-false (getD t j nowhere .name) (e .name) (d 0 (suc j) (omega arith) (omega arith))))
+marks-of T i (e ∷ t) d zero l = ap (λ (k : ℕ). ltb 0 (clauseAt T k)) (omega arith) ∙ go (ltb 0 (clauseAt T i)) (none-marked T (suc i) t (e .name) (λ j b. same-comm-false (getD t j nowhere .name) (e .name) (d 0 (suc j) (omega arith) (omega arith))))
   where
     go : (b : Bool) → any (same (e .name)) (marked-names T (suc i) t) ≡ false → b ≡ any (same (e .name)) (cond b (e .name ∷ marked-names T (suc i) t) (marked-names T (suc i) t))
     go true r = sym (ap (λ (x : Bool). x || any (same (e .name)) (marked-names T (suc i) t)) (same-refl (e .name)))
     go false r = sym r
-marks-of T i (e ∷ t) d (suc j) l = ap (λ (k : ℕ). ltb 0 (wordAt T k 35 / 4)) (omega arith) ∙ marks-of T (suc i) t (λ p q b m. d (suc p) (suc q) (omega arith) (omega arith)) j (omega arith) ∙ go (ltb 0 (wordAt T i 35 / 4))
+marks-of T i (e ∷ t) d (suc j) l = ap (λ (k : ℕ). ltb 0 (clauseAt T k)) (omega arith) ∙ marks-of T (suc i) t (λ p q b m. d (suc p) (suc q) (omega arith) (omega arith)) j (omega arith) ∙ go (ltb 0 (clauseAt T i))
   where
     go : (b : Bool) → any (same (getD t j nowhere .name)) (marked-names T (suc i) t) ≡ any (same (getD t j nowhere .name)) (cond b (e .name ∷ marked-names T (suc i) t) (marked-names T (suc i) t))
     go true = sym (ap (λ (x : Bool). x || any (same (getD t j nowhere .name)) (marked-names T (suc i) t)) (d 0 (suc j) (omega arith) l))
     go false = refl
 
 pub some-marked : (T : List ℕ) → Standing T → (t : List Entry) × (xs : List (List ℕ)) × Marked T t xs
-some-marked T (t, tab) = (t, marked-names T 0 t, record { table = tab; claimed = λ i l. ap (λ (k : ℕ). ltb 0 (wordAt T k 35 / 4)) (omega arith) ∙ marks-of T 0 t (tab .distinct) i l })
+some-marked T (t, tab) = (t, marked-names T 0 t, record { table = tab; claimed = λ i l. ap (λ (k : ℕ). ltb 0 (clauseAt T k)) (omega arith) ∙ marks-of T 0 t (tab .distinct) i l })
 
 -- ---- what the code does
 

@@ -27,7 +27,7 @@ use Rattle.syntax.specs.Meaning.{led}
 use Rattle.lexer.specs.Places.{Lands, Goes, Any, passes, Spells, leadOf}
 use Rattle.lexer.specs.declared.Word.{Word}
 use Rattle.names.specs.declared.Named.{Named}
-use Rattle.names.specs.Table.{wordAt, variableOf, Tabled, Knows, Stands}
+use Rattle.names.specs.Table.{variableOf, Tabled, Knows, Stands, lengthAt, variableEntry, nameWords}
 use Rattle.names.proofs.Rows.{name-length}
 use Rattle.lexer.proofs.PlaceLaws.{goes-next, goes-end, goes-some, lands-next, lands-yield, pass-there, pass-not, pass-onward, expects-passes, lands-expect}
 use Rattle.lexer.proofs.Said.{sign-text}
@@ -333,5 +333,5 @@ due-known false g d most {r} e h z = let q : r ≡ max most 2 = h ∙ ap (λ (b 
 pub given-keeps : (T : List ℕ) (n : Named) (v most : ℕ) (T′ : List ℕ) (r : ℕ) → Given T n v most T′ r → Keeps T T′
 given-keeps T n v most T′ r g h = elim (ℕ-discrete r 0) [
   | yes e ↦ let q = g .gave e .variable h in (omega (arith, name-length T′ 16, name-length T 16, ap length q), q)
-  | no z ↦ subst (λ (X : List ℕ). (wordAt X 16 32 ≤ 32) × (variableOf X ≡ variableOf T)) (sym (g .left z)) (h, refl)
+  | no z ↦ subst (λ (X : List ℕ). (lengthAt X variableEntry ≤ nameWords) × (variableOf X ≡ variableOf T)) (sym (g .left z)) (h, refl)
 ]

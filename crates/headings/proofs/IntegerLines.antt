@@ -7,11 +7,11 @@ use native.Mathlib.Decide.{decLt, ℕ-discrete}
 use native.Mathlib.Omega.{arith}
 use borrow.Author.Tests.{leb-true, le-leb}
 use lib.Dec.{leb}
-use lib.ListN.{length, drop, getD, length-append}
+use lib.ListN.{length, drop, length-append}
 use Rattle.syntax.specs.Bytes.{bytes, choose, same, any, all}
 use Rattle.syntax.specs.Grammar.{number, Declared, one, array}
 use Rattle.syntax.specs.Known.{Entry, known, declaredName, declaredSize, takesSubscript, total, entries}
-use Rattle.names.specs.Table.{wordAt, variableOf, Tabled, Unclaimed, declared}
+use Rattle.names.specs.Table.{variableOf, Tabled, Unclaimed, declared, countIn, lengthAt, variableEntry, nameWords}
 use Rattle.names.proofs.Rows.{name-length}
 use Rattle.syntax.specs.Conditions.{different, within}
 use Rattle.syntax.proofs.Spelling.{both-true}
@@ -159,7 +159,7 @@ module _ (T s T′ : List ℕ) (c most : ℕ) (r : Item) (again : Bool) (names r
       go false true ea eb = let q : rank ≡ max most 0 = er ∙ (λ i. max most (order (not (ea i)) (eb i))) in (omega (arith, q, e), refl, refl)
       go false false ea eb = let q : rank ≡ max most 1 = er ∙ (λ i. max most (order (not (ea i)) (eb i))) in absurd (omega (arith, q, e))
 
-  module _ (d : Declared) (p : Declares s r d) (rep : Repeated T s (r .next) (part s (r .start) (r .stop)) again) (en : names ≡ min (getD T 612 0) 16) (ent : Enters T (part s (r .start) (r .stop)) c (r .size) (r .subscripted) rank T′ more) where
+  module _ (d : Declared) (p : Declares s r d) (rep : Repeated T s (r .next) (part s (r .start) (r .stop)) again) (en : names ≡ countIn T) (ent : Enters T (part s (r .start) (r .stop)) c (r .size) (r .subscripted) rank T′ more) where
     unknown : (t : List Entry) → Tabled T t → again ≡ false → known (declaredName d) t ≡ false
     unknown t tab b = go (known (declaredName d) t) refl
       where
@@ -192,7 +192,7 @@ module _ (T s T′ : List ℕ) (c most : ℕ) (r : Item) (again : Bool) (names r
     pub keeps : Keeps T T′
     keeps h = elim (ℕ-discrete rank 0) [
       | yes e ↦ let q = ent .added e .variable h in (omega (arith, name-length T′ 16, name-length T 16, ap length q), q)
-      | no n ↦ subst (λ (X : List ℕ). (wordAt X 16 32 ≤ 32) × (variableOf X ≡ variableOf T)) (sym (ent .left n)) (h, refl)
+      | no n ↦ subst (λ (X : List ℕ). (lengthAt X variableEntry ≤ nameWords) × (variableOf X ≡ variableOf T)) (sym (ent .left n)) (h, refl)
     ]
 
 -- ---- declared names one after the other

@@ -2,7 +2,7 @@
 use mathlib.Core.Path.{_≡_}
 use mathlib.Core.Bool.{Bool, true, cond, not, _&&_}
 use mathlib.Core.List.{List, [], _∷_, _++_, map}
-use Prim.Native.Nat.{ℕ, _-_, _/_, _≤_, _<_, max, min}
+use Prim.Native.Nat.{ℕ, _-_, _≤_, _<_, max, min}
 use lib.Dec.{ltb}
 use lib.ListN.{length, getD}
 use Rattle.rules.specs.Loop.{Class, shared, lastprivate, reduction}
@@ -12,7 +12,7 @@ use Rattle.syntax.specs.Known.{Entry, known, nowhere}
 use Rattle.syntax.specs.Conditions.{clauseNames, within}
 use Rattle.syntax.specs.Reader.{Reader, _>>=_, _>>_, yield, at, says, expects, wants, readName, readDigits, readClause, readClauses, peek-in, skip-in}
 use Rattle.lexer.specs.Places.{Goes}
-use Rattle.names.specs.Table.{wordAt, Tabled, classOf, class-to}
+use Rattle.names.specs.Table.{Tabled, classOf, class-to, clauseAt}
 use Rattle.headings.specs.Lists.{readSome, order}
 use Rattle.headings.specs.declared.Headed.{Headed}
 use Rattle.headings.specs.declared.Directed.{Directed}
@@ -55,7 +55,7 @@ clauses-to xs (clause c x ys ∷ cs) t = clauses-to (xs ++ (x ∷ ys)) cs (claim
 
 -- the names that are marked as standing in a clause are those among xs
 abbrev pub Claimed : List ℕ → List Entry → List (List ℕ) → Type 0
-Claimed T t xs = (i : ℕ) → i < length t → ltb 0 (wordAt T i 35 / 4) ≡ any (same (getD t i nowhere .name)) xs
+Claimed T t xs = (i : ℕ) → i < length t → ltb 0 (clauseAt T i) ≡ any (same (getD t i nowhere .name)) xs
 
 -- T′ stands for t′, of which the names xs are marked
 pub record Marked (T′ : List ℕ) (t′ : List Entry) (xs : List (List ℕ)) : Type 0 where

@@ -11,7 +11,7 @@ use Rattle.syntax.specs.Known.{Entry, known, signed, iterations}
 use Rattle.syntax.specs.Reader.{Reader, _>>=_, _>>_, yield, expects, readName, readLead, readDigits, peek-in, skip-in}
 use Rattle.lexer.specs.Lex.{part}
 use Rattle.lexer.specs.Places.{Goes, leadOf}
-use Rattle.names.specs.Table.{wordAt, variableOf, Tabled}
+use Rattle.names.specs.Table.{variableOf, Tabled, lengthAt, variableEntry, nameWords}
 use Rattle.headings.specs.Lists.{order}
 use Rattle.headings.specs.declared.Bounds.{Bounds}
 use Rattle.headings.specs.declared.Looped.{Looped}
@@ -64,7 +64,7 @@ pub record Looping (t : List Entry) (T′ : List ℕ) (r : Looped) (e : Ends) : 
   pub few : r .rank ≡ 0 → r .count ≤ 65535
   pub table : Tabled T′ t
   pub variable : variableOf T′ ≡ e .name
-  pub short : wordAt T′ 16 32 ≤ 32
+  pub short : lengthAt T′ variableEntry ≤ nameWords
 
 abbrev pub Do : List ℕ → List ℕ → ℕ → List ℕ → Looped → Type 0
 Do T s at T′ r = (t : List Entry) → Tabled T t → Goes (Looping t T′ r) s at readBounds (r .next)

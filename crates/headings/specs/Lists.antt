@@ -5,7 +5,7 @@ use mathlib.Core.Path.{_≡_}
 use Prim.Native.Nat.{ℕ, _≤_}
 use Rattle.syntax.specs.Reader.{Reader, _>>=_, yield, readMore, peek-in, skip-in}
 use Rattle.syntax.specs.Known.{Entry}
-use Rattle.names.specs.Table.{wordAt, variableOf, Tabled}
+use Rattle.names.specs.Table.{variableOf, Tabled, lengthAt, variableEntry, nameWords}
 
 -- one part, and further ones
 abbrev pub readSome : {A : Type 0} → ℕ → Reader (List ℕ) A → Reader (List ℕ) (List A)
@@ -20,7 +20,7 @@ order named small = cond named (cond small 0 1) 2
 
 -- the loop's variable stays as it is
 abbrev pub Keeps : List ℕ → List ℕ → Type 0
-Keeps T T′ = wordAt T 16 32 ≤ 32 → (wordAt T′ 16 32 ≤ 32) × (variableOf T′ ≡ variableOf T)
+Keeps T T′ = lengthAt T variableEntry ≤ nameWords → (lengthAt T′ variableEntry ≤ nameWords) × (variableOf T′ ≡ variableOf T)
 
 -- the table stands for some names
 abbrev pub Standing : List ℕ → Type 0

@@ -2,24 +2,21 @@
 // that it begins with. A reader's answer has the place after what it read, which lies past the line's end where the form is broken, and the
 // highest rank so far: 0 in order, 1 over a limit, 2 a wrong name.
 ghost use mathlib.Core.Path.{_≡_};
-ghost use mathlib.Core.List.{List, [], _∷_, _++_, map};
-ghost use mathlib.Core.Bool.{Bool, true, not, _&&_, _||_};
+ghost use mathlib.Core.List.{List};
+ghost use mathlib.Core.Bool.{true, not, _&&_, _||_};
 ghost use lib.Dec.{leb, eqb};
 ghost use Prim.Native.Nat.{ℕ, _≤_, _<_, _+_, _-_, _*_, max, min};
 ghost use lib.ListN.{length, drop, replicate};
 ghost use lib.Seq.{sets};
-ghost use lib.IntN.{ℤ};
-ghost use Rattle.syntax.specs.Bytes.{any, same};
-ghost use Rattle.syntax.specs.Known.{Entry, declaredName};
 ghost use mathlib.Core.Option.{Option};
 ghost use Rattle.int32.specs.Integers.{value};
 ghost use Rattle.syntax.specs.Grammar.{item};
 ghost use Rattle.syntax.specs.Meaning.{led};
 ghost use Rattle.syntax.specs.Known.{copiesOf, signed};
 ghost use Rattle.syntax.specs.Conditions.{within};
-ghost use Rattle.syntax.specs.Reader.{kind, says, readSigned, Parsed, peek-in, skip-in, readMore, readDeclared, readItem};
-ghost use Rattle.lexer.specs.Places.{Lands, Goes, leadOf};
-ghost use Rattle.names.specs.Table.{Tabled, variableOf, classOf};
+ghost use Rattle.syntax.specs.Reader.{kind, says, readSigned, peek-in, skip-in, readDeclared, readItem};
+ghost use Rattle.lexer.specs.Places.{Goes, leadOf};
+ghost use Rattle.names.specs.Table.{classOf, nameWords, mostNames};
 ghost use Rattle.headings.specs.Lists.{order, Keeps, Standing};
 ghost use Rattle.headings.specs.Data.{Itemized, Placed, Put, readCounted, Items, Given, Data};
 ghost use Rattle.headings.specs.Directive.{Claim, ClaimAt, Claims, readClass, ClauseAt, Clauses, Directive};
@@ -27,10 +24,6 @@ ghost use Rattle.headings.specs.DoLine.{Found, readBounds, raise, Do};
 ghost use Rattle.headings.specs.Integer.{Declares, Later, Repeated, Enters, fits, Entered, Integers};
 use int32::negate;
 use int32::of_word;
-use lexer::Number;
-use lexer::Sign;
-use lexer::Tok;
-use lexer::Word;
 use lexer::digits;
 use lexer::equal;
 use lexer::lead;
@@ -38,7 +31,10 @@ use lexer::name;
 use lexer::pass;
 use lexer::reads;
 use lexer::token;
+use names::MOST;
 use names::Named;
+use names::Table;
+use names::VARIABLE;
 use names::add;
 use names::classify;
 use names::count;
@@ -123,8 +119,8 @@ fn later(s: &[u8], at: usize, w: &[u8]) -> bool
 }
 
 // Whether a name was declared before, or is declared again in what is left of the list after a place.
-fn repeated(s: &[u8], at: usize, w: &[u8], table: &[u32; 613]) -> bool
-    requires { ⌜ (length (now s) ≤ 2048) × (at ≤ length (now s)) × (length (now w) ≤ 32) ⌝ }
+fn repeated(s: &[u8], at: usize, w: &[u8], table: &Table) -> bool
+    requires { ⌜ (length (now s) ≤ 2048) × (at ≤ length (now s)) × (length (now w) ≤ nameWords) ⌝ }
     ensures { λ r. ⌜ Repeated (now (table .entry)) (now (s .entry)) at (now (w .entry)) r ⌝ }
 {
     let n = find(table, w);
@@ -136,10 +132,10 @@ fn repeated(s: &[u8], at: usize, w: &[u8], table: &[u32; 613]) -> bool
 
 // The rank so far, with that of one declared name after as many cells and names.
 fn declared_rank(rank: u32, repeated: bool, cells: u32, size: u32, names: usize) -> u32
-    requires { ⌜ (cells ≤ 4097) × (size ≤ 2147483648) × (names ≤ 16) ⌝ }
+    requires { ⌜ (cells ≤ 4097) × (size ≤ 2147483648) × (names ≤ mostNames) ⌝ }
     ensures { λ r. ⌜ r ≡ max rank (order (not repeated) (fits names cells size)) ⌝ }
 {
-    if 16 <= names {
+    if MOST <= names {
         return ranked(rank, !repeated, false);
     }
     if size < 1 {
@@ -152,15 +148,8 @@ fn declared_rank(rank: u32, repeated: bool, cells: u32, size: u32, names: usize)
 }
 
 // A declared name in order is added to the table: the number of cells after it.
-fn enter(
-    table: &mut [u32; 613],
-    w: &[u8],
-    cells: u32,
-    size: u32,
-    subscripted: bool,
-    rank: u32,
-) -> u32
-    requires { ⌜ (length (now w) ≤ 32) × (cells ≤ 4097) × (size ≤ 2147483648) ⌝ }
+fn enter(table: &mut Table, w: &[u8], cells: u32, size: u32, subscripted: bool, rank: u32) -> u32
+    requires { ⌜ (length (now w) ≤ nameWords) × (cells ≤ 4097) × (size ≤ 2147483648) ⌝ }
     ensures { λ r. ⌜ Enters (now (table .entry)) (now (w .entry)) cells size subscripted rank (now (table .exit)) r ⌝ }
 {
     if rank != 0 {
@@ -178,7 +167,7 @@ pub struct Listed {
 }
 
 // A declared name after as many cells: in order, it is added to the table.
-fn integer(s: &[u8], at: usize, table: &mut [u32; 613], cells: u32, rank: u32) -> Listed
+fn integer(s: &[u8], at: usize, table: &mut Table, cells: u32, rank: u32) -> Listed
     requires { ⌜ (length (now s) ≤ 2048) × (cells ≤ 4096) ⌝ }
     ensures { λ r. ⌜ Goes (Entered (now (table .entry)) (now (s .entry)) cells rank (now (table .exit)) r) (now (s .entry)) at (readDeclared peek-in skip-in) (r .next) ⌝ }
     ensures { λ r. ⌜ Keeps (now (table .entry)) (now (table .exit)) × (r .cells ≤ 4096) ⌝ }
@@ -202,7 +191,7 @@ fn integer(s: &[u8], at: usize, table: &mut [u32; 613], cells: u32, rank: u32) -
 }
 
 // Declared names.
-pub fn integers(s: &[u8], at: usize, table: &mut [u32; 613], cells: u32, rank: u32) -> Listed
+pub fn integers(s: &[u8], at: usize, table: &mut Table, cells: u32, rank: u32) -> Listed
     requires { ⌜ (length (now s) ≤ 2048) × (cells ≤ 4096) ⌝ }
     ensures { λ r. ⌜ Integers (now (table .entry)) (now (s .entry)) at cells rank (now (table .exit)) r ⌝ }
     ensures { λ r. ⌜ Keeps (now (table .entry)) (now (table .exit)) × (r .cells ≤ 4096) ⌝ }
@@ -390,8 +379,8 @@ fn due(n: Named, values: u32) -> bool
 }
 
 // Data in order is given to its name: the rank with that of the name.
-fn give_data(table: &mut [u32; 613], n: Named, values: u32, rank: u32) -> u32
-    requires { ⌜ (n .known ≡ true → n .index < 16) ⌝ }
+fn give_data(table: &mut Table, n: Named, values: u32, rank: u32) -> u32
+    requires { ⌜ (n .known ≡ true → n .index < mostNames) ⌝ }
     ensures { λ r. ⌜ Given (now (table .entry)) n values rank (now (table .exit)) r ⌝ }
 {
     let index = n.index;
@@ -404,7 +393,7 @@ fn give_data(table: &mut [u32; 613], n: Named, values: u32, rank: u32) -> u32
 }
 
 // A data line, after its first word.
-pub fn data_values(s: &[u8], at: usize, table: &mut [u32; 613], cells: &mut [i32]) -> Headed
+pub fn data_values(s: &[u8], at: usize, table: &mut Table, cells: &mut [i32]) -> Headed
     requires { ⌜ (length (now s) ≤ 2048) × (4096 ≤ length (now cells)) × Standing (now table) ⌝ }
     ensures { λ r. ⌜ Data (now (table .entry)) (now (cells .entry)) (now (s .entry)) at (now (table .exit)) (now (cells .exit)) r ⌝ }
     ensures { λ r. ⌜ Keeps (now (table .entry)) (now (table .exit)) × (length (now (cells .exit)) ≡ length (now (cells .entry))) ⌝ }
@@ -429,8 +418,8 @@ pub fn data_values(s: &[u8], at: usize, table: &mut [u32; 613], cells: &mut [i32
 // ---- 3. the directive
 
 // A name in a clause: the rank with that of the name, which is declared and stands in no clause before.
-fn claim(table: &mut [u32; 613], w: &[u8], clause: u32, rank: u32) -> u32
-    requires { ⌜ (length (now w) ≤ 32) × (1 ≤ clause) × (clause ≤ 3) × Standing (now table) ⌝ }
+fn claim(table: &mut Table, w: &[u8], clause: u32, rank: u32) -> u32
+    requires { ⌜ (length (now w) ≤ nameWords) × (1 ≤ clause) × (clause ≤ 3) × Standing (now table) ⌝ }
     ensures { λ r. ⌜ Claim (now (table .entry)) (now (w .entry)) clause rank (now (table .exit)) r ⌝ }
     ensures { λ _. ⌜ Keeps (now (table .entry)) (now (table .exit)) × Standing (now (table .exit)) ⌝ }
 {
@@ -447,7 +436,7 @@ fn claim(table: &mut [u32; 613], w: &[u8], clause: u32, rank: u32) -> u32
 }
 
 // The name at a place, in a clause.
-fn claim_at(s: &[u8], at: usize, table: &mut [u32; 613], clause: u32, rank: u32) -> Headed
+fn claim_at(s: &[u8], at: usize, table: &mut Table, clause: u32, rank: u32) -> Headed
     requires { ⌜ (length (now s) ≤ 2048) × (1 ≤ clause) × (clause ≤ 3) × Standing (now table) ⌝ }
     ensures { λ r. ⌜ ClaimAt (now (table .entry)) (now (s .entry)) at clause rank (now (table .exit)) r ⌝ }
     ensures { λ _. ⌜ Keeps (now (table .entry)) (now (table .exit)) × Standing (now (table .exit)) ⌝ }
@@ -465,7 +454,7 @@ fn claim_at(s: &[u8], at: usize, table: &mut [u32; 613], clause: u32, rank: u32)
 }
 
 // The names of a clause.
-fn claims(s: &[u8], at: usize, table: &mut [u32; 613], clause: u32, rank: u32) -> Headed
+fn claims(s: &[u8], at: usize, table: &mut Table, clause: u32, rank: u32) -> Headed
     requires { ⌜ (length (now s) ≤ 2048) × (1 ≤ clause) × (clause ≤ 3) × Standing (now table) ⌝ }
     ensures { λ r. ⌜ Claims (now (table .entry)) (now (s .entry)) at clause rank (now (table .exit)) r ⌝ }
     ensures { λ _. ⌜ Keeps (now (table .entry)) (now (table .exit)) × Standing (now (table .exit)) ⌝ }
@@ -512,7 +501,7 @@ fn class_at(s: &[u8], at: usize) -> Class
 }
 
 // A clause.
-fn clause_at(s: &[u8], at: usize, table: &mut [u32; 613], rank: u32) -> Headed
+fn clause_at(s: &[u8], at: usize, table: &mut Table, rank: u32) -> Headed
     requires { ⌜ (length (now s) ≤ 2048) × Standing (now table) ⌝ }
     ensures { λ r. ⌜ ClauseAt (now (table .entry)) (now (s .entry)) at rank (now (table .exit)) r ⌝ }
     ensures { λ _. ⌜ Keeps (now (table .entry)) (now (table .exit)) × Standing (now (table .exit)) ⌝ }
@@ -541,7 +530,7 @@ fn clauses_end(s: &[u8], at: usize) -> bool
 }
 
 // Clauses up to `num_threads` or the line's end.
-fn clauses(s: &[u8], at: usize, table: &mut [u32; 613], rank: u32) -> Headed
+fn clauses(s: &[u8], at: usize, table: &mut Table, rank: u32) -> Headed
     requires { ⌜ (length (now s) ≤ 2048) × Standing (now table) ⌝ }
     ensures { λ r. ⌜ Clauses (now (table .entry)) (now (s .entry)) at rank (now (table .exit)) r ⌝ }
     ensures { λ _. ⌜ Keeps (now (table .entry)) (now (table .exit)) × Standing (now (table .exit)) ⌝ }
@@ -580,7 +569,7 @@ fn few(processors: u32) -> bool
 }
 
 // The directive, after `parallel do`.
-pub fn directive(s: &[u8], at: usize, table: &mut [u32; 613]) -> Directed
+pub fn directive(s: &[u8], at: usize, table: &mut Table) -> Directed
     requires { ⌜ (length (now s) ≤ 2048) × Standing (now table) ⌝ }
     ensures { λ r. ⌜ Directive (now (table .entry)) (now (s .entry)) at (now (table .exit)) r ⌝ }
     ensures { λ _. ⌜ Keeps (now (table .entry)) (now (table .exit)) ⌝ }
@@ -665,7 +654,7 @@ pub struct Looped {
 }
 
 // The loop's line, after its first word: its variable is written into the table.
-pub fn do_line(s: &[u8], at: usize, table: &mut [u32; 613]) -> Looped
+pub fn do_line(s: &[u8], at: usize, table: &mut Table) -> Looped
     requires { ⌜ length (now s) ≤ 2048 ⌝ }
     ensures { λ r. ⌜ Do (now (table .entry)) (now (s .entry)) at (now (table .exit)) r ⌝ }
 {
@@ -685,7 +674,7 @@ pub fn do_line(s: &[u8], at: usize, table: &mut [u32; 613]) -> Looped
     let v = find(table, &s[a..e]);
     let rank = ranked(0, !v.known, limited(b.first, b.last));
     let from = item_value(b.lead, b.first);
-    put_name(table, 16, &s[a..e]);
+    put_name(table, VARIABLE, &s[a..e]);
     Looped {
         next,
         rank: ranked(rank, true, count <= 65535),

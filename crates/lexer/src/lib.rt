@@ -2,9 +2,8 @@
 // token is read at a place of it.
 ghost use mathlib.Core.Path.{_≡_};
 ghost use mathlib.Core.List.{map};
-ghost use mathlib.Core.Bool.{Bool};
 ghost use Prim.Native.Nat.{_≤_, _<_, _+_, min};
-ghost use lib.ListN.{length, drop, take};
+ghost use lib.ListN.{length, drop};
 ghost use lib.Seq.{sets};
 ghost use Rattle.syntax.specs.Bytes.{lower as lowerOf, same, starts as startsWith, any, reserved as reservedWords, word-of, kindOf, sign-size, run, letter as isLetter, digit as isDigit, in-word as inWord};
 ghost use Rattle.syntax.specs.Grammar.{number as numberOf};
@@ -311,7 +310,7 @@ pub struct Word {
     pub start: usize,
 }
 
-// Digits: the number that they write, up to 2^31, and the place after them.
+// Digits: the number that they write, up to 2^31, and the place after them, which lies past the line's end where there are none.
 pub struct Number {
     pub next: usize,
     pub number: u32,
@@ -323,6 +322,7 @@ pub struct Sign {
     pub sign: u32,
 }
 
+// The name at a place. Free: `start` where there is none.
 pub fn name(s: &[u8], at: usize) -> Word
     requires { ⌜ length (now s) ≤ 2048 ⌝ }
     ensures { λ r. ⌜ Goes (Spells (now (s .entry)) r) (now (s .entry)) at (readName peek-in skip-in) (r .next) ⌝ }
@@ -349,6 +349,7 @@ pub fn name(s: &[u8], at: usize) -> Word
     }
 }
 
+// The digits at a place. Free: `number` where there are none.
 pub fn digits(s: &[u8], at: usize) -> Number
     requires { ⌜ length (now s) ≤ 2048 ⌝ }
     ensures { λ r. ⌜ Goes (λ d. r .number ≡ min (numberOf d) 2147483648) (now (s .entry)) at (readDigits peek-in skip-in) (r .next) ⌝ }
@@ -376,6 +377,7 @@ pub fn digits(s: &[u8], at: usize) -> Number
     }
 }
 
+// The sign at a place, or none. Free: `sign` where the place lies past the line's end.
 pub fn lead(s: &[u8], at: usize) -> Sign
     requires { ⌜ length (now s) ≤ 2048 ⌝ }
     ensures { λ r. ⌜ Goes (λ l. leadOf (r .sign) ≡ l) (now (s .entry)) at (readLead peek-in skip-in) (r .next) ⌝ }

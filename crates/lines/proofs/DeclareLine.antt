@@ -1,33 +1,31 @@
 -- An integer line.
 use mathlib.Core.Path.{_≡_, refl, sym, _∙_, ap, subst}
-use mathlib.Core.Bool.{Bool, true, false, cond, not, _&&_, and-true}
-use mathlib.Core.List.{List, [], _∷_, _++_, map, append-assoc, append-nil}
-use Prim.Native.Nat.{ℕ, zero, suc, _+_, _-_, _*_, _≤_, _<_, max}
+use mathlib.Core.Bool.{Bool, true, false, _&&_}
+use mathlib.Core.List.{List, [], _∷_, _++_, append-assoc}
+use Prim.Native.Nat.{ℕ, zero, suc, _+_, _-_, _*_, _≤_}
 use native.Mathlib.Omega.{arith}
 use borrow.Author.Tests.{le-leb, leb-true}
 use lib.Dec.{leb}
 use lib.ListN.{length, drop, replicate, length-append}
 use lib.IntN.{ℤ, pos}
-use Rattle.syntax.specs.Bytes.{bytes, all, any}
+use Rattle.syntax.specs.Bytes.{bytes, all}
 use Rattle.syntax.specs.Grammar.{number, Declared, one, array, Line, declare, close}
-use Rattle.syntax.specs.Known.{Entry, known, declaredName, declaredSize, total, entries, cells, State, heading, after}
-use Rattle.syntax.specs.Conditions.{concat, inDeclared, inLine, rightly, small, within, names, limits, fits, follows, singly, bounds}
+use Rattle.syntax.specs.Known.{Entry, declaredSize, total, entries, cells, State, heading, after}
+use Rattle.syntax.specs.Conditions.{concat, inDeclared, inLine, rightly, small, within, names, limits, follows, singly}
 use Rattle.syntax.specs.Text.{initial, loaded}
-use Rattle.syntax.specs.Reader.{Parsed, broken, done, Reader, next, finish, wants, readMore, readDeclared, readDeclare, peek-in, skip-in}
+use Rattle.syntax.specs.Reader.{Parsed, broken, done, next, finish, wants, readMore, readDeclared, readDeclare, peek-in, skip-in}
 use Rattle.syntax.proofs.Spelling.{both-true}
-use Rattle.syntax.proofs.TestLaws.{both-hold, all-append}
-use Rattle.syntax.proofs.Sane.{Sane}
+use Rattle.syntax.proofs.TestLaws.{both-hold}
 use Rattle.code.specs.Instr.{words}
 use Rattle.code.specs.Compile.{codeOf, codeLines, codeOpens, codeStmts, places, placesOf}
-use Rattle.lexer.specs.Places.{Lands, Goes, Any, passes}
-use Rattle.names.specs.Table.{variableOf, Tabled, Unclaimed}
+use Rattle.lexer.specs.Places.{Goes, Any, passes}
+use Rattle.names.specs.Table.{Tabled, Unclaimed}
 use Rattle.headings.specs.Lists.{readSome, order, Keeps}
 use Rattle.headings.specs.Integer.{apart, fit, Enlists, Integers}
 use Rattle.headings.specs.declared.Listed.{Listed}
 use Rattle.headings.proofs.Lists.{Nonempty, some-nonempty}
 use Rattle.lines.specs.declared.Progress.{Progress}
 use Rattle.lines.specs.Progress.{Opened, Represents, numberOf, numbered, whole, Concludes, Numbers}
-use Rattle.lines.specs.Lines.{Takes}
 use Rattle.lines.proofs.Verdicts.{ending, concludes-lands, concludes-word, number-by, numbered-zero, follows-most}
 
 -- the syntax of declared names

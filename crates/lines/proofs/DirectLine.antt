@@ -3,27 +3,27 @@ use mathlib.Core.Path.{_≡_, refl, sym, _∙_, ap, subst}
 use mathlib.Core.Bool.{Bool, true, false, cond, not, _&&_, _||_, and-true, or-false}
 use mathlib.Core.List.{List, [], _∷_, _++_, map}
 use mathlib.Core.Option.{Option, none, some}
-use Prim.Native.Nat.{ℕ, zero, suc, _+_, _-_, _*_, _/_, _≤_, _<_, min, max}
+use Prim.Native.Nat.{ℕ, suc, _+_, _-_, _*_, _≤_, _<_}
 use native.Mathlib.Omega.{arith}
-use borrow.Author.Tests.{le-leb, leb-true, not-true, le-ltb}
+use borrow.Author.Tests.{le-leb, leb-true, not-true}
 use lib.Dec.{leb, ltb}
 use lib.ListN.{length, drop, getD, replicate}
 use lib.IntN.{ℤ, pos}
 use Rattle.rules.specs.Loop.{Class, shared}
 use Rattle.syntax.specs.Bytes.{bytes, all, any, same}
 use Rattle.syntax.specs.Grammar.{number, Clause, clause, Line, direct}
-use Rattle.syntax.specs.Known.{Entry, nowhere, known, class-in, classify, cells, State, heading, after}
-use Rattle.syntax.specs.Conditions.{digits, inLine, different, clauseNames, rightly, small, within, names, limits, fits, follows, singly, bounds}
+use Rattle.syntax.specs.Known.{Entry, nowhere, known, class-in, classify, cells, State, after}
+use Rattle.syntax.specs.Conditions.{inLine, different, clauseNames, within, names, limits, follows}
 use Rattle.syntax.specs.Text.{initial, loaded}
 use Rattle.syntax.specs.Reader.{Parsed, broken, done, Reader, next, finish, expects, wants, readDigits, readClauses, peek-in, skip-in}
 use Rattle.syntax.proofs.Spelling.{both-true, same-true}
 use Rattle.syntax.proofs.TestLaws.{both-hold, neither-holds, any-append, same-refl, same-comm-false}
 use Rattle.syntax.proofs.TableLines.{classify-cells}
 use Rattle.code.specs.Instr.{words}
-use Rattle.lexer.specs.Places.{Lands, Goes, Any, passes}
-use Rattle.names.specs.Table.{wordAt, classOf, Tabled, Unclaimed, class-to}
+use Rattle.lexer.specs.Places.{Goes, Any, passes}
+use Rattle.names.specs.Table.{classOf, Tabled, Unclaimed, class-to}
 use Rattle.headings.specs.Lists.{order, Keeps}
-use Rattle.headings.specs.Directive.{free, frees, claim-to, claims-to, clauses-to, Claimed, Marked, readDirected, Directing, Directive}
+use Rattle.headings.specs.Directive.{free, frees, claim-to, claims-to, clauses-to, Marked, readDirected, Directing, Directive}
 use Rattle.headings.specs.declared.Directed.{Directed}
 use Rattle.headings.proofs.IntegerLines.{same-truth}
 use Rattle.headings.proofs.ClauseLines.{claim-names, claims-names, frees-known, frees-append}

@@ -1,30 +1,28 @@
 -- The lines after `do` that emit no expression: `else`, `end if`, `end do` and the closing directive.
 use mathlib.Core.Path.{_≡_, refl, sym, _∙_, ap, subst, subst₂}
-use mathlib.Core.Bool.{Bool, true, false, cond, not, _&&_}
+use mathlib.Core.Bool.{Bool, true, false, cond, not}
 use mathlib.Core.List.{List, [], _∷_, _++_, append-assoc}
 use mathlib.Core.Option.{Option, none, some}
 use Prim.Native.Nat.{ℕ, zero, suc, _+_, _-_, _*_, _/_, _%_, _≤_, _<_}
-use Prim.Native.String.{String}
 use native.Mathlib.Omega.{arith}
 use lib.ListN.{length, getD, set, take, drop, length-set, length-append}
-use lib.Seq.{take-set-lt, take-set-le, take-suc-set, getD-take, getD-set-same, getD-set-other, length-take-le}
+use lib.Seq.{take-set-lt, take-suc-set, getD-take, getD-set-same, getD-set-other}
 use lib.IntN.{ℤ}
 use Rattle.int32.specs.declared.Relation.{Relation}
 use Rattle.int32.specs.declared.Relation.the-variants.{Equal, Unequal, Less, AtMost, Greater, AtLeast}
 use Rattle.syntax.specs.Bytes.{bytes, choose}
 use Rattle.syntax.specs.Grammar.{Line, otherwise, end-if, inside, end-do, close}
 use Rattle.syntax.specs.Known.{Stmts, stop, Open, turned, closed, State, stating, otherwise-after, end-if-after, after}
-use Rattle.syntax.specs.Conditions.{inLine, isGiven, names, limits, fits, else-fits, none-open, follows, stands}
-use Rattle.syntax.specs.Reader.{Parsed, broken, done, Reader, next, kind, finish, expects, wants, peek-in, skip-in}
-use Rattle.syntax.proofs.TestLaws.{both-hold}
-use Rattle.code.specs.Instr.{Instr, jump-unless, jump, relation-number, operation, argument, words}
+use Rattle.syntax.specs.Conditions.{inLine, isGiven, names, limits, fits, else-fits, none-open}
+use Rattle.syntax.specs.Reader.{Parsed, broken, done, next, finish, expects, wants, peek-in, skip-in}
+use Rattle.code.specs.Instr.{jump, relation-number, argument, words}
 use Rattle.code.specs.Compile.{codeStmts, codeOf, placesOf}
 use Rattle.code.proofs.Words.{words-append, words-length, words-getD}
 use Rattle.code.proofs.OpenJumps.{InstrAt, instr-length, instr-there, jumpOf, words-fill}
-use Rattle.code.proofs.Emitted.{Emits, emits-end-do, emits-close, Innermost, end-if-innermost, otherwise-innermost, jump-at, emits-otherwise, emits-end-if}
-use Rattle.lexer.specs.Places.{Lands, Goes, Any, passes}
+use Rattle.code.proofs.Emitted.{emits-end-do, emits-close, Innermost, jump-at, emits-otherwise, emits-end-if}
+use Rattle.lexer.specs.Places.{Goes, Any, passes}
 use Rattle.lines.specs.declared.Progress.{Progress}
-use Rattle.lines.specs.Progress.{Opened, Represents, Underway, moved, numberOf, numbered, whole, Concludes, Numbers}
+use Rattle.lines.specs.Progress.{Opened, Represents, Underway, moved, numberOf, whole, Concludes, Numbers}
 use Rattle.lines.specs.Lines.{readClosing}
 use Rattle.lines.proofs.Verdicts.{concludes-lands, concludes-word, concludes-sign}
 

@@ -1,32 +1,31 @@
 -- A data line.
 use mathlib.Core.Path.{_≡_, refl, sym, _∙_, ap, subst}
 use mathlib.Core.Bool.{Bool, true, false, cond, not, _&&_, _||_, and-true}
-use mathlib.Core.List.{List, [], _∷_, _++_, map, append-assoc, append-nil}
-use mathlib.Core.Logic.{_⊎_, inl, inr}
-use mathlib.Core.Option.{Option, none, some}
-use Prim.Native.Nat.{ℕ, zero, suc, _+_, _-_, _*_, _≤_, _<_, max}
+use mathlib.Core.List.{List, [], _∷_, _++_, map}
+use mathlib.Core.Option.{none, some}
+use Prim.Native.Nat.{ℕ, zero, suc, _+_, _-_, _*_, _≤_}
 use native.Mathlib.Nat.{zero-add, suc-add}
 use native.Mathlib.Omega.{arith}
 use borrow.Author.Tests.{eqb-true, not-true}
-use lib.Dec.{ltb, eqb}
+use lib.Dec.{ltb}
 use lib.ListN.{length, drop, set, replicate, length-append, length-map, length-replicate, length-set}
 use lib.IntN.{ℤ, pos}
 use lib.Seq.{sets, set-append-left}
 use Rattle.syntax.specs.Bytes.{bytes, choose, all, any, same}
 use Rattle.syntax.specs.Grammar.{number, Item, item, Line, give, close}
-use Rattle.syntax.specs.Known.{Entry, named, known, find, give-to, copies, copiesOf, signed, values, total, cells, State, heading, after}
-use Rattle.syntax.specs.Conditions.{concat, inItem, inLine, isGiven, different, rightly, small, names, limits, fits, follows, singly, bounds}
+use Rattle.syntax.specs.Known.{Entry, named, known, find, give-to, copies, copiesOf, signed, values, total, cells, State, after}
+use Rattle.syntax.specs.Conditions.{concat, inItem, inLine, isGiven, different, rightly, small, names, limits, follows, singly}
 use Rattle.syntax.specs.Text.{initial, loaded}
 use Rattle.syntax.specs.Reader.{Parsed, broken, done, Reader, next, sees, finish, expects, wants, readName, readMore, readItem, readGive, peek-in, skip-in}
 use Rattle.syntax.proofs.Spelling.{both-true, same-true}
 use Rattle.syntax.proofs.TestLaws.{Each, neither-holds}
-use Rattle.syntax.proofs.Table.{Laid, SaneEntry, SaneTable, find-ends}
+use Rattle.syntax.proofs.Table.{Laid, SaneEntry, find-ends}
 use Rattle.syntax.proofs.Loaded.{initial-length, loaded-length}
 use Rattle.syntax.proofs.TableLines.{give-cells}
 use Rattle.syntax.proofs.Sane.{Sane}
 use Rattle.code.specs.Instr.{words}
 use Rattle.lexer.specs.Places.{Lands, Goes, Any, passes}
-use Rattle.names.specs.Table.{Tabled, Unclaimed}
+use Rattle.names.specs.Table.{Unclaimed}
 use Rattle.headings.specs.Lists.{readSome, order, Keeps}
 use Rattle.headings.specs.Data.{counted, readCounted, readData, may-give, Gives, Data as DataLine}
 use Rattle.headings.specs.declared.Headed.{Headed}

@@ -1,23 +1,22 @@
 -- The loop's line.
 use mathlib.Core.Path.{_≡_, refl, sym, _∙_, ap, subst}
-use mathlib.Core.Bool.{Bool, true, false, cond, not, _&&_, and-true}
-use mathlib.Core.List.{List, [], _∷_, _++_}
-use Prim.Native.Nat.{ℕ, zero, suc, _+_, _-_, _*_, _≤_, _<_}
+use mathlib.Core.Bool.{Bool, not, _&&_, and-true}
+use mathlib.Core.List.{List, []}
+use Prim.Native.Nat.{ℕ}
 use native.Mathlib.Omega.{arith}
 use lib.Dec.{leb}
 use lib.ListN.{length, drop}
-use lib.IntN.{ℤ, pos}
-use Rattle.syntax.specs.Bytes.{bytes, all, any}
+use lib.IntN.{ℤ}
+use Rattle.syntax.specs.Bytes.{bytes}
 use Rattle.syntax.specs.Grammar.{number, Lead, Line, loop}
-use Rattle.syntax.specs.Known.{State, known, signed, iterations, after}
-use Rattle.syntax.specs.Conditions.{digits, inLine, rightly, small, names, limits, fits, follows, singly, bounds}
-use Rattle.syntax.specs.Reader.{Parsed, broken, done, Reader, next, finish, expects, wants, readName, readLead, readDigits, readLoop, peek-in, skip-in}
+use Rattle.syntax.specs.Known.{State, known, after}
+use Rattle.syntax.specs.Conditions.{inLine, names, limits}
+use Rattle.syntax.specs.Reader.{Parsed, broken, done, next, finish, expects, wants, readName, readLead, readDigits, readLoop, peek-in, skip-in}
 use Rattle.code.specs.Instr.{words}
 use Rattle.code.proofs.Emitted.{emits-loop}
-use Rattle.lexer.specs.Places.{Lands, Goes, Any, passes}
-use Rattle.names.specs.Table.{Tabled}
+use Rattle.lexer.specs.Places.{Goes, Any, passes}
 use Rattle.headings.specs.Lists.{order}
-use Rattle.headings.specs.DoLine.{Ends, readBounds, from-of, count-of, Looping, Do}
+use Rattle.headings.specs.DoLine.{Ends, readBounds, count-of, Looping, Do}
 use Rattle.headings.specs.declared.Looped.{Looped}
 use Rattle.lines.specs.declared.Progress.{Progress}
 use Rattle.lines.specs.Progress.{Opened, Represents, numberOf, numbered, whole, Concludes, Numbers}

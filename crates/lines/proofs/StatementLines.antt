@@ -6,20 +6,20 @@ use Prim.Native.Nat.{ℕ, zero, suc, _+_, _-_, _*_, _≤_, _<_, max}
 use native.Mathlib.Omega.{arith}
 use borrow.Author.Tests.{le-leb, lt-leb}
 use lib.Dec.{leb}
-use lib.ListN.{length, getD, set, take, drop, length-set, length-append}
+use lib.ListN.{length, set, take, drop, length-set, length-append}
 use lib.Seq.{getD-set-same}
 use lib.IntN.{ℤ}
 use Rattle.int32.specs.declared.Relation.{Relation}
 use Rattle.syntax.specs.Bytes.{all, same}
 use Rattle.syntax.specs.Grammar.{Expr, Ref, assign, when, Line, inside}
-use Rattle.syntax.specs.Known.{Entry, Stmts, stop, set as assignment, then-do, Open, opened, State, stating, after}
-use Rattle.syntax.specs.Conditions.{Mention, inLine, rightly, small, refName, singly, bounds, names, limits, fits}
+use Rattle.syntax.specs.Known.{Entry, stop, set as assignment, then-do, Open, opened, State, after}
+use Rattle.syntax.specs.Conditions.{Mention, inLine, rightly, small, refName, names, limits}
 use Rattle.syntax.specs.Reader.{Parsed, broken, done, next, finish, readAssign, readWhen, peek-in, skip-in}
 use Rattle.code.specs.Instr.{Instr, words}
 use Rattle.code.specs.Compile.{codeAssign, codeIf, codeOf, placesOf}
 use Rattle.code.proofs.Words.{words-append}
 use Rattle.code.proofs.Emitted.{emits-assign, emits-when}
-use Rattle.names.specs.Table.{variableOf, Tabled}
+use Rattle.names.specs.Table.{variableOf}
 use Rattle.expressions.specs.Answer.{rank-of, worst}
 use Rattle.expressions.specs.declared.Got.{Got}
 use Rattle.expressions.specs.declared.Got.the-variants.{Broken, Done}

@@ -1,5 +1,5 @@
 -- What lines the readers yield.
-use mathlib.Core.List.{List, _∷_}
+use mathlib.Core.List.{List}
 use Prim.Native.Nat.{ℕ}
 use Rattle.int32.specs.declared.Relation.{Relation}
 use Rattle.syntax.specs.Grammar.{Lead, Expr, Ref, Declared, Item, Clause, assign, when, Line, declare, give, direct, loop, inside}

@@ -1,6 +1,6 @@
 -- How far a text was read: what the code holds, and what it stands for.
 use mathlib.Core.Path.{_≡_}
-use mathlib.Core.Bool.{Bool, true, false, cond, not}
+use mathlib.Core.Bool.{cond, not}
 use mathlib.Core.List.{List, [], _∷_, _++_}
 use Prim.Native.Nat.{ℕ, zero, suc, _+_, _-_, _*_, _≤_, _<_}
 use lib.Dec.{eqb}
@@ -8,13 +8,13 @@ use lib.ListN.{length, getD, take, drop, replicate}
 use lib.IntN.{ℤ, pos}
 use Rattle.syntax.specs.Bytes.{choose}
 use Rattle.syntax.specs.Grammar.{Line}
-use Rattle.syntax.specs.Known.{Entry, Open, State, cells, after}
+use Rattle.syntax.specs.Known.{Open, State, cells}
 use Rattle.syntax.specs.Conditions.{isGiven, names, limits, fits}
 use Rattle.syntax.specs.Text.{loaded}
 use Rattle.syntax.specs.Reader.{Parsed, broken, done, Reader, _>>=_, _>>_, yield, kind, finish, peek-in, skip-in}
 use Rattle.code.specs.Instr.{words}
 use Rattle.code.specs.Compile.{codeOf, placesOf}
-use Rattle.names.specs.Table.{wordAt, variableOf, Tabled, Unclaimed}
+use Rattle.names.specs.Table.{variableOf, Tabled, Unclaimed, lengthAt, variableEntry, nameWords}
 use Rattle.lines.specs.declared.Progress.{Progress}
 
 -- ---- what was read
@@ -33,7 +33,7 @@ pub record Represents (p : Progress) (T : List ℕ) (I : List ℤ) (C O : List �
   pub stage : p .stage ≡ s .stage
   pub table : Tabled T (s .table)
   pub variable : variableOf T ≡ s .variable
-  pub short : wordAt T 16 32 ≤ 32
+  pub short : lengthAt T variableEntry ≤ nameWords
   pub unclaimed : s .stage < 3 → Unclaimed T (length (s .table))
   pub nameless : s .stage < 4 → s .variable ≡ []
   pub cells-so-far : p .cells ≡ cells (s .table)

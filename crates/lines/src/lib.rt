@@ -8,21 +8,19 @@ ghost use lib.ListN.{length, getD, set};
 ghost use lib.IntN.{ℤ};
 ghost use Rattle.syntax.specs.Grammar.{otherwise, end-if, inside, end-do};
 ghost use Rattle.syntax.specs.Reader.{readDeclare, readGive, readLoop, readAssign, readWhen, peek-in, skip-in};
+ghost use Rattle.code.specs.Instr.{operation, jump};
 ghost use Rattle.headings.specs.Lists.{Standing};
 ghost use Rattle.lines.specs.Lines.{Takes, readOpening, readClosing, reads};
 ghost use Rattle.lines.specs.Progress.{Numbers, moved, Underway};
+use code::JUMP;
 use expressions::Got;
-use headings::Directed;
-use headings::Headed;
-use headings::Listed;
-use headings::Looped;
 use headings::data_values;
 use headings::directive;
 use headings::do_line;
 use headings::integers;
-use lexer::Tok;
 use lexer::pass;
 use lexer::token;
+use names::Table;
 use statements::assignment;
 use statements::condition;
 
@@ -58,7 +56,7 @@ fn number_of(s: &[u8], next: usize, rank: u32) -> u32
 
 // ---- 1. integer
 
-pub fn integer_line(s: &[u8], p: Progress, table: &mut [u32; 613]) -> Progress
+pub fn integer_line(s: &[u8], p: Progress, table: &mut Table) -> Progress
     requires { ⌜ (length (now s) ≤ 2048) × (p .cells ≤ 4096) ⌝ }
     ensures { λ r. ⌜ ((k : ℕ) (I : List ℤ) (C O : List ℕ) → Takes (readDeclare peek-in skip-in) 1 (now (s .entry)) k p (now (table .entry)) I C O r (now (table .exit)) I C O) ⌝ }
 {
@@ -78,7 +76,7 @@ pub fn integer_line(s: &[u8], p: Progress, table: &mut [u32; 613]) -> Progress
 
 // ---- 2. data
 
-pub fn data_line(s: &[u8], p: Progress, table: &mut [u32; 613], initial: &mut [i32]) -> Progress
+pub fn data_line(s: &[u8], p: Progress, table: &mut Table, initial: &mut [i32]) -> Progress
     requires { ⌜ (length (now s) ≤ 2048) × (length (now initial) ≡ 4096) × Standing (now table) ⌝ }
     ensures { λ r. ⌜ ((k : ℕ) (C O : List ℕ) → Takes (readGive peek-in skip-in) 2 (now (s .entry)) k p (now (table .entry)) (now (initial .entry)) C O r (now (table .exit)) (now (initial .exit)) C O) ⌝ }
 {
@@ -99,7 +97,7 @@ pub fn data_line(s: &[u8], p: Progress, table: &mut [u32; 613], initial: &mut [i
 
 // ---- 3. the directive
 
-pub fn directive_line(s: &[u8], p: Progress, table: &mut [u32; 613]) -> Progress
+pub fn directive_line(s: &[u8], p: Progress, table: &mut Table) -> Progress
     requires { ⌜ (length (now s) ≤ 2048) × Standing (now table) ⌝ }
     ensures { λ r. ⌜ ((k : ℕ) (I : List ℤ) (C O : List ℕ) → Takes readOpening 3 (now (s .entry)) k p (now (table .entry)) I C O r (now (table .exit)) I C O) ⌝ }
 {
@@ -122,7 +120,7 @@ pub fn directive_line(s: &[u8], p: Progress, table: &mut [u32; 613]) -> Progress
 
 // ---- 4. do
 
-pub fn loop_line(s: &[u8], p: Progress, table: &mut [u32; 613]) -> Progress
+pub fn loop_line(s: &[u8], p: Progress, table: &mut Table) -> Progress
     requires { ⌜ length (now s) ≤ 2048 ⌝ }
     ensures { λ r. ⌜ ((k : ℕ) (I : List ℤ) (C O : List ℕ) → Takes (readLoop peek-in skip-in) 4 (now (s .entry)) k p (now (table .entry)) I C O r (now (table .exit)) I C O) ⌝ }
 {
@@ -187,13 +185,7 @@ fn nested(rank: u32, depth: usize) -> u32
     if rank < 1 { 1 } else { rank }
 }
 
-pub fn assign_line(
-    s: &[u8],
-    line: u32,
-    p: Progress,
-    table: &[u32; 613],
-    code: &mut [u32],
-) -> Progress
+pub fn assign_line(s: &[u8], line: u32, p: Progress, table: &Table, code: &mut [u32]) -> Progress
     requires { ⌜ (length (now s) ≤ 2048) × (line ≤ 2049) × (2 * (p .place + 2 * length (now s)) ≤ length (now code)) ⌝ }
     ensures { λ r. ⌜ ((I : List ℤ) (O : List ℕ) → Takes (readAssign peek-in skip-in) 5 (now (s .entry)) line p (now (table .entry)) I (now (code .entry)) O r (now (table .entry)) I (now (code .exit)) O) ⌝ }
 {
@@ -209,7 +201,7 @@ pub fn if_line(
     s: &[u8],
     line: u32,
     p: Progress,
-    table: &[u32; 613],
+    table: &Table,
     code: &mut [u32],
     opens: &mut [u32; 8],
 ) -> Progress
@@ -244,10 +236,10 @@ fn fill(code: &mut [u32], jump: usize, distance: usize)
 // Writes a jump over nothing.
 fn put_jump(code: &mut [u32], place: usize)
     requires { ⌜ 2 * (place + 1) ≤ length (now code) ⌝ }
-    ensures { λ _. ⌜ now (code .exit) ≡ set (set (now (code .entry)) (2 * place) 16) (2 * place + 1) 0 ⌝ }
+    ensures { λ _. ⌜ now (code .exit) ≡ set (set (now (code .entry)) (2 * place) (operation (jump 0))) (2 * place + 1) 0 ⌝ }
 {
     let i = 2 * place;
-    code[i] = 16;
+    code[i] = JUMP;
     code[i + 1] = 0;
 }
 

@@ -20,7 +20,7 @@ pub fn look(
     ensures { λ _. ⌜ now (view .exit) ≡ viewShown (readText (now (text .entry))) (now (cells .entry)) (length (now (workspace .entry))) (now (schedule .entry)) (now (view .entry)) ⌝ }
     ensures { λ _. ⌜ now (workspace .exit) ≡ lookWorkspace (readText (now (text .entry))) (now (cells .entry)) (now (workspace .entry)) (now (schedule .entry)) (length (now (view .entry))) ⌝ }
 {
-    let mut code = [0; 8194];
+    let mut code = [0; code::WORDS];
     let mut classes = [0; 4096];
     let r = prepare(text, &mut code, &mut classes);
     if r.number != 0 {

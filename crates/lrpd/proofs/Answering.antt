@@ -24,7 +24,7 @@ use Rattle.printing.specs.Printed.{report}
 use Rattle.printing.specs.Written.{Holds, Completes, Reports}
 use Rattle.printing.proofs.Lines.{cells-take, cells-part}
 use Rattle.printing.proofs.NameBytes.{name-bytes}
-use Rattle.lrpd.specs.Output.{lentFor, namesOf, printedOver, printed, Prints}
+use Rattle.lrpd.specs.Output.{lentWords, lentFor, namesOf, printedOver, printed, Prints}
 
 -- ---- the cells as lent
 
@@ -71,23 +71,23 @@ module _ (text : List ℕ) (R : Reading) (T : List ℕ) (I : List ℤ) (C : List
     plain = name-bytes text s e;
   }
 
-  pub holds : Completes (runOf (read text) l 11520 []) → Holds T m (namesOf (read text))
+  pub holds : Completes (runOf (read text) l lentWords []) → Holds T m (namesOf (read text))
   unfolding runOf Reads
   holds = go (read text) refl h
     where
-      go : (v : Verdict) → read text ≡ v → Reads v R T I C → Completes (runOf v l 11520 []) → Holds T m (namesOf v)
+      go : (v : Verdict) → read text ≡ v → Reads v R T I C → Completes (runOf v l lentWords []) → Holds T m (namesOf v)
       go (refused n k) e q c = absurd c
       go (good s) e q c =
-          let z = completes-taken (runNumber s (length l) 11520 []) (answered s (settles s l .answer)) c in
-          held-good s e (q .1 .1 .table) (eqb-true (length l) (cells (s .table)) (exact (eqb (length l) (cells (s .table))) (leb (needed (cells (s .table)) (s .processors)) 11520) true z))
+          let z = completes-taken (runNumber s (length l) lentWords []) (answered s (settles s l .answer)) c in
+          held-good s e (q .1 .1 .table) (eqb-true (length l) (cells (s .table)) (exact (eqb (length l) (cells (s .table))) (leb (needed (cells (s .table)) (s .processors)) lentWords) true z))
 
-  pub prints : (m₀ : List ℤ) → l ≡ cellsLoaded (read text) m₀ → (answer : Ran) → answer ≡ runOf (read text) l 11520 [] → m ≡ cellsRun (read text) l 11520 [] → (a : List ℕ) (r : ℕ) → Reports answer T m a r → Prints (printedOver (read text) m₀) a r
+  pub prints : (m₀ : List ℤ) → l ≡ cellsLoaded (read text) m₀ → (answer : Ran) → answer ≡ runOf (read text) l lentWords [] → m ≡ cellsRun (read text) l lentWords [] → (b a : List ℕ) (r : ℕ) → Reports answer T m b a r → Prints (printedOver (read text) m₀) a r
   unfolding printedOver
-  prints m₀ el answer ea em a r u = record {
+  prints m₀ el answer ea em b a r u = record {
     within = u .within;
     counted = u .counted;
     bytes =
         u .bytes (namesOf (read text)) (λ c. holds (subst Completes ea c) .tabled)
         ∙ (λ i. report (ea i) (namesOf (read text)) (em i))
-        ∙ ap (λ (x : List ℤ). report (runOf (read text) x 11520 []) (namesOf (read text)) (cellsRun (read text) x 11520 [])) el;
+        ∙ ap (λ (x : List ℤ). report (runOf (read text) x lentWords []) (namesOf (read text)) (cellsRun (read text) x lentWords [])) el;
   }

@@ -16,7 +16,7 @@ use Rattle.answers.specs.Answers.{needed, taken, answered, settles, checkOf, ce
 use Rattle.answers.specs.declared.Ran.{Ran}
 use Rattle.answers.specs.declared.Ran.the-variants.{Refused}
 use Rattle.printing.specs.Printed.{digits, signed, newline, comment, report}
-use Rattle.lrpd.specs.Output.{printedOver, printed}
+use Rattle.lrpd.specs.Output.{lentWords, printedOver, printed}
 
 -- "A refusal prints only `! refused` and its three numbers"
 pub refused-text : (n k : ℕ) → printed (refused n k) ≡ comment (Refused n k)
@@ -30,10 +30,10 @@ module _ (s : State) where
   other m n =
       let e = ne-eqb (length m) (cells (s .table)) n in
       let same : cellsLoaded (good s) m ≡ m = ap (λ (b : Bool). taken (cond b 0 5) (loaded (s .table)) m) e in
-      let words = leb (needed (cells (s .table)) (s .processors)) 11520 in
-      let answer : runOf (good s) m 11520 [] ≡ Refused 5 0 = ap (λ (b : Bool). let j = cond b (cond words 0 6) 5 in taken j (answered s (settles s m .answer)) (Refused j 0)) e in
-      ap (λ (l : List ℤ). report (runOf (good s) l 11520 []) (s .table) (cellsRun (good s) l 11520 [])) same
-      ∙ ap (λ (r : Ran). report r (s .table) (cellsRun (good s) m 11520 [])) answer
+      let words = leb (needed (cells (s .table)) (s .processors)) lentWords in
+      let answer : runOf (good s) m lentWords [] ≡ Refused 5 0 = ap (λ (b : Bool). let j = cond b (cond words 0 6) 5 in taken j (answered s (settles s m .answer)) (Refused j 0)) e in
+      ap (λ (l : List ℤ). report (runOf (good s) l lentWords []) (s .table) (cellsRun (good s) l lentWords [])) same
+      ∙ ap (λ (r : Ran). report r (s .table) (cellsRun (good s) m lentWords [])) answer
 
   -- "lends 128 cells"; "5, 0, 0: cells lent not exactly N"
   pub too-many : 128 < cells (s .table) → printed (good s) ≡ bytes "! refused 5 0 0" ++ newline
@@ -41,5 +41,5 @@ module _ (s : State) where
   too-many h = other (replicate (min (cells (s .table)) 128) (pos 0)) (λ e. absurd (omega (arith, e, length-replicate (min (cells (s .table)) 128) (pos 0))))
 
 -- 6 is never printed
-pub enough : (n p : ℕ) → n ≤ 128 → p ≤ 8 → needed n p ≤ 11520
+pub enough : (n p : ℕ) → n ≤ 128 → p ≤ 8 → needed n p ≤ lentWords
 enough n p h k = let q : 4 + 6 * p ≤ 52 = omega arith in let m : n * (4 + 6 * p) ≤ 128 * 52 = mul-le-mul h q in omega arith

@@ -6,7 +6,7 @@ use lib.ListN.{length, take, replicate}
 use lib.IntN.{ℤ, pos}
 use Rattle.syntax.specs.Known.{Entry}
 use Rattle.syntax.specs.Text.{Verdict, refused, good}
-use Rattle.answers.specs.Answers.{checkOf, cellsLoaded, runOf, cellsRun}
+use Rattle.answers.specs.Answers.{needed, checkOf, cellsLoaded, runOf, cellsRun}
 use Rattle.answers.specs.declared.Checked.{Checked}
 use Rattle.answers.specs.declared.Checked.the-variants.{Sizes, Refused}
 use Rattle.printing.specs.Printed.{report}
@@ -21,9 +21,13 @@ abbrev pub namesOf : Verdict → List Entry
 namesOf (refused n k) = []
 namesOf (good s) = s .table
 
--- Load fills the cells m as lent, Run goes over them with "an empty schedule" and the words that 128 cells and 8 processors need
+-- the words that 128 cells and 8 processors need
+abbrev pub lentWords : ℕ
+lentWords = needed 128 8
+
+-- Load fills the cells m as lent, Run goes over them with "an empty schedule" and so many words
 unfoldable pub printedOver : Verdict → List ℤ → List ℕ
-printedOver v m = let l = cellsLoaded v m in report (runOf v l 11520 []) (namesOf v) (cellsRun v l 11520 [])
+printedOver v m = let l = cellsLoaded v m in report (runOf v l lentWords []) (namesOf v) (cellsRun v l lentWords [])
 
 unfoldable pub printed : Verdict → List ℕ
 printed v = printedOver v (replicate (lentFor (checkOf v)) (pos 0))

@@ -7,6 +7,9 @@ ghost use Rattle.syntax.specs.Text.{read};
 ghost use Rattle.lrpd.specs.Output.{lentFor, printedOver, printed, Prints};
 use answers::Checked;
 
+// The words that are lent: as many as 128 cells and 8 processors need.
+const WORKSPACE: usize = 11520;
+
 // How many cells are lent.
 fn lent(answer: Checked) -> usize
     ensures { λ r. ⌜ r ≡ lentFor answer ⌝ }
@@ -26,11 +29,11 @@ fn print_over(text: &[u8], cells: &mut [i32], out: &mut [u8; 2236]) -> usize
     ensures { λ r. ⌜ Prints (printedOver (read (now (text .entry))) (now (cells .entry))) (now (out .exit)) r ⌝ }
 {
     checking::load(text, cells);
-    let mut workspace: [u32; 11520] = [0; 11520];
+    let mut workspace: [u32; WORKSPACE] = [0; WORKSPACE];
     let answer = running::run(text, cells, &mut workspace, b"");
-    let mut table = [0; 613];
+    let mut table = [0; names::WORDS];
     let mut initial: [i32; 4096] = [0; 4096];
-    let mut code = [0; 8194];
+    let mut code = [0; code::WORDS];
     reader::read(text, &mut table, &mut initial, &mut code);
     printing::report(out, answer, &table, cells)
 }

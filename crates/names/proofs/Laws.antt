@@ -2,7 +2,7 @@
 use mathlib.Core.Path.{_≡_, refl, sym, _∙_, ap}
 use mathlib.Core.Bool.{Bool, true, false, cond, _&&_, _||_}
 use mathlib.Core.List.{List, [], _∷_}
-use Prim.Native.Nat.{ℕ, zero, suc, _+_, _*_, _/_, _%_, min, _≤_, _<_}
+use Prim.Native.Nat.{ℕ, zero, suc, _+_, _*_, _/_, _%_, _≤_, _<_}
 use native.Mathlib.Omega.{arith}
 use borrow.Author.Tests.{eq-eqb, ne-eqb}
 use lib.Dec.{eqb}
@@ -15,7 +15,7 @@ use Rattle.syntax.specs.Known.{Entry, known, find, nowhere}
 use Rattle.syntax.proofs.Spelling.{same-true}
 use Rattle.lexer.proofs.Laws.{same-lengths}
 use Rattle.syntax.specs.Conditions.{isGiven}
-use Rattle.names.specs.Table.{wordAt, nameAt, classOf, Tabled, Found, Knows, Stands}
+use Rattle.names.specs.Table.{wordAt, nameAt, classOf, Tabled, Found, Knows, Stands, clauseAt, countIn, factsAt, firstAt, lengthAt, sizeAt, nameWords, lengthWord, entryWords}
 use Rattle.names.specs.declared.Named.{Named}
 
 -- ---- one name
@@ -39,13 +39,13 @@ same-differs (x ∷ w) f (suc k) h n = go (eqb x (f 0)) (same-differs w (λ k. f
 
 module _ (T : List ℕ) (i : ℕ) (w : List ℕ) where
   -- the name at i, where it is as long as w
-  pub name-long : wordAt T i 32 ≡ length w → nameAt T i ≡ listed (length w) (λ k. wordAt T i k)
+  pub name-long : lengthAt T i ≡ length w → nameAt T i ≡ listed (length w) (λ k. wordAt T i k)
   unfolding nameAt
   name-long e = ap (λ (n : ℕ). listed n (λ k. wordAt T i k)) e
 
-  pub name-other : (wordAt T i 32 ≡ length w → ⊥) → same w (nameAt T i) ≡ false
+  pub name-other : (lengthAt T i ≡ length w → ⊥) → same w (nameAt T i) ≡ false
   unfolding nameAt
-  name-other n = same-lengths w (nameAt T i) (λ (e : length w ≡ length (nameAt T i)). n (sym (listed-length (wordAt T i 32) (λ k. wordAt T i k)) ∙ sym e))
+  name-other n = same-lengths w (nameAt T i) (λ (e : length w ≡ length (nameAt T i)). n (sym (listed-length (lengthAt T i) (λ k. wordAt T i k)) ∙ sym e))
 
 -- ---- a name that is written
 
@@ -58,12 +58,12 @@ listed-bytes [] = refl
 listed-bytes (x ∷ w) = ap (λ (t : List ℕ). x ∷ t) (listed-bytes w)
 
 -- k bytes of w stand in entry i, and then their number is written
-pub name-written : (T : List ℕ) (i : ℕ) (w : List ℕ) (k : ℕ) → k ≡ length w → i * 36 + 32 < length T → ((j : ℕ) → j < k → wordAt T i j ≡ getD w j 0) → k ≤ 32 → nameAt (set T (i * 36 + 32) k) i ≡ w
+pub name-written : (T : List ℕ) (i : ℕ) (w : List ℕ) (k : ℕ) → k ≡ length w → i * entryWords + lengthWord < length T → ((j : ℕ) → j < k → wordAt T i j ≡ getD w j 0) → k ≤ nameWords → nameAt (set T (i * entryWords + lengthWord) k) i ≡ w
 unfolding nameAt
 name-written T i w k e h f b =
-    let n : wordAt (set T (i * 36 + 32) k) i 32 ≡ length w = ap (λ (p : ℕ). getD (set T (i * 36 + 32) k) p 0) (omega arith) ∙ getD-set-same T (i * 36 + 32) k 0 h ∙ e in
-    ap (λ (m : ℕ). listed m (λ j. wordAt (set T (i * 36 + 32) k) i j)) n
-    ∙ listed-same (length w) (λ j. wordAt (set T (i * 36 + 32) k) i j) (λ j. getD w j 0) (λ j l. set-elsewhere T (i * 36 + 32) (36 * i + j) k (omega arith) ∙ f j (omega arith))
+    let n : lengthAt (set T (i * entryWords + lengthWord) k) i ≡ length w = ap (λ (p : ℕ). getD (set T (i * entryWords + lengthWord) k) p 0) (omega arith) ∙ getD-set-same T (i * entryWords + lengthWord) k 0 h ∙ e in
+    ap (λ (m : ℕ). listed m (λ j. wordAt (set T (i * entryWords + lengthWord) k) i j)) n
+    ∙ listed-same (length w) (λ j. wordAt (set T (i * entryWords + lengthWord) k) i j) (λ j. getD w j 0) (λ j l. set-elsewhere T (i * entryWords + lengthWord) (entryWords * i + j) k (omega arith) ∙ f j (omega arith))
     ∙ listed-bytes w
 
 -- ---- found from the front
@@ -103,16 +103,16 @@ module _ (T : List ℕ) (t : List Entry) (d : Tabled T t) (n : ℕ) (en : n ≡ 
 -- ---- what is known of a name
 
 -- a word by the code's place
-pub word-place : (T : List ℕ) (i k : ℕ) → getD T (i * 36 + k) 0 ≡ wordAt T i k
+pub word-place : (T : List ℕ) (i k : ℕ) → getD T (i * entryWords + k) 0 ≡ wordAt T i k
 word-place T i k = ap (λ (n : ℕ). getD T n 0) (omega arith)
 
-module _ (T : List ℕ) (t : List Entry) (d : Tabled T t) (w : List ℕ) (i : ℕ) (f : Found T (min (getD T 612 0) 16) w i) where
-  many : min (getD T 612 0) 16 ≡ length t
+module _ (T : List ℕ) (t : List Entry) (d : Tabled T t) (w : List ℕ) (i : ℕ) (f : Found T (countIn T) w i) where
+  many : countIn T ≡ length t
   many = omega (arith, d .count, d .few)
 
-  pub knows-none : min (getD T 612 0) 16 ≤ i → Knows t w (record { known = false; index = i; subscripted = false; given = false; clause = 0; first = 0; size = 0 })
+  pub knows-none : countIn T ≤ i → Knows t w (record { known = false; index = i; subscripted = false; given = false; clause = 0; first = 0; size = 0 })
   knows-none h =
-      let r = found-none T t d (min (getD T 612 0) 16) many w i f h in
+      let r = found-none T t d (countIn T) many w i f h in
       let e = sym (r .1) in
       record {
         known = sym (r .0);
@@ -123,17 +123,17 @@ module _ (T : List ℕ) (t : List Entry) (d : Tabled T t) (w : List ℕ) (i : �
         class = ap (λ (x : Entry). x .class) e;
       }
 
-  pub stands-there : i < min (getD T 612 0) 16 → (facts : ℕ) → facts ≡ wordAt T i 35 → (r : Named) → r .index ≡ i → r .clause ≡ facts / 4 → Stands T t w r
+  pub stands-there : i < countIn T → (facts : ℕ) → facts ≡ factsAt T i → (r : Named) → r .index ≡ i → r .clause ≡ facts / 4 → Stands T t w r
   stands-there h facts ef r ei ec = record {
     within = omega (arith, many, ei);
     name = ap (λ (k : ℕ). getD t k nowhere .name) ei ∙ sym (d .rows i (omega (arith, many)) .name) ∙ sym (same-true w (nameAt T i) (f .there h));
-    clause = ec ∙ ap (λ (n : ℕ). n / 4) ef ∙ ap (λ (k : ℕ). wordAt T k 35 / 4) (sym ei);
+    clause = ec ∙ ap (λ (n : ℕ). n / 4) ef ∙ ap (λ (k : ℕ). clauseAt T k) (sym ei);
   }
 
-  pub knows-there : i < min (getD T 612 0) 16 → (facts first size : ℕ) → facts ≡ wordAt T i 35 → first ≡ wordAt T i 33 → size ≡ wordAt T i 34
+  pub knows-there : i < countIn T → (facts first size : ℕ) → facts ≡ factsAt T i → first ≡ firstAt T i → size ≡ sizeAt T i
       → Knows t w (record { known = true; index = i; subscripted = eqb (facts % 2) 1; given = eqb (facts / 2 % 2) 1; clause = facts / 4; first = first; size = size })
   knows-there h facts first size ef ei es =
-      let r = found-there T t d (min (getD T 612 0) 16) many w i f h in
+      let r = found-there T t d (countIn T) many w i f h in
       let o = d .rows i (omega (arith, many)) in
       let e = sym (r .1) in
       record {

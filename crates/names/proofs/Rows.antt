@@ -3,7 +3,7 @@ use mathlib.Core.Path.{_≡_, refl, sym, _∙_, ap, ap₂, subst}
 use mathlib.Core.Bool.{Bool, true, false, cond}
 use mathlib.Core.List.{List, [], _∷_, _++_, map}
 use mathlib.Core.Option.{some}
-use Prim.Native.Nat.{ℕ, zero, suc, _+_, _*_, _/_, _%_, _≤_, _<_, min}
+use Prim.Native.Nat.{ℕ, zero, suc, _+_, _*_, _/_, _%_, _≤_, _<_}
 use native.Mathlib.Decide.{decLt, ℕ-discrete}
 use native.Mathlib.Omega.{arith}
 use lib.Dec.{eqb}
@@ -18,33 +18,33 @@ use Rattle.syntax.specs.Known.{Entry, named, known, find, nowhere, give-to}
 use Rattle.syntax.specs.Conditions.{isGiven}
 use Rattle.syntax.proofs.Table.{find-each}
 use Rattle.syntax.proofs.TestLaws.{Each, neither-holds, same-refl, same-comm-false}
-use Rattle.names.specs.Table.{wordAt, nameAt, classOf, Row, Tabled, Put, declared, Added, Gave, class-to, Classed}
+use Rattle.names.specs.Table.{wordAt, nameAt, classOf, Row, Tabled, Put, declared, Added, Gave, class-to, Classed, clauseAt, countIn, factsAt, firstAt, lengthAt, numberIn, sizeAt, tableWords, variableEntry, nameWords, lengthWord, firstWord, sizeWord, factsWord, entryWords, mostNames, numberWord}
 use Rattle.names.proofs.Laws.{set-elsewhere}
 
 -- ---- one entry
 
-pub name-length : (T : List ℕ) (i : ℕ) → length (nameAt T i) ≡ wordAt T i 32
+pub name-length : (T : List ℕ) (i : ℕ) → length (nameAt T i) ≡ lengthAt T i
 unfolding nameAt
-name-length T i = listed-length (wordAt T i 32) (λ k. wordAt T i k)
+name-length T i = listed-length (lengthAt T i) (λ k. wordAt T i k)
 
 -- the words of the name are as they were
-pub name-kept : (T T′ : List ℕ) (i : ℕ) → wordAt T i 32 ≤ 32 → ((k : ℕ) → k < 33 → wordAt T′ i k ≡ wordAt T i k) → nameAt T′ i ≡ nameAt T i
+pub name-kept : (T T′ : List ℕ) (i : ℕ) → lengthAt T i ≤ nameWords → ((k : ℕ) → k < firstWord → wordAt T′ i k ≡ wordAt T i k) → nameAt T′ i ≡ nameAt T i
 unfolding nameAt
 name-kept T T′ i b h =
-    ap (λ (n : ℕ). listed n (λ k. wordAt T′ i k)) (h 32 (omega arith))
-    ∙ listed-same (wordAt T i 32) (λ k. wordAt T′ i k) (λ k. wordAt T i k) (λ k l. h k (omega arith))
+    ap (λ (n : ℕ). listed n (λ k. wordAt T′ i k)) (h lengthWord (omega arith))
+    ∙ listed-same (lengthAt T i) (λ k. wordAt T′ i k) (λ k. wordAt T i k) (λ k l. h k (omega arith))
 
 module _ (T T′ : List ℕ) (i : ℕ) (e : Entry) (o : Row T i e) where
-  short-word : wordAt T i 32 ≤ 32
+  short-word : lengthAt T i ≤ nameWords
   short-word = omega (arith, name-length T i, ap length (o .name), o .short)
 
   -- all but the facts are as they were
-  pub row-with : (e′ : Entry) → ((k : ℕ) → k < 35 → wordAt T′ i k ≡ wordAt T i k) → e′ .name ≡ e .name → e′ .first ≡ e .first → e′ .size ≡ e .size
-      → eqb (wordAt T′ i 35 % 2) 1 ≡ e′ .subscripted → eqb (wordAt T′ i 35 / 2 % 2) 1 ≡ isGiven (e′ .given) → classOf (wordAt T′ i 35 / 4) ≡ e′ .class → Row T′ i e′
+  pub row-with : (e′ : Entry) → ((k : ℕ) → k < factsWord → wordAt T′ i k ≡ wordAt T i k) → e′ .name ≡ e .name → e′ .first ≡ e .first → e′ .size ≡ e .size
+      → eqb (factsAt T′ i % 2) 1 ≡ e′ .subscripted → eqb (factsAt T′ i / 2 % 2) 1 ≡ isGiven (e′ .given) → classOf (clauseAt T′ i) ≡ e′ .class → Row T′ i e′
   row-with e′ h en ef es hs hg hc = record {
     name = name-kept T T′ i short-word (λ k l. h k (omega arith)) ∙ o .name ∙ sym en;
-    first = h 33 (omega arith) ∙ o .first ∙ sym ef;
-    size = h 34 (omega arith) ∙ o .size ∙ sym es;
+    first = h firstWord (omega arith) ∙ o .first ∙ sym ef;
+    size = h sizeWord (omega arith) ∙ o .size ∙ sym es;
     subscripted = hs;
     given = hg;
     class = hc;
@@ -52,9 +52,9 @@ module _ (T T′ : List ℕ) (i : ℕ) (e : Entry) (o : Row T i e) where
   }
 
   -- all is as it was
-  pub row-kept : ((k : ℕ) → k < 36 → wordAt T′ i k ≡ wordAt T i k) → Row T′ i e
+  pub row-kept : ((k : ℕ) → k < entryWords → wordAt T′ i k ≡ wordAt T i k) → Row T′ i e
   row-kept h =
-      let f = h 35 (omega arith) in
+      let f = h factsWord (omega arith) in
       row-with e (λ k l. h k (omega arith)) refl refl refl
       (ap (λ (n : ℕ). eqb (n % 2) 1) f ∙ o .subscripted)
       (ap (λ (n : ℕ). eqb (n / 2 % 2) 1) f ∙ o .given)
@@ -71,21 +71,21 @@ getD-map f (x ∷ xs) (suc i) d d′ h = getD-map f xs i d d′ (omega arith)
 abbrev Alike : Entry → Entry → Type 0
 Alike e e′ = (e′ .name ≡ e .name) × (e′ .first ≡ e .first) × (e′ .size ≡ e .size) × (e′ .subscripted ≡ e .subscripted)
 
-module _ (T : List ℕ) (i facts : ℕ) (b : i < 16) where
+module _ (T : List ℕ) (i facts : ℕ) (b : i < mostNames) where
   abbrev with-facts : List ℕ
-  with-facts = set T (i * 36 + 35) facts
+  with-facts = set T (i * entryWords + factsWord) facts
 
-  pub others-kept : (j k : ℕ) → k < 36 → (j ≡ i → ⊥) → wordAt with-facts j k ≡ wordAt T j k
-  others-kept j k l n = set-elsewhere T (i * 36 + 35) (36 * j + k) facts (omega arith)
+  pub others-kept : (j k : ℕ) → k < entryWords → (j ≡ i → ⊥) → wordAt with-facts j k ≡ wordAt T j k
+  others-kept j k l n = set-elsewhere T (i * entryWords + factsWord) (entryWords * j + k) facts (omega arith)
 
-  pub facts-here : 613 ≤ length T → wordAt with-facts i 35 ≡ facts
-  facts-here l = ap (λ (p : ℕ). getD with-facts p 0) (omega arith) ∙ getD-set-same T (i * 36 + 35) facts 0 (omega arith)
+  pub facts-here : tableWords ≤ length T → factsAt with-facts i ≡ facts
+  facts-here l = ap (λ (p : ℕ). getD with-facts p 0) (omega arith) ∙ getD-set-same T (i * entryWords + factsWord) facts 0 (omega arith)
 
-  pub rest-kept : (k : ℕ) → k < 35 → wordAt with-facts i k ≡ wordAt T i k
-  rest-kept k l = set-elsewhere T (i * 36 + 35) (36 * i + k) facts (omega arith)
+  pub rest-kept : (k : ℕ) → k < factsWord → wordAt with-facts i k ≡ wordAt T i k
+  rest-kept k l = set-elsewhere T (i * entryWords + factsWord) (entryWords * i + k) facts (omega arith)
 
-  pub variable-kept : wordAt T 16 32 ≤ 32 → nameAt with-facts 16 ≡ nameAt T 16
-  variable-kept h = name-kept T with-facts 16 h (λ k l. others-kept 16 k (omega arith) (λ e. omega arith))
+  pub variable-kept : lengthAt T variableEntry ≤ nameWords → nameAt with-facts variableEntry ≡ nameAt T variableEntry
+  variable-kept h = name-kept T with-facts variableEntry h (λ k l. others-kept variableEntry k (omega arith) (λ e. omega arith))
 
   -- the table with other facts for entry i stands for the names with another entry i
   module _ (t : List Entry) (d : Tabled T t) (h : i < length t) (f : Entry → Entry) (a : (e : Entry) → Alike e (f e)) (others : (j : ℕ) → j < length t → (j ≡ i → ⊥) → f (getD t j nowhere) ≡ getD t j nowhere)
@@ -109,7 +109,7 @@ module _ (T : List ℕ) (i facts : ℕ) (b : i < 16) where
         let n = length-map t f in
         record {
           long = simp length-set (d .long);
-          count = set-elsewhere T (i * 36 + 35) 612 facts (omega arith) ∙ d .count ∙ sym n;
+          count = set-elsewhere T (i * entryWords + factsWord) numberWord facts (omega arith) ∙ d .count ∙ sym n;
           few = omega (arith, n, d .few);
           rows = λ j l. simp (at-map j (omega (arith, n))) (row-of j (omega (arith, n)));
           distinct = λ p q l m. ap₂ same (same-name q (omega (arith, n))) (same-name p (omega (arith, n))) ∙ d .distinct p q l (omega (arith, n));
@@ -133,7 +133,7 @@ in-clause q f = (omega arith, omega arith, omega arith)
 untouched : (b : Bool) (x e : Entry) → b ≡ false → cond b x e ≡ e
 untouched b x e h = ap (λ (y : Bool). cond y x e) h
 
-module _ (T : List ℕ) (i : ℕ) (b : i < 16) (facts : ℕ) (ef : facts ≡ wordAt T i 35) where
+module _ (T : List ℕ) (i : ℕ) (b : i < mostNames) (facts : ℕ) (ef : facts ≡ factsAt T i) where
   -- the others have another name than entry i
   other-name : (t : List Entry) → Tabled T t → i < length t → (j : ℕ) → j < length t → (j ≡ i → ⊥) → same (getD t i nowhere .name) (getD t j nowhere .name) ≡ false
   other-name t d h j l n = elim (decLt j i) [
@@ -141,7 +141,7 @@ module _ (T : List ℕ) (i : ℕ) (b : i < 16) (facts : ℕ) (ef : facts ≡ wor
     | no p ↦ same-comm-false (getD t j nowhere .name) (getD t i nowhere .name) (d .distinct i j (omega arith) l)
   ]
 
-  pub gave : Gave T i (set T (i * 36 + 35) (facts / 4 * 4 + 2 + facts % 2))
+  pub gave : Gave T i (set T (i * entryWords + factsWord) (facts / 4 * 4 + 2 + facts % 2))
   gave = record {
     variable = variable-kept T i _ b;
     table = λ t vs d h.
@@ -160,8 +160,8 @@ module _ (T : List ℕ) (i : ℕ) (b : i < 16) (facts : ℕ) (ef : facts ≡ wor
         (ap (λ (n : ℕ). eqb n 1) n1 ∙ sym (ap (λ (x : Entry). isGiven (x .given)) g))
         (ap classOf n2 ∙ o .class ∙ sym (ap (λ (x : Entry). x .class) g));
     unclaimed = λ h n u j l. elim (ℕ-discrete j i) [
-      | yes q ↦ ap (λ (k : ℕ). wordAt (set T (i * 36 + 35) (facts / 4 * 4 + 2 + facts % 2)) k 35 / 4) q ∙ ap (λ (x : ℕ). x / 4) (facts-here T i (facts / 4 * 4 + 2 + facts % 2) b h) ∙ with-data (facts / 4) (facts % 2) (omega arith) .2 ∙ ap (λ (x : ℕ). x / 4) ef ∙ ap (λ (k : ℕ). wordAt T k 35 / 4) (sym q) ∙ u j l
-      | no m ↦ ap (λ (x : ℕ). x / 4) (others-kept T i (facts / 4 * 4 + 2 + facts % 2) b j 35 (omega arith) m) ∙ u j l
+      | yes q ↦ ap (λ (k : ℕ). clauseAt (set T (i * entryWords + factsWord) (facts / 4 * 4 + 2 + facts % 2)) k) q ∙ ap (λ (x : ℕ). x / 4) (facts-here T i (facts / 4 * 4 + 2 + facts % 2) b h) ∙ with-data (facts / 4) (facts % 2) (omega arith) .2 ∙ ap (λ (x : ℕ). x / 4) ef ∙ ap (λ (k : ℕ). clauseAt T k) (sym q) ∙ u j l
+      | no m ↦ ap (λ (x : ℕ). x / 4) (others-kept T i (facts / 4 * 4 + 2 + facts % 2) b j factsWord (omega arith) m) ∙ u j l
     ];
   }
     where
@@ -169,11 +169,11 @@ module _ (T : List ℕ) (i : ℕ) (b : i < 16) (facts : ℕ) (ef : facts ≡ wor
       kept x vs e true = (refl, refl, refl, refl)
       kept x vs e false = (refl, refl, refl, refl)
 
-  pub classed : (clause : ℕ) → clause ≤ 3 → Classed T i clause (set T (i * 36 + 35) (clause * 4 + facts % 4))
+  pub classed : (clause : ℕ) → clause ≤ 3 → Classed T i clause (set T (i * entryWords + factsWord) (clause * 4 + facts % 4))
   classed clause m = record {
     variable = variable-kept T i _ b;
     here = λ l. ap (λ (n : ℕ). n / 4) (facts-here T i (clause * 4 + facts % 4) b l) ∙ omega arith;
-    others = λ j n. others-kept T i (clause * 4 + facts % 4) b j 35 (omega arith) n;
+    others = λ j n. others-kept T i (clause * 4 + facts % 4) b j factsWord (omega arith) n;
     table = λ t d h.
         let e = getD t i nowhere in
         let o = d .rows i h in
@@ -207,66 +207,66 @@ unknown-at w [] h i l = absurd (omega arith)
 unknown-at w (x ∷ t) h zero l = neither-holds (same w (x .name)) (known w t) h .0
 unknown-at w (x ∷ t) h (suc i) l = unknown-at w t (neither-holds (same w (x .name)) (known w t) h .1) i (omega arith)
 
-module _ (T w : List ℕ) (n first size : ℕ) (sub : Bool) (T₁ : List ℕ) (p : Put T n w T₁) (en : n ≡ min (getD T 612 0) 16) (bn : n < 16) (short : length w ≤ 32) (facts : ℕ) (ef : facts ≡ cond sub 1 0) where
+module _ (T w : List ℕ) (n first size : ℕ) (sub : Bool) (T₁ : List ℕ) (p : Put T n w T₁) (en : n ≡ countIn T) (bn : n < mostNames) (short : length w ≤ nameWords) (facts : ℕ) (ef : facts ≡ cond sub 1 0) where
   abbrev T₂ : List ℕ
-  T₂ = set T₁ (n * 36 + 33) first
+  T₂ = set T₁ (n * entryWords + firstWord) first
 
   abbrev T₃ : List ℕ
-  T₃ = set T₂ (n * 36 + 34) size
+  T₃ = set T₂ (n * entryWords + sizeWord) size
 
   abbrev T₄ : List ℕ
-  T₄ = set T₃ (n * 36 + 35) facts
+  T₄ = set T₃ (n * entryWords + factsWord) facts
 
   abbrev more-names : List ℕ
-  more-names = set T₄ 612 (n + 1)
+  more-names = set T₄ numberWord (n + 1)
 
   long₂ : length T₂ ≡ length T₁
-  long₂ = length-set T₁ (n * 36 + 33) first
+  long₂ = length-set T₁ (n * entryWords + firstWord) first
 
   long₃ : length T₃ ≡ length T₁
-  long₃ = length-set T₂ (n * 36 + 34) size ∙ long₂
+  long₃ = length-set T₂ (n * entryWords + sizeWord) size ∙ long₂
 
   long₄ : length T₄ ≡ length T₁
-  long₄ = length-set T₃ (n * 36 + 35) facts ∙ long₃
+  long₄ = length-set T₃ (n * entryWords + factsWord) facts ∙ long₃
 
   more-long : length more-names ≡ length T₁
-  more-long = length-set T₄ 612 (n + 1) ∙ long₄
+  more-long = length-set T₄ numberWord (n + 1) ∙ long₄
 
   -- of the words only these changed
-  elsewhere : (q : ℕ) → (q ≡ n * 36 + 33 → ⊥) → (q ≡ n * 36 + 34 → ⊥) → (q ≡ n * 36 + 35 → ⊥) → (q ≡ 612 → ⊥) → getD more-names q 0 ≡ getD T₁ q 0
-  elsewhere q a b c d = set-elsewhere T₄ 612 q (n + 1) d ∙ set-elsewhere T₃ (n * 36 + 35) q facts c ∙ set-elsewhere T₂ (n * 36 + 34) q size b ∙ set-elsewhere T₁ (n * 36 + 33) q first a
+  elsewhere : (q : ℕ) → (q ≡ n * entryWords + firstWord → ⊥) → (q ≡ n * entryWords + sizeWord → ⊥) → (q ≡ n * entryWords + factsWord → ⊥) → (q ≡ numberWord → ⊥) → getD more-names q 0 ≡ getD T₁ q 0
+  elsewhere q a b c d = set-elsewhere T₄ numberWord q (n + 1) d ∙ set-elsewhere T₃ (n * entryWords + factsWord) q facts c ∙ set-elsewhere T₂ (n * entryWords + sizeWord) q size b ∙ set-elsewhere T₁ (n * entryWords + firstWord) q first a
 
   -- and these are
-  module _ (l : 613 ≤ length T₁) where
-    first-here : wordAt more-names n 33 ≡ first
+  module _ (l : tableWords ≤ length T₁) where
+    first-here : firstAt more-names n ≡ first
     first-here =
-        let q : 36 * n + 33 ≡ n * 36 + 33 = omega arith in
-        set-elsewhere T₄ 612 (36 * n + 33) (n + 1) (omega arith) ∙ set-elsewhere T₃ (n * 36 + 35) (36 * n + 33) facts (omega arith) ∙ set-elsewhere T₂ (n * 36 + 34) (36 * n + 33) size (omega arith)
-        ∙ ap (λ (p : ℕ). getD T₂ p 0) q ∙ getD-set-same T₁ (n * 36 + 33) first 0 (omega arith)
+        let q : entryWords * n + firstWord ≡ n * entryWords + firstWord = omega arith in
+        set-elsewhere T₄ numberWord (entryWords * n + firstWord) (n + 1) (omega arith) ∙ set-elsewhere T₃ (n * entryWords + factsWord) (entryWords * n + firstWord) facts (omega arith) ∙ set-elsewhere T₂ (n * entryWords + sizeWord) (entryWords * n + firstWord) size (omega arith)
+        ∙ ap (λ (p : ℕ). getD T₂ p 0) q ∙ getD-set-same T₁ (n * entryWords + firstWord) first 0 (omega arith)
 
-    size-here : wordAt more-names n 34 ≡ size
+    size-here : sizeAt more-names n ≡ size
     size-here =
-        let q : 36 * n + 34 ≡ n * 36 + 34 = omega arith in
-        set-elsewhere T₄ 612 (36 * n + 34) (n + 1) (omega arith) ∙ set-elsewhere T₃ (n * 36 + 35) (36 * n + 34) facts (omega arith)
-        ∙ ap (λ (p : ℕ). getD T₃ p 0) q ∙ getD-set-same T₂ (n * 36 + 34) size 0 (omega (arith, long₂))
+        let q : entryWords * n + sizeWord ≡ n * entryWords + sizeWord = omega arith in
+        set-elsewhere T₄ numberWord (entryWords * n + sizeWord) (n + 1) (omega arith) ∙ set-elsewhere T₃ (n * entryWords + factsWord) (entryWords * n + sizeWord) facts (omega arith)
+        ∙ ap (λ (p : ℕ). getD T₃ p 0) q ∙ getD-set-same T₂ (n * entryWords + sizeWord) size 0 (omega (arith, long₂))
 
-    facts-there : wordAt more-names n 35 ≡ facts
+    facts-there : factsAt more-names n ≡ facts
     facts-there =
-        let q : 36 * n + 35 ≡ n * 36 + 35 = omega arith in
-        set-elsewhere T₄ 612 (36 * n + 35) (n + 1) (omega arith)
-        ∙ ap (λ (p : ℕ). getD T₄ p 0) q ∙ getD-set-same T₃ (n * 36 + 35) facts 0 (omega (arith, long₃))
+        let q : entryWords * n + factsWord ≡ n * entryWords + factsWord = omega arith in
+        set-elsewhere T₄ numberWord (entryWords * n + factsWord) (n + 1) (omega arith)
+        ∙ ap (λ (p : ℕ). getD T₄ p 0) q ∙ getD-set-same T₃ (n * entryWords + factsWord) facts 0 (omega (arith, long₃))
 
-    count-here : getD more-names 612 0 ≡ n + 1
-    count-here = getD-set-same T₄ 612 (n + 1) 0 (omega (arith, long₄))
+    count-here : numberIn more-names ≡ n + 1
+    count-here = getD-set-same T₄ numberWord (n + 1) 0 (omega (arith, long₄))
 
-  module _ (t : List Entry) (d : Tabled T t) (f : length t < 16) (u : known w t ≡ false) where
+  module _ (t : List Entry) (d : Tabled T t) (f : length t < mostNames) (u : known w t ≡ false) where
     abbrev e : Entry
     e = declared w first size sub
 
     at-end : n ≡ length t
     at-end = omega (arith, d .count)
 
-    long₁ : 613 ≤ length T₁
+    long₁ : tableWords ≤ length T₁
     long₁ = omega (arith, p .long, d .long)
 
     many : length (t ++ (e ∷ [])) ≡ suc (length t)
@@ -274,7 +274,7 @@ module _ (T w : List ℕ) (n first size : ℕ) (sub : Bool) (T₁ : List ℕ) (p
 
     old : (i : ℕ) → i < length t → Row more-names i (getD t i nowhere)
     old i l = row-kept T more-names i (getD t i nowhere) (d .rows i l) (λ k m.
-        elsewhere (36 * i + k) (omega (arith, at-end)) (omega (arith, at-end)) (omega (arith, at-end)) (omega (arith, at-end)) ∙ p .before (36 * i + k) (omega (arith, at-end)))
+        elsewhere (entryWords * i + k) (omega (arith, at-end)) (omega (arith, at-end)) (omega (arith, at-end)) (omega (arith, at-end)) ∙ p .before (entryWords * i + k) (omega (arith, at-end)))
 
     new : Row more-names n e
     new =
@@ -282,7 +282,7 @@ module _ (T w : List ℕ) (n first size : ℕ) (sub : Bool) (T₁ : List ℕ) (p
         let x = p .name (d .long) in
         let fh = facts-there long₁ in
         record {
-          name = name-kept T₁ more-names n (omega (arith, g, ap length x)) (λ k m. elsewhere (36 * n + k) (omega arith) (omega arith) (omega arith) (omega arith)) ∙ x;
+          name = name-kept T₁ more-names n (omega (arith, g, ap length x)) (λ k m. elsewhere (entryWords * n + k) (omega arith) (omega arith) (omega arith) (omega arith)) ∙ x;
           first = first-here long₁;
           size = size-here long₁;
           subscripted = ap (λ (q : ℕ). eqb (q % 2) 1) (fh ∙ ef) ∙ is-sub sub;
@@ -325,11 +325,12 @@ module _ (T w : List ℕ) (n first size : ℕ) (sub : Bool) (T₁ : List ℕ) (p
 
   pub added : Added T w first size sub more-names
   added = record {
-    variable = λ h. name-kept T more-names 16 h (λ k m. elsewhere (576 + k) (omega arith) (omega arith) (omega arith) (omega arith) ∙ p .after (576 + k) (omega arith));
+    full = λ h. absurd (omega arith);
+    variable = λ h. name-kept T more-names variableEntry h (λ k m. elsewhere (entryWords * variableEntry + k) (omega arith) (omega arith) (omega arith) (omega arith) ∙ p .after (entryWords * variableEntry + k) (omega arith));
     table = λ t d f u b. tabled-more t d f u b;
     unclaimed = λ t d f v j l. elim (ℕ-discrete j n) [
-      | yes q ↦ ap (λ (k : ℕ). wordAt more-names k 35 / 4) q ∙ ap (λ (x : ℕ). x / 4) (facts-there (omega (arith, p .long, d .long)) ∙ ef) ∙ none-in sub
-      | no m ↦ ap (λ (x : ℕ). x / 4) (elsewhere (36 * j + 35) (omega arith) (omega arith) (omega arith) (omega (arith, d .count)) ∙ p .before (36 * j + 35) (omega (arith, d .count))) ∙ v j (omega (arith, d .count))
+      | yes q ↦ ap (λ (k : ℕ). clauseAt more-names k) q ∙ ap (λ (x : ℕ). x / 4) (facts-there (omega (arith, p .long, d .long)) ∙ ef) ∙ none-in sub
+      | no m ↦ ap (λ (x : ℕ). x / 4) (elsewhere (entryWords * j + factsWord) (omega arith) (omega arith) (omega arith) (omega (arith, d .count)) ∙ p .before (entryWords * j + factsWord) (omega (arith, d .count))) ∙ v j (omega (arith, d .count))
     ];
   }
     where
@@ -338,8 +339,9 @@ module _ (T w : List ℕ) (n first size : ℕ) (sub : Bool) (T₁ : List ℕ) (p
       none-in false = refl
 
 -- a full table
-pub full : (T w : List ℕ) (first size : ℕ) (sub : Bool) → 16 ≤ min (getD T 612 0) 16 → Added T w first size sub T
+pub full : (T w : List ℕ) (first size : ℕ) (sub : Bool) → mostNames ≤ countIn T → Added T w first size sub T
 full T w first size sub h = record {
+  full = λ _. refl;
   variable = λ _. refl;
   table = λ t d f u b. absurd (omega (arith, d .count));
   unclaimed = λ t d f v. absurd (omega (arith, d .count));
@@ -356,16 +358,16 @@ find-bounded T w t d = find-each (λ e. e .first + e .size ≤ 4096) w t (omega 
 
 -- ---- the loop's variable
 
-module _ (T w T′ : List ℕ) (p : Put T 16 w T′) where
+module _ (T w T′ : List ℕ) (p : Put T variableEntry w T′) where
   pub named-variable : (t : List Entry) → Tabled T t → Tabled T′ t
   named-variable t d = record {
     long = omega (arith, p .long, d .long);
-    count = p .after 612 (omega arith) ∙ d .count;
+    count = p .after numberWord (omega arith) ∙ d .count;
     few = d .few;
-    rows = λ i l. row-kept T T′ i (getD t i nowhere) (d .rows i l) (λ k m. p .before (36 * i + k) (omega (arith, d .few)));
+    rows = λ i l. row-kept T T′ i (getD t i nowhere) (d .rows i l) (λ k m. p .before (entryWords * i + k) (omega (arith, d .few)));
     distinct = d .distinct;
     bounded = d .bounded;
   }
 
-  pub variable-short : length w ≤ 32 → 613 ≤ length T → wordAt T′ 16 32 ≤ 32
-  variable-short h l = omega (arith, name-length T′ 16, ap length (p .name l))
+  pub variable-short : length w ≤ nameWords → tableWords ≤ length T → lengthAt T′ variableEntry ≤ nameWords
+  variable-short h l = omega (arith, name-length T′ variableEntry, ap length (p .name l))

@@ -1,10 +1,9 @@
--- The name table as the reader holds it: 613 words. Entry i, below 16, has its name's bytes at 36 i, one to a word, and after them, from 36 i + 32 on, how
--- many bytes, the first cell, how many cells, and facts. Entry 16 is the loop's variable. Word 612 is the number of names.
+-- The name table as the reader holds it: 16 entries for names, one more for the loop's variable, and the number of names.
 use mathlib.Core.Path.{_≡_}
 use mathlib.Core.Bool.{Bool, true, false, cond}
 use mathlib.Core.List.{List, [], _∷_, _++_, map}
 use mathlib.Core.Option.{none}
-use Prim.Native.Nat.{ℕ, zero, suc, _+_, _*_, _/_, _%_, _≤_, _<_}
+use Prim.Native.Nat.{ℕ, zero, suc, _+_, _*_, _/_, _%_, _≤_, _<_, min}
 use lib.Dec.{eqb}
 use lib.ListN.{length, getD}
 use lib.IntN.{ℤ}
@@ -15,16 +14,75 @@ use Rattle.syntax.specs.Known.{Entry, named, known, find, nowhere, give-to}
 use Rattle.syntax.specs.Conditions.{isGiven}
 use Rattle.names.specs.declared.Named.{Named}
 
+-- ---- the layout, in words
+
+-- an entry: room for the bytes of its name, one to a word, then how many bytes, the first cell, how many cells, and facts
+abbrev pub nameWords : ℕ
+nameWords = 32
+
+abbrev pub lengthWord : ℕ
+lengthWord = 32
+
+abbrev pub firstWord : ℕ
+firstWord = 33
+
+abbrev pub sizeWord : ℕ
+sizeWord = 34
+
+abbrev pub factsWord : ℕ
+factsWord = 35
+
+abbrev pub entryWords : ℕ
+entryWords = 36
+
+-- the table
+abbrev pub mostNames : ℕ
+mostNames = 16
+
+abbrev pub variableEntry : ℕ
+variableEntry = 16
+
+abbrev pub numberWord : ℕ
+numberWord = 612
+
+abbrev pub tableWords : ℕ
+tableWords = 613
+
 -- the word at a place of entry i
 abbrev pub wordAt : List ℕ → ℕ → ℕ → ℕ
-wordAt T i k = getD T (36 * i + k) 0
+wordAt T i k = getD T (entryWords * i + k) 0
+
+abbrev pub lengthAt : List ℕ → ℕ → ℕ
+lengthAt T i = wordAt T i lengthWord
+
+abbrev pub firstAt : List ℕ → ℕ → ℕ
+firstAt T i = wordAt T i firstWord
+
+abbrev pub sizeAt : List ℕ → ℕ → ℕ
+sizeAt T i = wordAt T i sizeWord
+
+abbrev pub factsAt : List ℕ → ℕ → ℕ
+factsAt T i = wordAt T i factsWord
+
+-- 0 none, 1 shared, 2 lastprivate, 3 reduction
+abbrev pub clauseAt : List ℕ → ℕ → ℕ
+clauseAt T i = factsAt T i / 4
+
+-- the number of names, and how many of them are looked at
+abbrev pub numberIn : List ℕ → ℕ
+numberIn T = getD T numberWord 0
+
+abbrev pub countIn : List ℕ → ℕ
+countIn T = min (numberIn T) mostNames
+
+-- ---- names
 
 unfoldable pub nameAt : List ℕ → ℕ → List ℕ
-nameAt T i = listed (wordAt T i 32) (λ k. wordAt T i k)
+nameAt T i = listed (lengthAt T i) (λ k. wordAt T i k)
 
 -- the loop's variable
 abbrev pub variableOf : List ℕ → List ℕ
-variableOf T = nameAt T 16
+variableOf T = nameAt T variableEntry
 
 -- facts: 1 it takes a subscript, 2 it was given data, 4, 8 and 12 it stands in a clause: shared, lastprivate, reduction
 abbrev pub classOf : ℕ → Class
@@ -36,25 +94,25 @@ classOf (suc (suc (suc n))) = reduction
 -- entry i stands for e
 pub record Row (T : List ℕ) (i : ℕ) (e : Entry) : Type 0 where
   pub name : nameAt T i ≡ e .name
-  pub first : wordAt T i 33 ≡ e .first
-  pub size : wordAt T i 34 ≡ e .size
-  pub subscripted : eqb (wordAt T i 35 % 2) 1 ≡ e .subscripted
-  pub given : eqb (wordAt T i 35 / 2 % 2) 1 ≡ isGiven (e .given)
-  pub class : classOf (wordAt T i 35 / 4) ≡ e .class
-  pub short : length (e .name) ≤ 32
+  pub first : firstAt T i ≡ e .first
+  pub size : sizeAt T i ≡ e .size
+  pub subscripted : eqb (factsAt T i % 2) 1 ≡ e .subscripted
+  pub given : eqb (factsAt T i / 2 % 2) 1 ≡ isGiven (e .given)
+  pub class : classOf (clauseAt T i) ≡ e .class
+  pub short : length (e .name) ≤ nameWords
 
 -- the table stands for these names
 pub record Tabled (T : List ℕ) (t : List Entry) : Type 0 where
-  pub long : 613 ≤ length T
-  pub count : getD T 612 0 ≡ length t
-  pub few : length t ≤ 16
+  pub long : tableWords ≤ length T
+  pub count : numberIn T ≡ length t
+  pub few : length t ≤ mostNames
   pub rows : (i : ℕ) → i < length t → Row T i (getD t i nowhere)
   pub distinct : (i j : ℕ) → i < j → j < length t → same (getD t j nowhere .name) (getD t i nowhere .name) ≡ false
   pub bounded : (i : ℕ) → i < length t → getD t i nowhere .first + getD t i nowhere .size ≤ 4096
 
 -- none of the first n names stands in a clause
 abbrev pub Unclaimed : List ℕ → ℕ → Type 0
-Unclaimed T n = (i : ℕ) → i < n → wordAt T i 35 / 4 ≡ 0
+Unclaimed T n = (i : ℕ) → i < n → clauseAt T i ≡ 0
 
 -- i is the first entry with the name w, of n entries; n where there is none
 pub record Found (T : List ℕ) (n : ℕ) (w : List ℕ) (i : ℕ) : Type 0 where
@@ -62,28 +120,30 @@ pub record Found (T : List ℕ) (n : ℕ) (w : List ℕ) (i : ℕ) : Type 0 wher
   pub before : (k : ℕ) → k < i → same w (nameAt T k) ≡ false
   pub there : i < n → same w (nameAt T i) ≡ true
 
--- T′ is T with the name w in entry i
+-- T′ is T with the name w in entry i; the room past the name is as it was
 pub record Put (T : List ℕ) (i : ℕ) (w : List ℕ) (T′ : List ℕ) : Type 0 where
   pub long : length T′ ≡ length T
-  pub name : 613 ≤ length T → nameAt T′ i ≡ w
-  pub before : (p : ℕ) → p < 36 * i → getD T′ p 0 ≡ getD T p 0
-  pub after : (p : ℕ) → 36 * i + 33 ≤ p → getD T′ p 0 ≡ getD T p 0
+  pub name : tableWords ≤ length T → nameAt T′ i ≡ w
+  pub before : (p : ℕ) → p < entryWords * i → getD T′ p 0 ≡ getD T p 0
+  pub spare : (k : ℕ) → length w ≤ k → k < nameWords → wordAt T′ i k ≡ wordAt T i k
+  pub after : (p : ℕ) → entryWords * i + firstWord ≤ p → getD T′ p 0 ≡ getD T p 0
 
 -- a declared name
 abbrev pub declared : List ℕ → ℕ → ℕ → Bool → Entry
 declared w first size sub = record { name = w; first = first; subscripted = sub; size = size; class = shared; given = none }
 
--- T′ is T with a name more
+-- T′ is T with a name more, or T where it is full
 pub record Added (T w : List ℕ) (first size : ℕ) (sub : Bool) (T′ : List ℕ) : Type 0 where
-  pub variable : wordAt T 16 32 ≤ 32 → variableOf T′ ≡ variableOf T
-  pub table : (t : List Entry) → Tabled T t → length t < 16 → known w t ≡ false → first + size ≤ 4096 → Tabled T′ (t ++ (declared w first size sub ∷ []))
-  pub unclaimed : (t : List Entry) → Tabled T t → length t < 16 → Unclaimed T (length t) → Unclaimed T′ (length t + 1)
+  pub full : mostNames ≤ numberIn T → T′ ≡ T
+  pub variable : lengthAt T variableEntry ≤ nameWords → variableOf T′ ≡ variableOf T
+  pub table : (t : List Entry) → Tabled T t → length t < mostNames → known w t ≡ false → first + size ≤ 4096 → Tabled T′ (t ++ (declared w first size sub ∷ []))
+  pub unclaimed : (t : List Entry) → Tabled T t → length t < mostNames → Unclaimed T (length t) → Unclaimed T′ (length t + 1)
 
 -- T′ is T with data given to entry i
 pub record Gave (T : List ℕ) (i : ℕ) (T′ : List ℕ) : Type 0 where
-  pub variable : wordAt T 16 32 ≤ 32 → variableOf T′ ≡ variableOf T
+  pub variable : lengthAt T variableEntry ≤ nameWords → variableOf T′ ≡ variableOf T
   pub table : (t : List Entry) (vs : List ℤ) → Tabled T t → i < length t → Tabled T′ (map (give-to (getD t i nowhere .name) vs) t)
-  pub unclaimed : 613 ≤ length T → (n : ℕ) → Unclaimed T n → Unclaimed T′ n
+  pub unclaimed : tableWords ≤ length T → (n : ℕ) → Unclaimed T n → Unclaimed T′ n
 
 -- the entry with the name x stands in a clause for c
 abbrev pub class-to : List ℕ → Class → Entry → Entry
@@ -94,9 +154,9 @@ class-to x c e =
 
 -- T′ is T with entry i in a clause
 pub record Classed (T : List ℕ) (i clause : ℕ) (T′ : List ℕ) : Type 0 where
-  pub variable : wordAt T 16 32 ≤ 32 → variableOf T′ ≡ variableOf T
-  pub here : 613 ≤ length T → wordAt T′ i 35 / 4 ≡ clause
-  pub others : (j : ℕ) → (j ≡ i → ⊥) → wordAt T′ j 35 ≡ wordAt T j 35
+  pub variable : lengthAt T variableEntry ≤ nameWords → variableOf T′ ≡ variableOf T
+  pub here : tableWords ≤ length T → clauseAt T′ i ≡ clause
+  pub others : (j : ℕ) → (j ≡ i → ⊥) → factsAt T′ j ≡ factsAt T j
   pub table : (t : List Entry) → Tabled T t → i < length t → Tabled T′ (map (class-to (getD t i nowhere .name) (classOf clause)) t)
 
 -- what is known of the name w
@@ -112,4 +172,4 @@ pub record Knows (t : List Entry) (w : List ℕ) (r : Named) : Type 0 where
 pub record Stands (T : List ℕ) (t : List Entry) (w : List ℕ) (r : Named) : Type 0 where
   pub within : r .index < length t
   pub name : getD t (r .index) nowhere .name ≡ w
-  pub clause : r .clause ≡ wordAt T (r .index) 35 / 4
+  pub clause : r .clause ≡ clauseAt T (r .index)

@@ -2,11 +2,33 @@
 ghost use mathlib.Core.Path.{_≡_};
 ghost use mathlib.Core.Bool.{true};
 ghost use mathlib.Core.List.{List};
-ghost use Prim.Native.Nat.{ℕ, _≤_, _<_, _+_, _*_, _/_, _%_, min};
-ghost use lib.ListN.{length, getD};
+ghost use Prim.Native.Nat.{_≤_, _<_, _+_, _*_, _/_, _%_};
+ghost use lib.ListN.{length};
 ghost use Rattle.syntax.specs.Bytes.{same};
 ghost use Rattle.syntax.specs.Known.{Entry};
-ghost use Rattle.names.specs.Table.{nameAt, Tabled, Found, Knows, Stands, Put, Added, Gave, Classed};
+ghost use Rattle.names.specs.Table.{nameWords, entryWords, mostNames, variableEntry, wordAt, lengthAt, firstAt, sizeAt, clauseAt, nameAt, Tabled, Found, Knows, Stands, Put, Added, Gave, Classed, countIn};
+
+// The layout, in words. Of an entry: the bytes of its name from 0 on, how many bytes, the first cell, how many cells, facts.
+const LENGTH: usize = 32;
+
+const FIRST: usize = 33;
+
+const SIZE: usize = 34;
+
+const FACTS: usize = 35;
+
+const ENTRY: usize = 36;
+
+// Of the table: at most MOST names, one entry more for the loop's variable, and the number of names.
+pub const MOST: usize = 16;
+
+pub const VARIABLE: usize = 16;
+
+const NUMBER: usize = 612;
+
+pub const WORDS: usize = 613;
+
+pub type Table = [u32; WORDS];
 
 // What is known of a name: whether it is declared and where it stands in the table; whether it takes a subscript and was given data; the clause
 // it stands in (0 none, 1 shared, 2 lastprivate, 3 reduction); its first cell and how many it has.
@@ -27,13 +49,70 @@ fn wide(x: u32) -> usize
     x as usize
 }
 
+fn sum(a: u32, b: u32) -> usize
+    ensures { λ r. ⌜ r ≡ a + b ⌝ }
+{
+    a as usize + b as usize
+}
+
+// ---- the words of an entry
+
+fn word_at(table: &Table, i: usize, k: usize) -> usize
+    requires { ⌜ (i ≤ variableEntry) × (k < entryWords) ⌝ }
+    ensures { λ r. ⌜ r ≡ wordAt (now (table .entry)) i k ⌝ }
+{
+    wide(table[ENTRY * i + k])
+}
+
+// How many bytes the name of entry i has.
+pub fn length_of(table: &Table, i: usize) -> usize
+    requires { ⌜ i ≤ variableEntry ⌝ }
+    ensures { λ r. ⌜ r ≡ lengthAt (now (table .entry)) i ⌝ }
+{
+    word_at(table, i, LENGTH)
+}
+
+// Byte k of the name of entry i.
+pub fn byte_of(table: &Table, i: usize, k: usize) -> u8
+    requires { ⌜ (i ≤ variableEntry) × (k < nameWords) × (wordAt (now table) i k < 256) ⌝ }
+    ensures { λ r. ⌜ r ≡ wordAt (now (table .entry)) i k ⌝ }
+{
+    word_at(table, i, k) as u8
+}
+
+// The first cell of entry i.
+pub fn first_of(table: &Table, i: usize) -> usize
+    requires { ⌜ i ≤ variableEntry ⌝ }
+    ensures { λ r. ⌜ r ≡ firstAt (now (table .entry)) i ⌝ }
+{
+    word_at(table, i, FIRST)
+}
+
+// The cell after the last of entry i.
+pub fn end_of(table: &Table, i: usize) -> usize
+    requires { ⌜ i ≤ variableEntry ⌝ }
+    ensures { λ r. ⌜ r ≡ firstAt (now (table .entry)) i + sizeAt (now (table .entry)) i ⌝ }
+{
+    sum(table[ENTRY * i + FIRST], table[ENTRY * i + SIZE])
+}
+
+// The clause that entry i stands in.
+pub fn clause_of(table: &Table, i: usize) -> u32
+    requires { ⌜ i ≤ variableEntry ⌝ }
+    ensures { λ r. ⌜ r ≡ clauseAt (now (table .entry)) i ⌝ }
+{
+    table[ENTRY * i + FACTS] / 4
+}
+
+// ---- names
+
 // Whether entry i has the name w.
-pub fn is_named(table: &[u32; 613], i: usize, w: &[u8]) -> bool
-    requires { ⌜ (i ≤ 16) × (length (now w) ≤ 32) ⌝ }
+pub fn is_named(table: &Table, i: usize, w: &[u8]) -> bool
+    requires { ⌜ (i ≤ variableEntry) × (length (now w) ≤ nameWords) ⌝ }
     ensures { λ r. ⌜ r ≡ same (now (w .entry)) (nameAt (now (table .entry)) i) ⌝ }
 {
-    let base = i * 36;
-    let n = wide(table[base + 32]);
+    let base = i * ENTRY;
+    let n = wide(table[base + LENGTH]);
     if n != w.len() {
         return false;
     }
@@ -48,17 +127,17 @@ pub fn is_named(table: &[u32; 613], i: usize, w: &[u8]) -> bool
 }
 
 // How many names there are.
-pub fn count(table: &[u32; 613]) -> usize
-    ensures { λ r. ⌜ r ≡ min (getD (now (table .entry)) 612 0) 16 ⌝ }
+pub fn count(table: &Table) -> usize
+    ensures { λ r. ⌜ r ≡ countIn (now (table .entry)) ⌝ }
 {
-    let n = wide(table[612]);
-    if n < 16 { n } else { 16 }
+    let n = wide(table[NUMBER]);
+    if n < MOST { n } else { MOST }
 }
 
 // The first entry that has the name w; the number of names where none has it.
-fn position(table: &[u32; 613], w: &[u8]) -> usize
-    requires { ⌜ length (now w) ≤ 32 ⌝ }
-    ensures { λ r. ⌜ Found (now (table .entry)) (min (getD (now (table .entry)) 612 0) 16) (now (w .entry)) r ⌝ }
+fn position(table: &Table, w: &[u8]) -> usize
+    requires { ⌜ length (now w) ≤ nameWords ⌝ }
+    ensures { λ r. ⌜ Found (now (table .entry)) (countIn (now (table .entry))) (now (w .entry)) r ⌝ }
 {
     let n = count(table);
     let mut i = 0;
@@ -72,9 +151,9 @@ fn position(table: &[u32; 613], w: &[u8]) -> usize
 }
 
 // What is known of the name w.
-pub fn find(table: &[u32; 613], w: &[u8]) -> Named
-    requires { ⌜ length (now w) ≤ 32 ⌝ }
-    ensures { λ r. ⌜ (r .index ≤ 16) × ((t : List Entry) → Tabled (now (table .entry)) t → Knows t (now (w .entry)) r) × ((t : List Entry) → Tabled (now (table .entry)) t → r .known ≡ true → Stands (now (table .entry)) t (now (w .entry)) r) ⌝ }
+pub fn find(table: &Table, w: &[u8]) -> Named
+    requires { ⌜ length (now w) ≤ nameWords ⌝ }
+    ensures { λ r. ⌜ (r .index ≤ mostNames) × ((t : List Entry) → Tabled (now (table .entry)) t → Knows t (now (w .entry)) r) × ((t : List Entry) → Tabled (now (table .entry)) t → r .known ≡ true → Stands (now (table .entry)) t (now (w .entry)) r) ⌝ }
 {
     let i = position(table, w);
     if count(table) <= i {
@@ -88,48 +167,48 @@ pub fn find(table: &[u32; 613], w: &[u8]) -> Named
             size: 0,
         };
     }
-    let base = i * 36;
-    let facts = table[base + 35];
+    let base = i * ENTRY;
+    let facts = table[base + FACTS];
     Named {
         known: true,
         index: i,
         subscripted: facts % 2 == 1,
         given: facts / 2 % 2 == 1,
         clause: facts / 4,
-        first: table[base + 33],
-        size: table[base + 34],
+        first: table[base + FIRST],
+        size: table[base + SIZE],
     }
 }
 
 // Writes the name of entry i.
-pub fn put_name(table: &mut [u32; 613], i: usize, w: &[u8])
-    requires { ⌜ (i ≤ 16) × (length (now w) ≤ 32) ⌝ }
+pub fn put_name(table: &mut Table, i: usize, w: &[u8])
+    requires { ⌜ (i ≤ variableEntry) × (length (now w) ≤ nameWords) ⌝ }
     ensures { λ _. ⌜ Put (now (table .entry)) i (now (w .entry)) (now (table .exit)) ⌝ }
 {
-    let base = i * 36;
+    let base = i * ENTRY;
     let mut k = 0;
     while k < w.len() {
         table[base + k] = w[k] as u32;
         k += 1;
     }
-    table[base + 32] = k as u32;
+    table[base + LENGTH] = k as u32;
 }
 
 // A name more, with its first cell, how many cells it has, and whether it takes a subscript. A full table is left as it is.
-pub fn add(table: &mut [u32; 613], w: &[u8], first: u32, size: u32, subscripted: bool)
-    requires { ⌜ length (now w) ≤ 32 ⌝ }
+pub fn add(table: &mut Table, w: &[u8], first: u32, size: u32, subscripted: bool)
+    requires { ⌜ length (now w) ≤ nameWords ⌝ }
     ensures { λ _. ⌜ Added (now (table .entry)) (now (w .entry)) first size subscripted (now (table .exit)) ⌝ }
 {
     let n = count(table);
-    if 16 <= n {
+    if MOST <= n {
         return;
     }
     put_name(table, n, w);
-    let base = n * 36;
-    table[base + 33] = first;
-    table[base + 34] = size;
-    table[base + 35] = if subscripted { 1 } else { 0 };
-    table[612] = n as u32 + 1;
+    let base = n * ENTRY;
+    table[base + FIRST] = first;
+    table[base + SIZE] = size;
+    table[base + FACTS] = if subscripted { 1 } else { 0 };
+    table[NUMBER] = n as u32 + 1;
 }
 
 // The facts of a name, and that it was given data.
@@ -140,19 +219,19 @@ fn with_data(facts: u32) -> u32
 }
 
 // Entry i was given data.
-pub fn give(table: &mut [u32; 613], i: usize)
-    requires { ⌜ i < 16 ⌝ }
+pub fn give(table: &mut Table, i: usize)
+    requires { ⌜ i < mostNames ⌝ }
     ensures { λ _. ⌜ Gave (now (table .entry)) i (now (table .exit)) ⌝ }
 {
-    let base = i * 36;
-    table[base + 35] = with_data(table[base + 35]);
+    let base = i * ENTRY;
+    table[base + FACTS] = with_data(table[base + FACTS]);
 }
 
 // Entry i stands in a clause.
-pub fn classify(table: &mut [u32; 613], i: usize, clause: u32)
-    requires { ⌜ (i < 16) × (clause ≤ 3) ⌝ }
+pub fn classify(table: &mut Table, i: usize, clause: u32)
+    requires { ⌜ (i < mostNames) × (clause ≤ 3) ⌝ }
     ensures { λ _. ⌜ Classed (now (table .entry)) i clause (now (table .exit)) ⌝ }
 {
-    let base = i * 36;
-    table[base + 35] = clause * 4 + table[base + 35] % 4;
+    let base = i * ENTRY;
+    table[base + FACTS] = clause * 4 + table[base + FACTS] % 4;
 }

@@ -2,6 +2,7 @@
 ghost use mathlib.Core.Path.{_≡_};
 ghost use lib.ListN.{length};
 ghost use Rattle.syntax.specs.Text.{read as readText};
+ghost use Rattle.code.specs.Compile.{codeWords};
 ghost use Rattle.preparing.specs.Prepared.{Prepared};
 use trial::Setting;
 
@@ -16,10 +17,10 @@ pub struct Ready {
 
 // Reads a text, and makes its code and the classes of its cells ready.
 pub fn prepare(text: &[u8], code: &mut [u32], classes: &mut [u32]) -> Ready
-    requires { ⌜ (length (now code) ≡ 8194) × (length (now classes) ≡ 4096) ⌝ }
+    requires { ⌜ (length (now code) ≡ codeWords) × (length (now classes) ≡ 4096) ⌝ }
     ensures { λ r. ⌜ Prepared (readText (now (text .entry))) r (now (code .exit)) (now (classes .exit)) ⌝ }
 {
-    let mut table = [0; 613];
+    let mut table = [0; names::WORDS];
     let mut initial: [i32; 4096] = [0; 4096];
     let r = reader::read(text, &mut table, &mut initial, code);
     let p = r.progress;

@@ -1,15 +1,15 @@
 -- Laws of names and data lines.
 use mathlib.Core.Path.{_≡_, refl, sym, _∙_, ap}
 use mathlib.Core.List.{List, [], _∷_, _++_, append-nil, append-assoc}
-use Prim.Native.Nat.{ℕ, zero, suc, _+_, _-_, _*_, _≤_, _<_, min}
+use Prim.Native.Nat.{ℕ, zero, suc, _+_, _-_, _*_, _≤_, _<_}
 use native.Mathlib.Numerals.{add-one}
 use native.Mathlib.Omega.{arith}
 use lib.ListN.{length, getD, set, take, drop, length-append, length-take}
-use lib.Seq.{sets-eq, take-suc, take-all, take-at, length-take-le, length-sets}
+use lib.Seq.{sets-eq, take-suc, take-all, take-at, drop-at, length-take-le, length-sets}
 use lib.IntN.{ℤ}
 use Rattle.rules.specs.Cells.{listed}
 use Rattle.rules.proofs.CellsLaws.{listed-length, listed-at}
-use Rattle.names.specs.Table.{wordAt, nameAt, Tabled}
+use Rattle.names.specs.Table.{wordAt, nameAt, Tabled, countIn, firstAt, lengthAt, sizeAt, nameWords}
 use Rattle.syntax.specs.Bytes.{bytes}
 use Rattle.syntax.specs.Known.{Entry, nowhere, cells}
 use Rattle.answers.specs.declared.Ran.{Ran}
@@ -37,43 +37,39 @@ name-more {b} {m} {at} T i k x e u =
     writes-up-to (omega arith)
     (writes-as (ap (λ (y : ℕ). listed k (λ j. wordAt T i j) ++ (y ∷ [])) e ∙ listed-more k (λ j. wordAt T i j)) (writes-then u (writes-one m (at + k) x)))
 
-pub name-all : {b a : List ℕ} {at r : ℕ} (T : List ℕ) (i k : ℕ) → k ≡ wordAt T i 32 → Writes b at (listed k (λ j. wordAt T i j)) a r → Writes b at (nameAt T i) a r
+pub name-all : {b a : List ℕ} {at r : ℕ} (T : List ℕ) (i k : ℕ) → k ≡ lengthAt T i → Writes b at (listed k (λ j. wordAt T i j)) a r → Writes b at (nameAt T i) a r
 unfolding nameAt
 name-all T i k e u = writes-as (ap (λ (n : ℕ). listed n (λ j. wordAt T i j)) e) u
 
-pub name-length : (T : List ℕ) (i : ℕ) → length (nameAt T i) ≡ wordAt T i 32
+pub name-length : (T : List ℕ) (i : ℕ) → length (nameAt T i) ≡ lengthAt T i
 unfolding nameAt
-name-length T i = listed-length (wordAt T i 32) (λ k. wordAt T i k)
+name-length T i = listed-length (lengthAt T i) (λ k. wordAt T i k)
 
 -- ---- a data line
 
 -- its parts, one after the other
-pub line-written : {b m₁ m₂ m₃ m₄ a : List ℕ} {at p₁ p₂ p₃ p₄ r : ℕ} (T : List ℕ) (m vs : List ℤ) (i first stop : ℕ) → first ≡ wordAt T i 33 → stop ≡ first + wordAt T i 34 → vs ≡ take (stop - first) (drop first m)
+pub line-written : {b m₁ m₂ m₃ m₄ a : List ℕ} {at p₁ p₂ p₃ p₄ r : ℕ} (T : List ℕ) (m vs : List ℤ) (i first stop : ℕ) → first ≡ firstAt T i → stop ≡ first + sizeAt T i → vs ≡ take (stop - first) (drop first m)
     → Writes b at (bytes "data ") m₁ p₁ → Writes m₁ p₁ (nameAt T i) m₂ p₂ → Writes m₂ p₂ (bytes " /") m₃ p₃ → Writes m₃ p₃ (values vs) m₄ p₄ → Writes m₄ p₄ (bytes "/" ++ newline) a r
     → Writes b at (lineAt T m i) a r
 unfolding lineAt
 line-written T m vs i first stop ef es ev u₁ u₂ u₃ u₄ u₅ =
-    let e : stop - first ≡ wordAt T i 34 = omega arith in
-    let d : values vs ≡ values (take (wordAt T i 34) (drop (wordAt T i 33) m)) = ap values (ev ∙ (λ h. take (e h) (drop (ef h) m))) in
+    let e : stop - first ≡ sizeAt T i = omega arith in
+    let d : values vs ≡ values (take (sizeAt T i) (drop (firstAt T i) m)) = ap values (ev ∙ (λ h. take (e h) (drop (ef h) m))) in
     writes-then u₁ (writes-then u₂ (writes-then u₃ (writes-then (writes-as d u₄) u₅)))
 
 -- its length
-pub line-few : (T : List ℕ) (m : List ℤ) (i : ℕ) → wordAt T i 32 ≤ 32 → length (lineAt T m i) ≤ 41 + 12 * wordAt T i 34
+pub line-few : (T : List ℕ) (m : List ℤ) (i : ℕ) → lengthAt T i ≤ nameWords → length (lineAt T m i) ≤ 41 + 12 * sizeAt T i
 unfolding lineAt
 line-few T m i h =
-    let vs = take (wordAt T i 34) (drop (wordAt T i 33) m) in
+    let vs = take (sizeAt T i) (drop (firstAt T i) m) in
     omega (
       arith,
       length-append (nameAt T i) (bytes " /" ++ (values vs ++ (bytes "/" ++ newline))),
       name-length T i,
       length-append (values vs) (bytes "/" ++ newline),
       values-few vs,
-      length-take (wordAt T i 34) (drop (wordAt T i 33) m),
+      length-take (sizeAt T i) (drop (firstAt T i) m),
     )
-
--- a part of the cells has no more than as many
-pub part-few : (m : List ℤ) (a n : ℕ) → length (take (a + n - a) (drop a m)) ≤ n
-part-few m a n = omega (arith, length-take (a + n - a) (drop a m))
 
 -- ---- data lines one after another
 
@@ -110,7 +106,7 @@ module _ (T : List ℕ) (m : List ℤ) (t : List Entry) (k : Tabled T t) where
       ∙ sym (data-lines-snoc (take n t) (getD t n nowhere) m)
       ∙ ap (λ (l : List Entry). data-lines l m) (sym (take-suc t n nowhere (omega arith)))
 
-  pub lines-all : {b a : List ℕ} {at r : ℕ} (n : ℕ) → n ≡ min (getD T 612 0) 16 → Writes b at (linesAt T m n) a r → Writes b at (data-lines t m) a r
+  pub lines-all : {b a : List ℕ} {at r : ℕ} (n : ℕ) → n ≡ countIn T → Writes b at (linesAt T m n) a r → Writes b at (data-lines t m) a r
   lines-all n e u =
       let h : n ≡ length t = omega (arith, k .count, k .few) in
       writes-as (lines-are n (omega arith) ∙ ap (λ (l : List Entry). data-lines l m) (take-all n t (omega arith))) u
@@ -135,11 +131,11 @@ module _ (T : List ℕ) (m : List ℤ) (t : List Entry) (k : Holds T m t) where
       record {
         low = omega (arith, k .tabled .few);
         short = omega (arith, name-length T i, ap length (o .name), o .short);
-        plain = λ j (b : j < wordAt T i 32).
-            omega (arith, k .plain i j h, ap (λ (l : List ℕ). getD l j 0) (o .name), listed-at (wordAt T i 32) (λ c. wordAt T i c) j 0 b);
+        plain = λ j (b : j < lengthAt T i).
+            omega (arith, k .plain i j h, ap (λ (l : List ℕ). getD l j 0) (o .name), listed-at (lengthAt T i) (λ c. wordAt T i c) j 0 b);
       }
 
-  pub cells-held : (i : ℕ) → i < length t → wordAt T i 33 + wordAt T i 34 ≤ length m
+  pub cells-held : (i : ℕ) → i < length t → firstAt T i + sizeAt T i ≤ length m
   cells-held i h = let o = k .tabled .rows i h in omega (arith, k .held i h, o .first, o .size)
 
   lines-few : (i : ℕ) → i ≤ length t → length (linesAt T m i) ≤ 41 * i + 12 * cells (take i t)
@@ -156,7 +152,7 @@ module _ (T : List ℕ) (m : List ℤ) (t : List Entry) (k : Holds T m t) where
       )
 
   -- there is room for the line of entry i
-  pub room : {b a : List ℕ} {at p : ℕ} (i : ℕ) → i < length t → at ≤ 44 → Writes b at (linesAt T m i) a p → p + 41 + 12 * wordAt T i 34 ≤ 2236
+  pub room : {b a : List ℕ} {at p : ℕ} (i : ℕ) → i < length t → at ≤ 44 → Writes b at (linesAt T m i) a p → p + 41 + 12 * sizeAt T i ≤ 2236
   room i h l u =
       omega (
         arith,
@@ -183,12 +179,13 @@ module _ (T : List ℕ) (m : List ℤ) (t : List Entry) (k : Holds T m t) where
 
 -- ---- a report
 
--- what was written from 0 on stands in front
-front : (b xs a : List ℕ) (r : ℕ) → length b ≡ 2236 → length xs ≤ 2236 → Writes b 0 xs a r → (r ≤ length a) × (take r a ≡ xs)
+-- what was written from 0 on stands in front, and what stood after it is left
+front : (b xs a : List ℕ) (r : ℕ) → length b ≡ 2236 → length xs ≤ 2236 → Writes b 0 xs a r → (r ≤ length a) × (take r a ≡ xs) × (drop r a ≡ drop r b)
 front b xs a r l h u =
     let e : a ≡ xs ++ drop (0 + length xs) b = u .bytes ∙ sets-eq xs b 0 (omega arith) in
     let p : length xs ≡ r = omega (arith, u .place) in
-    (omega (arith, ap length (u .bytes), length-sets b 0 xs), ap (take r) e ∙ take-at xs (drop (0 + length xs) b) r p)
+    let q : 0 + length xs ≡ r = omega arith in
+    (omega (arith, ap length (u .bytes), length-sets b 0 xs), ap (take r) e ∙ take-at xs (drop (0 + length xs) b) r p, ap (drop r) e ∙ drop-at xs (drop (0 + length xs) b) r p ∙ ap (λ (k : ℕ). drop k b) q)
 
 report-complete : (answer : Ran) (t : List Entry) (m : List ℤ) → Completes answer → comment answer ++ data-lines t m ≡ report answer t m
 unfolding report
@@ -205,7 +202,7 @@ report-refused (Faulted n k v) t m c = refl
 report-refused (Refused n k) t m c = refl
 
 module _ (answer : Ran) (T : List ℕ) (m : List ℤ) (b : List ℕ) (l : length b ≡ 2236) where
-  pub reports-lines : {d a : List ℕ} {at r : ℕ} → Completes answer → (t : List Entry) → Holds T m t → Writes b 0 (comment answer) d at → ((t : List Entry) → Tabled T t → Writes d at (data-lines t m) a r) → Reports answer T m a r
+  pub reports-lines : {d a : List ℕ} {at r : ℕ} → Completes answer → (t : List Entry) → Holds T m t → Writes b 0 (comment answer) d at → ((t : List Entry) → Tabled T t → Writes d at (data-lines t m) a r) → Reports answer T m b a r
   reports-lines {d} {a} {at} {r} c t k u v =
       let few : length (comment answer ++ data-lines t m) ≤ 2236 = omega (arith, comment-few answer, all-few T m t k, length-append (comment answer) (data-lines t m)) in
       let f = front b (comment answer ++ data-lines t m) a r l few (writes-then u (v t (k .tabled))) in
@@ -215,13 +212,15 @@ module _ (answer : Ran) (T : List ℕ) (m : List ℤ) (b : List ℕ) (l : length
         bytes = λ s h.
             let w = writes-then u (v s (h c)) in
             front b (comment answer ++ data-lines s m) a r l (omega (arith, w .place, writes-then u (v t (k .tabled)) .place)) w .1 ∙ report-complete answer s m c;
+        rest = f .2;
       }
 
-  pub reports-refusal : {a : List ℕ} {r : ℕ} → (Completes answer → ⊥) → Writes b 0 (comment answer) a r → Reports answer T m a r
+  pub reports-refusal : {a : List ℕ} {r : ℕ} → (Completes answer → ⊥) → Writes b 0 (comment answer) a r → Reports answer T m b a r
   reports-refusal {a} {r} c u =
       let f = front b (comment answer) a r l (omega (arith, comment-few answer)) u in
       record {
         within = f .0;
         counted = sym (length-take-le r a (f .0));
         bytes = λ s h. f .1 ∙ report-refused answer s m c;
+        rest = f .2;
       }

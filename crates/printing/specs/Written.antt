@@ -6,7 +6,7 @@ use lib.ListN.{length, getD, take, drop}
 use lib.Seq.{sets}
 use lib.IntN.{ℤ}
 use Rattle.syntax.specs.Known.{Entry, nowhere, cells}
-use Rattle.names.specs.Table.{wordAt, nameAt, Tabled}
+use Rattle.names.specs.Table.{wordAt, nameAt, Tabled, firstAt, lengthAt, sizeAt, nameWords, mostNames}
 use Rattle.answers.specs.declared.Ran.{Ran}
 use Rattle.answers.specs.declared.Ran.the-variants.{Passed, Rerun, Faulted, Refused}
 use Rattle.syntax.specs.Bytes.{bytes}
@@ -19,9 +19,9 @@ pub record Writes (before : List ℕ) (at : ℕ) (xs after : List ℕ) (r : ℕ)
 
 -- entry i has a name of at most 32 bytes
 pub record Named (T : List ℕ) (i : ℕ) : Type 0 where
-  pub low : i < 16
-  pub short : wordAt T i 32 ≤ 32
-  pub plain : (k : ℕ) → k < wordAt T i 32 → wordAt T i k < 256
+  pub low : i < mostNames
+  pub short : lengthAt T i ≤ nameWords
+  pub plain : (k : ℕ) → k < lengthAt T i → wordAt T i k < 256
 
 -- the table stands for the names t, whose cells are among m, at most 128 in all
 pub record Holds (T : List ℕ) (m : List ℤ) (t : List Entry) : Type 0 where
@@ -37,7 +37,7 @@ valueAt (suc k) v = bytes "," ++ signed v
 
 -- the data line of entry i of the table
 unfoldable pub lineAt : List ℕ → List ℤ → ℕ → List ℕ
-lineAt T m i = data-line (nameAt T i) (take (wordAt T i 34) (drop (wordAt T i 33) m))
+lineAt T m i = data-line (nameAt T i) (take (sizeAt T i) (drop (firstAt T i) m))
 
 -- an answer with cells to print
 abbrev pub Completes : Ran → Type 0
@@ -46,8 +46,9 @@ Completes (Rerun a b) = Unit {0}
 Completes (Faulted n k v) = ⊥
 Completes (Refused n k) = ⊥
 
--- the first r bytes of the buffer are the report
-pub record Reports (answer : Ran) (T : List ℕ) (m : List ℤ) (after : List ℕ) (r : ℕ) : Type 0 where
+-- the first r bytes of the buffer are the report, and the others are as they were
+pub record Reports (answer : Ran) (T : List ℕ) (m : List ℤ) (before after : List ℕ) (r : ℕ) : Type 0 where
   pub within : r ≤ length after
   pub counted : r ≡ length (take r after)
   pub bytes : (t : List Entry) → (Completes answer → Tabled T t) → take r after ≡ report answer t m
+  pub rest : drop r after ≡ drop r before

@@ -4,11 +4,12 @@ ghost use mathlib.Core.Path.{_≡_};
 ghost use mathlib.Core.List.{List, [], _∷_};
 ghost use Prim.Native.Nat.{_+_, _*_, _≤_, _<_};
 ghost use lib.ListN.{length};
-ghost use Rattle.names.specs.Table.{wordAt, nameAt, Tabled};
+ghost use Rattle.names.specs.Table.{nameAt, Tabled, firstAt, sizeAt, nameWords};
 ghost use Rattle.syntax.specs.Known.{Entry};
 ghost use Rattle.printing.specs.Printed.{digits, signed, counted, refusal, comment, values, data-lines};
 ghost use Rattle.printing.specs.Written.{Writes, Named, Holds, valueAt, lineAt, Completes, Reports};
 use answers::Ran;
+use names::Table;
 
 // ---- bytes and numbers
 
@@ -98,38 +99,15 @@ fn put_comment(out: &mut [u8; 2236], answer: Ran) -> usize
 
 // ---- data lines
 
-// A word as an index.
-fn wide(x: u32) -> usize
-    ensures { λ r. ⌜ r ≡ x ⌝ }
-{
-    x as usize
-}
-
-// A word of entry i.
-fn word_at(table: &[u32; 613], i: usize, k: usize) -> usize
-    requires { ⌜ (i < 16) × (k < 36) ⌝ }
-    ensures { λ r. ⌜ r ≡ wordAt (now (table .entry)) i k ⌝ }
-{
-    wide(table[i * 36 + k])
-}
-
-// A byte of the name of entry i.
-fn byte_at(table: &[u32; 613], i: usize, k: usize) -> u8
-    requires { ⌜ (i < 16) × (k < 32) × (wordAt (now table) i k < 256) ⌝ }
-    ensures { λ r. ⌜ r ≡ wordAt (now (table .entry)) i k ⌝ }
-{
-    word_at(table, i, k) as u8
-}
-
 // The name of entry i.
-fn put_name(out: &mut [u8; 2236], at: usize, table: &[u32; 613], i: usize) -> usize
-    requires { ⌜ (at + 32 ≤ 2236) × Named (now table) i ⌝ }
+fn put_name(out: &mut [u8; 2236], at: usize, table: &Table, i: usize) -> usize
+    requires { ⌜ (at + nameWords ≤ 2236) × Named (now table) i ⌝ }
     ensures { λ r. ⌜ Writes (now (out .entry)) at (nameAt (now (table .entry)) i) (now (out .exit)) r ⌝ }
 {
-    let n = word_at(table, i, 32);
+    let n = names::length_of(table, i);
     let mut k = 0;
     while k < n {
-        out[at + k] = byte_at(table, i, k);
+        out[at + k] = names::byte_of(table, i, k);
         k += 1;
     }
     at + k
@@ -161,12 +139,12 @@ fn put_values(out: &mut [u8; 2236], at: usize, vs: &[i32]) -> usize
 }
 
 // The data line of entry i.
-fn put_data(out: &mut [u8; 2236], at: usize, table: &[u32; 613], i: usize, cells: &[i32]) -> usize
-    requires { ⌜ Named (now table) i × (wordAt (now table) i 33 + wordAt (now table) i 34 ≤ length (now cells)) × (at + 41 + 12 * wordAt (now table) i 34 ≤ 2236) ⌝ }
+fn put_data(out: &mut [u8; 2236], at: usize, table: &Table, i: usize, cells: &[i32]) -> usize
+    requires { ⌜ Named (now table) i × (firstAt (now table) i + sizeAt (now table) i ≤ length (now cells)) × (at + 41 + 12 * sizeAt (now table) i ≤ 2236) ⌝ }
     ensures { λ r. ⌜ Writes (now (out .entry)) at (lineAt (now (table .entry)) (now (cells .entry)) i) (now (out .exit)) r ⌝ }
 {
-    let first = word_at(table, i, 33);
-    let stop = first + word_at(table, i, 34);
+    let first = names::first_of(table, i);
+    let stop = names::end_of(table, i);
     let a = put_bytes(out, at, b"data ");
     let b = put_name(out, a, table, i);
     let c = put_bytes(out, b, b" /");
@@ -174,7 +152,7 @@ fn put_data(out: &mut [u8; 2236], at: usize, table: &[u32; 613], i: usize, cells
     put_bytes(out, d, b"/\n")
 }
 
-fn put_data_lines(out: &mut [u8; 2236], at: usize, table: &[u32; 613], cells: &[i32]) -> usize
+fn put_data_lines(out: &mut [u8; 2236], at: usize, table: &Table, cells: &[i32]) -> usize
     requires { ⌜ (at ≤ 44) × ((t : List Entry) × Holds (now table) (now cells) t) ⌝ }
     ensures { λ r. ⌜ ((t : List Entry) → Tabled (now (table .entry)) t → Writes (now (out .entry)) at (data-lines t (now (cells .entry))) (now (out .exit)) r) ⌝ }
 {
@@ -191,9 +169,9 @@ fn put_data_lines(out: &mut [u8; 2236], at: usize, table: &[u32; 613], cells: &[
 // ---- all of it
 
 // The report of an answer over the names and the cells; how many bytes it has.
-pub fn report(out: &mut [u8; 2236], answer: Ran, table: &[u32; 613], cells: &[i32]) -> usize
+pub fn report(out: &mut [u8; 2236], answer: Ran, table: &Table, cells: &[i32]) -> usize
     requires { ⌜ (length (now out) ≡ 2236) × (Completes answer → (t : List Entry) × Holds (now table) (now cells) t) ⌝ }
-    ensures { λ r. ⌜ Reports answer (now (table .entry)) (now (cells .entry)) (now (out .exit)) r ⌝ }
+    ensures { λ r. ⌜ Reports answer (now (table .entry)) (now (cells .entry)) (now (out .entry)) (now (out .exit)) r ⌝ }
 {
     let at = put_comment(out, answer);
     match answer {

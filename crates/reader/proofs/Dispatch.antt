@@ -8,7 +8,7 @@ use lib.IntN.{ℤ}
 use Rattle.syntax.specs.Grammar.{otherwise, end-if, inside, end-do}
 use Rattle.syntax.specs.Reader.{readDeclare, readGive, readLoop, readAssign, readWhen, peek-in, skip-in}
 use Rattle.lines.specs.declared.Progress.{Progress}
-use Rattle.lines.specs.Progress.{Represents, Underway, Concludes}
+use Rattle.lines.specs.Progress.{Underway, Concludes}
 use Rattle.lines.specs.Lines.{Takes, readOpening, readClosing, reads}
 use Rattle.reader.specs.declared.Kind.{Kind}
 use Rattle.reader.specs.declared.Kind.the-variants.{Broken, Integer, Data, Opening, Loop, Assignment, If, Else, EndIf, EndDo, Closing}

@@ -4,26 +4,23 @@ use mathlib.Core.Bool.{Bool, true, false, cond, _&&_, _||_, not}
 use mathlib.Core.List.{List, [], _∷_}
 use mathlib.Core.Logic.{_⊎_, inl, inr}
 use mathlib.Core.Option.{Option, none, some}
-use Prim.Native.Nat.{ℕ, zero, suc, _+_, _*_, _≤_, _<_}
+use Prim.Native.Nat.{ℕ, suc, _+_, _*_, _≤_, _<_}
 use native.Mathlib.Omega.{arith}
 use borrow.Author.Tests.{le-leb, lt-leb}
-use lib.Dec.{leb}
 use lib.ListN.{length}
 use lib.IntN.{ℤ}
 use Rattle.syntax.specs.Bytes.{choose, tokens, skipped-line, sound-line}
-use Rattle.syntax.specs.Grammar.{Line, declare, give, direct, loop, assign, when, otherwise, end-if, inside, end-do, close, showLine}
+use Rattle.syntax.specs.Grammar.{Line, declare, give, direct, loop, assign, when, otherwise, end-if, inside, end-do, close}
 use Rattle.syntax.specs.Known.{Open, State, otherwise-after, end-if-after, after}
 use Rattle.syntax.specs.Conditions.{names, limits, stageOf, follows, fits, stands, finished}
-use Rattle.syntax.specs.Reader.{Parsed, broken, done, parse, readStart, readLine, peek-in, skip-in}
+use Rattle.syntax.specs.Reader.{Parsed, broken, done, parse, readStart, peek-in, skip-in}
 use Rattle.syntax.specs.Text.{Verdict, refused, good, judged, judge-line}
 use Rattle.syntax.proofs.Theorem.{line-exactly}
-use Rattle.syntax.proofs.Spelling.{both-true}
 use Rattle.syntax.proofs.Sane.{Sane, after-sane}
 use Rattle.code.specs.Compile.{codeOf}
 use Rattle.code.proofs.CodeLength.{line-length}
 use Rattle.lines.specs.declared.Progress.{Progress}
 use Rattle.lines.specs.Progress.{Represents, numberOf, whole, Concludes}
-use Rattle.lines.specs.Lines.{Takes}
 use Rattle.lines.proofs.Yields.{Yields}
 use Rattle.reader.specs.declared.Kind.{Kind}
 use Rattle.reader.specs.Kinds.{readBy, stageBy, Kinds}

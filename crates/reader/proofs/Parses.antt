@@ -1,16 +1,16 @@
 -- Reading a line's bytes is reading its tokens.
 use mathlib.Core.Path.{_≡_, refl, sym, _∙_, ap}
-use mathlib.Core.Bool.{Bool, true, false, cond}
+use mathlib.Core.Bool.{Bool, true, false}
 use mathlib.Core.List.{List, [], _∷_}
 use mathlib.Core.Option.{Option, none, some}
 use Prim.Native.Nat.{ℕ, zero, suc, _+_, _-_, _*_, _≤_}
 use native.Mathlib.Omega.{arith}
 use lib.Dec.{eqb}
 use lib.ListN.{length, take}
-use Rattle.syntax.specs.Bytes.{choose, Token, token-of, tokens, tokens-after, token-size}
-use Rattle.syntax.specs.Grammar.{Line, otherwise, end-if, inside, end-do, close, showLine}
+use Rattle.syntax.specs.Bytes.{choose, token-of, tokens, tokens-after, token-size}
+use Rattle.syntax.specs.Grammar.{Line, close}
 use Rattle.syntax.specs.Conditions.{stageOf}
-use Rattle.syntax.specs.Reader.{Parsed, broken, done, Reader, next, finish, expects, wants, parse, readStart, readLine, peek-in, skip-in}
+use Rattle.syntax.specs.Reader.{Parsed, broken, done, next, finish, expects, wants, parse, readStart, readLine, peek-in, skip-in}
 use Rattle.syntax.proofs.Theorem.{line-exactly}
 use Rattle.syntax.proofs.Places.{bytes-sound, bytes-complete}
 use Rattle.lines.specs.Progress.{whole}

@@ -1,12 +1,12 @@
 -- How far the lines of a text were read.
 use mathlib.Core.Path.{_≡_, refl, sym, _∙_, ap, subst}
 use mathlib.Core.Bool.{Bool, true, false}
-use mathlib.Core.List.{List, [], _∷_}
-use Prim.Native.Nat.{ℕ, zero, suc, _+_, _-_, _*_, _≤_, _<_}
+use mathlib.Core.List.{List, []}
+use Prim.Native.Nat.{ℕ, zero, suc, _+_, _-_, _*_, _≤_}
 use native.Mathlib.Omega.{arith}
 use borrow.Author.Tests.{leb-true, leb-false}
 use lib.Dec.{leb}
-use lib.ListN.{length, getD, take, drop, replicate, length-take, length-drop, length-replicate}
+use lib.ListN.{length, getD, take, drop, replicate, length-take, length-replicate}
 use lib.IntN.{ℤ, pos}
 use Rattle.rules.specs.Cells.{listed}
 use Rattle.syntax.specs.Bytes.{lines}
@@ -14,14 +14,14 @@ use Rattle.syntax.specs.Known.{State, nothing}
 use Rattle.syntax.specs.Text.{Verdict, refused, good, go-on, loaded, judge, judge-line}
 use Rattle.syntax.proofs.Sane.{Sane, nothing-sane}
 use Rattle.code.specs.Instr.{words}
-use Rattle.code.specs.Compile.{codeOf, codeLines, codeOpens, codeStmts, places, placesOf}
+use Rattle.code.specs.Compile.{codeWords, codeOf, codeLines, codeOpens, codeStmts, places, placesOf}
 use Rattle.lexer.specs.Lex.{ended}
-use Rattle.names.specs.Table.{nameAt, variableOf, Tabled}
+use Rattle.names.specs.Table.{nameAt, variableOf, Tabled, tableWords, entryWords, variableEntry, lengthWord, numberWord}
 use Rattle.lines.specs.declared.Progress.{Progress}
 use Rattle.lines.specs.Progress.{Opened, Represents}
 use Rattle.reader.specs.declared.Reading.{Reading}
 use Rattle.reader.specs.Judged.{Judged, Lent, JudgesLine, Reads, Fresh}
-use Rattle.reader.proofs.Judging.{Kept, judged-keeps}
+use Rattle.reader.proofs.Judging.{judged-keeps}
 use Rattle.reader.proofs.TextLines.{end-within, end-after, judge-last, judge-more}
 
 pub record Reached (s : List ℕ) (n : ℕ) (T : List ℕ) (I : List ℤ) (C O : List ℕ) (at line : ℕ) (p : Progress) : Type 0 where
@@ -30,7 +30,7 @@ pub record Reached (s : List ℕ) (n : ℕ) (T : List ℕ) (I : List ℤ) (C O :
   pub low : line ≤ at + 1
   pub fine : p .number ≡ 0
   pub initial : length I ≡ 4096
-  pub code : length C ≡ 8194
+  pub code : length C ≡ codeWords
   pub known : State
   pub represents : Represents p T I C O known
   pub sane : Sane known
@@ -50,12 +50,12 @@ none-read = record { number = 0; stage = 0; cells = 0; processors = 0; from = po
 
 module _ (T : List ℕ) (I : List ℤ) (C O : List ℕ) (h : Fresh T I C) where
   zero-at : (i : ℕ) → getD T i 0 ≡ 0
-  zero-at i = ap (λ (l : List ℕ). getD l i 0) (h .table) ∙ getD-zeros 613 i
+  zero-at i = ap (λ (l : List ℕ). getD l i 0) (h .table) ∙ getD-zeros tableWords i
 
   tabled-none : Tabled T []
   tabled-none = record {
-    long = omega (arith, ap length (h .table), length-replicate {A = ℕ} 613 0);
-    count = zero-at 612;
+    long = omega (arith, ap length (h .table), length-replicate {A = ℕ} tableWords 0);
+    count = zero-at numberWord;
     few = omega arith;
     rows = λ i b. absurd (omega arith);
     distinct = λ i j a b. absurd (omega arith);
@@ -64,7 +64,7 @@ module _ (T : List ℕ) (I : List ℤ) (C O : List ℕ) (h : Fresh T I C) where
 
   nameless : variableOf T ≡ []
   unfolding nameAt listed
-  nameless = ap (λ (n : ℕ). listed n (λ k. getD T (36 * 16 + k) 0)) (zero-at (36 * 16 + 32))
+  nameless = ap (λ (n : ℕ). listed n (λ k. getD T (entryWords * variableEntry + k) 0)) (zero-at (entryWords * variableEntry + lengthWord))
 
   code-none : (codeOf nothing ≡ []) × (placesOf nothing ≡ [])
   unfolding codeOf codeLines codeOpens codeStmts places
@@ -76,7 +76,7 @@ module _ (T : List ℕ) (I : List ℤ) (C O : List ℕ) (h : Fresh T I C) where
     stage = refl;
     table = tabled-none;
     variable = nameless;
-    short = omega (arith, zero-at (36 * 16 + 32));
+    short = omega (arith, zero-at (entryWords * variableEntry + lengthWord));
     unclaimed = λ _ i l. absurd (omega arith);
     nameless = λ _. refl;
     cells-so-far = refl;

@@ -6,8 +6,8 @@ use Prim.Native.Nat.{ℕ, _≤_}
 use Prim.Native.String.{String}
 use lib.ListN.{length, drop}
 use Rattle.syntax.specs.Bytes.{choose, same, bytes}
-use Rattle.syntax.specs.Grammar.{Line, otherwise, end-if, inside, end-do}
-use Rattle.syntax.specs.Reader.{Parsed, broken, done, next, text, sees, says, wants, readDeclare, readGive, readDirective, readLoop, readAssign, readWhen, readEnd, readStart, peek-in, skip-in}
+use Rattle.syntax.specs.Grammar.{otherwise, end-if, inside, end-do}
+use Rattle.syntax.specs.Reader.{broken, done, next, sees, says, wants, readDeclare, readGive, readDirective, readLoop, readAssign, readWhen, readEnd, readStart, peek-in, skip-in}
 use Rattle.lexer.specs.declared.Tok.{Tok}
 use Rattle.lexer.specs.Lex.{part, Lexed}
 use Rattle.lexer.proofs.Said.{signed, lettered, sign-text, word-text}

@@ -1,15 +1,15 @@
 -- The lines of a text, one after the other.
-use mathlib.Core.Path.{_≡_, refl, sym, _∙_, ap, subst}
+use mathlib.Core.Path.{_≡_, refl, sym, _∙_, ap}
 use mathlib.Core.Bool.{Bool, true, false, cond, not}
 use mathlib.Core.List.{List, [], _∷_}
-use Prim.Native.Nat.{ℕ, zero, suc, _+_, _-_, _≤_, _<_}
+use Prim.Native.Nat.{ℕ, suc, _+_, _-_, _≤_, _<_}
 use native.Mathlib.Omega.{arith}
 use lib.Dec.{eqb}
 use lib.ListN.{length, take, drop, length-drop}
 use lib.Seq.{drop-drop}
 use Rattle.syntax.specs.Bytes.{choose, run, after-newline, in-front, lines}
 use Rattle.syntax.specs.Known.{State}
-use Rattle.syntax.specs.Text.{Verdict, refused, good, is-last, go-on, judge, judge-line}
+use Rattle.syntax.specs.Text.{good, is-last, go-on, judge, judge-line}
 use Rattle.lexer.specs.Lex.{ended}
 
 -- no newline

@@ -8,6 +8,8 @@ use lib.IntN.{ℤ, pos}
 use Rattle.syntax.specs.Known.{State}
 use Rattle.syntax.specs.Text.{Verdict, refused, good, judge-line}
 use Rattle.syntax.proofs.Sane.{Sane}
+use Rattle.code.specs.Compile.{codeWords}
+use Rattle.names.specs.Table.{tableWords}
 use Rattle.lines.specs.declared.Progress.{Progress}
 use Rattle.lines.specs.Progress.{Represents}
 use Rattle.reader.specs.declared.Reading.{Reading}
@@ -42,6 +44,6 @@ Reads (good s) r T I C = (r .progress .number ≡ 0) × ((O : List ℕ) × Repre
 
 -- what is lent before the first line is all zero, and there is room for the code
 pub record Fresh (T : List ℕ) (I : List ℤ) (C : List ℕ) : Type 0 where
-  pub table : T ≡ replicate 613 0
+  pub table : T ≡ replicate tableWords 0
   pub initial : I ≡ replicate 4096 (pos 0)
-  pub code : length C ≡ 8194
+  pub code : length C ≡ codeWords

@@ -1,19 +1,18 @@
 // The reader of loop texts: one pass over the lines that checks them, keeps the names, the data and the bounds, and emits the code of the body.
 ghost use mathlib.Core.Path.{_≡_};
 ghost use mathlib.Core.Bool.{true, false};
-ghost use Prim.Native.Nat.{_≤_, _<_, _+_, _*_};
-ghost use lib.Dec.{leb, eqb};
+ghost use Prim.Native.Nat.{_≤_, _<_, _+_};
+ghost use lib.Dec.{eqb};
 ghost use lib.ListN.{length, drop};
 ghost use lib.IntN.{pos};
 ghost use Rattle.syntax.specs.Bytes.{all, printable, bytes, starts as startsWith, trimmed, lines, skipped-line, sound-line};
-ghost use Rattle.syntax.specs.Conditions.{several, may-miss, follows, finished};
+ghost use Rattle.syntax.specs.Conditions.{several, may-miss, follows};
 ghost use Rattle.syntax.specs.Reader.{readDirective, readEnd, readStart, peek-in, skip-in};
 ghost use Rattle.lines.specs.Lines.{Takes};
 ghost use Rattle.reader.specs.Kinds.{readBy, stageBy, Inside, Kinds};
 ghost use Rattle.syntax.specs.Known.{nothing};
 ghost use Rattle.syntax.specs.Text.{judge, read as readText};
 ghost use Rattle.reader.specs.Judged.{Lent, JudgesLine, Reads, Fresh};
-use lexer::Tok;
 use lexer::cursor::take;
 use lexer::line_end;
 use lexer::lowered;
@@ -32,6 +31,7 @@ use lines::end_if_line;
 use lines::if_line;
 use lines::integer_line;
 use lines::loop_line;
+use names::Table;
 
 // What a line is, by its first words; the place after them where nothing else is to be read, and whether `end` and what it ends are one word.
 pub enum Kind {
@@ -273,7 +273,7 @@ fn line_by(
     k: Kind,
     line: u32,
     p: Progress,
-    table: &mut [u32; 613],
+    table: &mut Table,
     initial: &mut [i32],
     code: &mut [u32],
     opens: &mut [u32; 8],
@@ -302,7 +302,7 @@ fn spoken_line(
     last: bool,
     line: u32,
     p: Progress,
-    table: &mut [u32; 613],
+    table: &mut Table,
     initial: &mut [i32],
     code: &mut [u32],
     opens: &mut [u32; 8],
@@ -329,7 +329,7 @@ fn judge_line(
     last: bool,
     line: u32,
     p: Progress,
-    table: &mut [u32; 613],
+    table: &mut Table,
     initial: &mut [i32],
     code: &mut [u32],
     opens: &mut [u32; 8],
@@ -376,7 +376,7 @@ fn start() -> Progress
 }
 
 // The lines of a text in lower case, up to the first bad one.
-fn read_lines(s: &[u8], table: &mut [u32; 613], initial: &mut [i32], code: &mut [u32]) -> Reading
+fn read_lines(s: &[u8], table: &mut Table, initial: &mut [i32], code: &mut [u32]) -> Reading
     requires { ⌜ (length (now s) ≤ 2048) × Fresh (now table) (now initial) (now code) ⌝ }
     ensures { λ r. ⌜ Reads (judge 1 nothing (lines (now (s .entry)))) r (now (table .exit)) (now (initial .exit)) (now (code .exit)) ⌝ }
 {
@@ -421,7 +421,8 @@ fn too_long() -> Reading
 }
 
 // A whole text: the number and the line of the first bad one, or what is known of it, with its names, the cells from its data and its code.
-pub fn read(text: &[u8], table: &mut [u32; 613], initial: &mut [i32], code: &mut [u32]) -> Reading
+// Free: after a refusal all that is lent to be written, and the progress but for its number; else the table's words that stand for no name, and the code past its end.
+pub fn read(text: &[u8], table: &mut Table, initial: &mut [i32], code: &mut [u32]) -> Reading
     requires { ⌜ Fresh (now table) (now initial) (now code) ⌝ }
     ensures { λ r. ⌜ Reads (readText (now (text .entry))) r (now (table .exit)) (now (initial .exit)) (now (code .exit)) ⌝ }
 {

@@ -15,7 +15,7 @@ pub fn run_serially(text: &[u8], cells: &mut [i32], workspace: &mut [u32]) -> Se
     ensures { λ r. ⌜ SerialOf (readText (now (text .entry))) (now (cells .entry)) (now (workspace .entry)) r (now (cells .exit)) (now (workspace .exit)) ⌝ }
     ensures { λ r. ⌜ servedNumbers r ≡ serialNumbers (readText (now (text .entry))) (now (cells .entry)) (length (now (workspace .entry))) ⌝ }
 {
-    let mut code = [0; 8194];
+    let mut code = [0; code::WORDS];
     let mut classes = [0; 4096];
     let r = prepare(text, &mut code, &mut classes);
     if r.number != 0 {

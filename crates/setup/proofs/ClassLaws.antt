@@ -2,19 +2,19 @@
 use mathlib.Core.Path.{_≡_, refl, sym, _∙_, ap}
 use mathlib.Core.Bool.{Bool, true, false, cond, _&&_}
 use mathlib.Core.List.{List, [], _∷_}
-use mathlib.Core.Logic.{_⊎_, inl, inr}
-use Prim.Native.Nat.{ℕ, zero, suc, _+_, _-_, _*_, _/_, _≤_, _<_, min}
-use native.Mathlib.Decide.{ℕ-discrete}
+use Prim.Native.Nat.{ℕ, zero, suc, _+_, _≤_, _<_, max}
+use native.Mathlib.Decide.{decLe, decLt, ℕ-discrete}
 use native.Mathlib.Omega.{arith}
 use borrow.Author.Tests.{lt-ltb, le-ltb, le-leb, lt-leb}
 use lib.Dec.{leb, ltb}
 use lib.ListN.{length, getD, set, drop, length-set}
 use lib.Seq.{drop-cons, getD-set-same, getD-set-other}
-use Rattle.rules.specs.Loop.{Class, shared}
+use Rattle.rules.specs.Loop.{shared}
 use Rattle.syntax.specs.Known.{Entry, nowhere}
 use Rattle.syntax.specs.Meaning.{class-of}
-use Rattle.names.specs.Table.{wordAt, classOf, Row, Tabled}
+use Rattle.names.specs.Table.{firstAt, sizeAt, countIn, classOf, Row, Tabled}
 use Rattle.tables.specs.Layout.{class-number}
+use Rattle.setup.specs.Classes.{Filled, Marked, Classifies}
 
 -- ---- numbers
 
@@ -29,68 +29,102 @@ number-high (suc zero) a b = absurd (a (omega arith))
 number-high (suc (suc zero)) a b = absurd (b refl)
 number-high (suc (suc (suc n))) a b = refl
 
--- ---- the names from one on
+-- ---- cells filled one after another
+
+pub filled-none : (C : List ℕ) (a x : ℕ) → Filled C a a x C
+filled-none C a x = record { size = refl; inside = λ c p q. absurd (omega arith); outside = λ c n. refl }
+
+pub filled-more : (before C : List ℕ) (a c x : ℕ) → Filled before a c x C → a ≤ c → c < length C → Filled before a (c + 1) x (set C c x)
+filled-more before C a c x f o b = record {
+  size = length-set C c x ∙ f .size;
+  inside = λ d p q. elim (ℕ-discrete d c) [
+    | yes e ↦ ap (λ (i : ℕ). getD (set C c x) i 0) e ∙ getD-set-same C c x 0 b
+    | no n ↦ getD-set-other C c d x 0 n ∙ f .inside d p (omega (arith, n))
+  ];
+  outside = λ d n. getD-set-other C c d x 0 (λ e. n (omega arith) (omega arith)) ∙ f .outside d (λ p q. n p (omega arith));
+}
+
+-- to the end
+pub filled-all : (before C : List ℕ) (a c e x : ℕ) → Filled before a c x C → c ≤ max a e → e ≤ c → Filled before a e x C
+filled-all before C a c e x f m l = record {
+  size = f .size;
+  inside = λ d p q. f .inside d p (omega arith);
+  outside = λ d n. f .outside d (λ p q. n p (omega arith));
+}
+
+-- by what the numbers are
+pub filled-as : {before C : List ℕ} {a a′ e e′ x x′ : ℕ} → a ≡ a′ → e ≡ e′ → x ≡ x′ → Filled before a e x C → Filled before a′ e′ x′ C
+filled-as p q r f = record {
+  size = f .size;
+  inside = λ c h k. f .inside c (omega arith) (omega arith) ∙ r;
+  outside = λ c n. f .outside c (λ h k. n (omega arith) (omega arith));
+}
+
+-- ---- name by name, from the last
+
+class-none : (t : List Entry) (n c : ℕ) → n ≡ length t → class-of (drop n t) c ≡ shared
+unfolding class-of
+class-none [] zero c e = refl
+class-none [] (suc n) c e = absurd (omega arith)
+class-none (x ∷ t) zero c e = absurd (omega arith)
+class-none (x ∷ t) (suc n) c e = class-none t n c (omega arith)
 
 class-step : (e : Entry) (es : List Entry) (c : ℕ) (b : Bool) → leb (e .first) c && ltb c (e .first + e .size) ≡ b → class-of (e ∷ es) c ≡ cond b (e .class) (class-of es c)
 unfolding class-of
 class-step e es c b h = ap (λ (x : Bool). cond x (e .class) (class-of es c)) h
 
-class-none : (c : ℕ) → class-of [] c ≡ shared
-unfolding class-of
-class-none c = refl
+-- the first n numbers are the classes by the names from i on
+pub record Classing (T : List ℕ) (n : ℕ) (before : List ℕ) (i : ℕ) (C : List ℕ) : Type 0 where
+  pub few : i ≤ countIn T
+  pub size : length C ≡ length before
+  pub numbers : (t : List Entry) → Tabled T t → (c : ℕ) → c < n → getD C c 0 ≡ class-number (class-of (drop i t) c)
+  pub others : (c : ℕ) → n ≤ c → getD C c 0 ≡ getD before c 0
 
--- all names before i have other cells
-abbrev pub Sought : List ℕ → ℕ → ℕ → ℕ → Type 0
-Sought T c n i = (i ≤ n) × (n ≡ min (getD T 612 0) 16) × ((t : List Entry) → Tabled T t → class-of t c ≡ class-of (drop i t) c)
+pub classing-none : (T : List ℕ) (n : ℕ) (before C : List ℕ) (i : ℕ) → i ≡ countIn T → Filled before 0 n 0 C → Classing T n C i C
+classing-none T n before C i e f = record {
+  few = omega arith;
+  size = refl;
+  numbers = λ t d c l. f .inside c (omega arith) l ∙ sym (ap class-number (class-none t i c (omega (arith, d .count, d .few))));
+  others = λ c l. refl;
+}
 
-module _ (T : List ℕ) (c n i : ℕ) (h : Sought T c n i) where
-  within : (t : List Entry) → Tabled T t → n ≡ length t
-  within t tab = omega (arith, h .1, tab .count, tab .few)
-
-  module _ (b : i < n) (t : List Entry) (tab : Tabled T t) where
+module _ (T : List ℕ) (n : ℕ) (before C C′ : List ℕ) (i k : ℕ) (ek : k ≡ i + 1) (h : Classing T n before k C) (m : Marked T i n C C′) where
+  module _ (t : List Entry) (d : Tabled T t) (c : ℕ) (l : c < n) where
     abbrev e : Entry
     e = getD t i nowhere
 
     row : Row T i e
-    row = tab .rows i (omega (arith, within t tab))
+    row = d .rows i (omega (arith, h .few, d .count))
 
-    this : drop i t ≡ e ∷ drop (suc i) t
-    this = drop-cons t i nowhere (omega (arith, within t tab))
+    this : class-of (drop i t) c ≡ class-of (e ∷ drop k t) c
+    this = let z : suc i ≡ k = omega arith in ap (λ (u : List Entry). class-of u c) (drop-cons t i nowhere (omega (arith, h .few, d .count))) ∙ ap (λ (j : ℕ). class-of (e ∷ drop j t) c) z
 
-    pub class-found : wordAt T i 33 ≤ c → c - wordAt T i 33 < wordAt T i 34 → (r : ℕ) → r ≡ class-number (classOf (wordAt T i 35 / 4)) → r ≡ class-number (class-of t c)
-    class-found p q r er =
-        let y : leb (e .first) c && ltb c (e .first + e .size) ≡ true = (λ j. le-leb (e .first) c (omega (arith, p, row .first)) j && lt-ltb c (e .first + e .size) (omega (arith, p, q, row .first, row .size)) j) in
-        er ∙ ap class-number (row .class) ∙ ap class-number (sym (h .2 t tab ∙ ap (λ (u : List Entry). class-of u c) this ∙ class-step e (drop (suc i) t) c true y))
+    by : (b : Bool) → leb (e .first) c && ltb c (e .first + e .size) ≡ b → class-of (drop i t) c ≡ cond b (e .class) (class-of (drop k t) c)
+    by b y = this ∙ class-step e (drop k t) c b y
 
-    class-other : leb (e .first) c && ltb c (e .first + e .size) ≡ false → class-of t c ≡ class-of (drop (i + 1) t) c
-    class-other y = let z : suc i ≡ i + 1 = omega arith in h .2 t tab ∙ ap (λ (u : List Entry). class-of u c) this ∙ class-step e (drop (suc i) t) c false y ∙ ap (λ (m : ℕ). class-of (drop m t) c) z
+    other : (firstAt T i ≤ c → c < firstAt T i + sizeAt T i → ⊥) → leb (e .first) c && ltb c (e .first + e .size) ≡ false → getD C′ c 0 ≡ class-number (class-of (drop i t) c)
+    other z y = m .outside c (λ p q. z p (omega arith)) ∙ h .numbers t d c l ∙ ap class-number (sym (by false y))
 
-    missed : (wordAt T i 33 ≤ c → ⊥) ⊎ ((wordAt T i 33 ≤ c) × (c - wordAt T i 33 < wordAt T i 34 → ⊥)) → leb (e .first) c && ltb c (e .first + e .size) ≡ false
-    missed (inl p) = ap (λ (x : Bool). x && ltb c (e .first + e .size)) (lt-leb (e .first) c (omega (arith, p, row .first)))
-    missed (inr (p, q)) = (λ j. le-leb (e .first) c (omega (arith, p, row .first)) j && le-ltb c (e .first + e .size) (omega (arith, p, q, row .first, row .size)) j)
+    number : getD C′ c 0 ≡ class-number (class-of (drop i t) c)
+    number = elim (decLe (firstAt T i) c) [
+      | yes p ↦ elim (decLt c (firstAt T i + sizeAt T i)) [
+        | yes q ↦ m .inside c p (omega arith) ∙ ap class-number (row .class) ∙ ap class-number (sym (by true (λ j. le-leb (e .first) c (omega (arith, row .first)) j && lt-ltb c (e .first + e .size) (omega (arith, row .first, row .size)) j)))
+        | no q ↦ other (λ _ z. q z) (λ j. le-leb (e .first) c (omega (arith, row .first)) j && le-ltb c (e .first + e .size) (omega (arith, row .first, row .size)) j)
+      ]
+      | no p ↦ other (λ z _. p z) (ap (λ (x : Bool). x && ltb c (e .first + e .size)) (lt-leb (e .first) c (omega (arith, row .first))))
+    ]
 
-  pub sought-on : i < n → (wordAt T i 33 ≤ c → ⊥) ⊎ ((wordAt T i 33 ≤ c) × (c - wordAt T i 33 < wordAt T i 34 → ⊥)) → Sought T c n (i + 1)
-  sought-on b m = (omega arith, h .1, λ t tab. class-other b t tab (missed b t tab m))
+  pub classing-more : Classing T n before i C′
+  classing-more = record {
+    few = omega (arith, h .few);
+    size = m .size ∙ h .size;
+    numbers = number;
+    others = λ c l. m .outside c (λ p q. omega arith) ∙ h .others c l;
+  }
 
-  pub sought-out : n ≤ i → (t : List Entry) → Tabled T t → 0 ≡ class-number (class-of t c)
-  sought-out b t tab = sym (ap class-number (h .2 t tab ∙ none t i (omega (arith, b, within t tab))))
-    where
-      none : (u : List Entry) (k : ℕ) → length u ≤ k → class-of (drop k u) c ≡ shared
-      none [] zero q = class-none c
-      none [] (suc k) q = class-none c
-      none (x ∷ u) zero q = absurd (omega arith)
-      none (x ∷ u) (suc k) q = none u k (omega arith)
-
--- ---- cell after cell
-
-abbrev pub Classed : List ℕ → List ℕ → List ℕ → ℕ → Type 0
-Classed T before C c = (length C ≡ length before) × ((t : List Entry) → Tabled T t → (d : ℕ) → d < c → getD C d 0 ≡ class-number (class-of t d))
-
-pub classed-more : (T before C : List ℕ) (c r : ℕ) → Classed T before C c → c < length C → ((t : List Entry) → Tabled T t → r ≡ class-number (class-of t c)) → Classed T before (set C c r) (c + 1)
-classed-more T before C c r h b f = (
-  length-set C c r ∙ h .0,
-  λ t tab d l. elim (ℕ-discrete d c) [
-    | yes e ↦ ap (λ (i : ℕ). getD (set C c r) i 0) e ∙ getD-set-same C c r 0 b ∙ f t tab ∙ ap (λ (i : ℕ). class-number (class-of t i)) (sym e)
-    | no n ↦ getD-set-other C c d r 0 n ∙ h .1 t tab d (omega (arith, n))
-  ],
-)
+pub classing-all : (T : List ℕ) (n : ℕ) (before C₀ C : List ℕ) (i : ℕ) → i ≡ 0 → Filled before 0 n 0 C₀ → Classing T n C₀ i C → Classifies T n before C
+classing-all T n before C₀ C i e f h = record {
+  size = h .size ∙ f .size;
+  numbers = λ t d c l. h .numbers t d c l ∙ ap (λ (k : ℕ). class-number (class-of (drop k t) c)) e;
+  others = λ c l. h .others c l ∙ f .outside c (λ p q. omega arith);
+}

@@ -1,20 +1,16 @@
 -- An accepted text meets what a run asks.
 use mathlib.Core.Path.{_≡_, refl, sym, _∙_, ap, subst}
-use mathlib.Core.List.{List, [], _∷_, _++_, append-nil}
-use Prim.Native.Nat.{ℕ, _+_, _*_, _≤_, _<_}
+use mathlib.Core.List.{List, [], append-nil}
+use Prim.Native.Nat.{ℕ, _≤_, _<_}
 use native.Mathlib.Omega.{arith}
 use borrow.Author.Tests.{leb-true}
-use mir.Syntax.{w32}
-use mir.Val.{SFits}
-use lib.ListN.{length, getD, take}
+use lib.ListN.{length, getD}
 use lib.IntN.{ℤ, pos, _+ℤ_}
-use Rattle.int32.specs.Integers.{sum}
 use Rattle.rules.specs.Cells.{cellOf, listed}
-use Rattle.rules.specs.Loop.{Loop, done}
 use Rattle.rules.proofs.CellsLaws.{listed-cells}
 use Rattle.syntax.specs.Known.{State, cells}
 use Rattle.syntax.specs.Text.{good, read}
-use Rattle.syntax.specs.Meaning.{exec, class-of, loopOf, partitionOf}
+use Rattle.syntax.specs.Meaning.{class-of, loopOf, partitionOf}
 use Rattle.syntax.proofs.Sane.{Sane, accepted-sane, accepted-finished}
 use Rattle.syntax.proofs.ProperLoop.{accepted-proper}
 use Rattle.code.specs.Instr.{Instr, instructions, words, resume}
@@ -24,7 +20,7 @@ use Rattle.code.proofs.RangedCode.{code-ranged}
 use Rattle.code.proofs.Compiled.{compiled-text}
 use Rattle.tables.specs.Layout.{row-at, class-number}
 use Rattle.trial.specs.declared.Setting.{Setting}
-use Rattle.trial.specs.Standing.{dealt, Suits, Coded}
+use Rattle.trial.specs.Standing.{Suits, Coded}
 use Rattle.trial.specs.Start.{Entry, Starts}
 
 -- a finished text has every kind of line

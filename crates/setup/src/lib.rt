@@ -1,51 +1,59 @@
 // From an accepted text to what a run takes: the class of each cell, as a number, off the table of names.
 ghost use mathlib.Core.Path.{_≡_};
-ghost use mathlib.Core.List.{List};
-ghost use Prim.Native.Nat.{ℕ, _≤_, _<_, _/_};
-ghost use lib.ListN.{length, getD};
-ghost use Rattle.syntax.specs.Known.{Entry};
-ghost use Rattle.syntax.specs.Meaning.{class-of};
-ghost use Rattle.names.specs.Table.{classOf, Tabled};
+ghost use Prim.Native.Nat.{_≤_, _<_, min};
+ghost use lib.ListN.{length};
+ghost use Rattle.names.specs.Table.{mostNames, classOf};
 ghost use Rattle.tables.specs.Layout.{class-number};
-ghost use Rattle.setup.specs.Classes.{Classifies};
+ghost use Rattle.setup.specs.Classes.{Filled, Marked, Classifies};
+use names::Table;
 
-// The number of a class by a name's facts: 0 shared, 1 lastprivate, 2 reduction.
-fn number_of(facts: u32) -> u32
-    ensures { λ r. ⌜ r ≡ class-number (classOf (facts / 4)) ⌝ }
+// The number of a class by its clause: 0 shared, 1 lastprivate, 2 reduction.
+fn number_of(clause: u32) -> u32
+    ensures { λ r. ⌜ r ≡ class-number (classOf clause) ⌝ }
 {
-    let clause = facts / 4;
     if clause < 2 {
         return 0;
     }
     if clause == 2 { 1 } else { 2 }
 }
 
-// The class of a cell: that of the first name that has it.
-fn class_at(table: &[u32; 613], cell: u32) -> u32
-    ensures { λ r. ⌜ ((t : List Entry) → Tabled (now (table .entry)) t → r ≡ class-number (class-of t cell)) ⌝ }
+// A number for the cells from one up to another.
+fn fill(out: &mut [u32], first: usize, end: usize, number: u32)
+    requires { ⌜ end ≤ length (now out) ⌝ }
+    ensures { λ _. ⌜ Filled (now (out .entry)) first end number (now (out .exit)) ⌝ }
 {
-    let n = names::count(table);
-    let mut i = 0;
-    while i < n {
-        let first = table[36 * i + 33];
-        if first <= cell {
-            if cell - first < table[36 * i + 34] {
-                return number_of(table[36 * i + 35]);
-            }
-        }
-        i += 1;
+    let mut c = first;
+    while c < end {
+        out[c] = number;
+        c += 1;
     }
-    0
 }
 
-// The class of each of the first cells.
-pub fn classes(table: &[u32; 613], count: usize, out: &mut [u32])
+fn smaller(a: usize, b: usize) -> usize
+    ensures { λ r. ⌜ r ≡ min a b ⌝ }
+{
+    if a < b { a } else { b }
+}
+
+// The class of entry i for those of its cells that are among the first.
+fn mark(table: &Table, i: usize, count: usize, out: &mut [u32])
+    requires { ⌜ (i < mostNames) × (count ≤ length (now out)) ⌝ }
+    ensures { λ _. ⌜ Marked (now (table .entry)) i count (now (out .entry)) (now (out .exit)) ⌝ }
+{
+    let first = names::first_of(table, i);
+    let end = smaller(names::end_of(table, i), count);
+    fill(out, first, end, number_of(names::clause_of(table, i)));
+}
+
+// The class of each of the first cells, name by name from the last, so that the first that has a cell decides.
+pub fn classes(table: &Table, count: usize, out: &mut [u32])
     requires { ⌜ (count ≤ length (now out)) × (length (now out) ≤ 4096) ⌝ }
     ensures { λ _. ⌜ Classifies (now (table .entry)) count (now (out .entry)) (now (out .exit)) ⌝ }
 {
-    let mut c = 0;
-    while c < count {
-        out[c] = class_at(table, c as u32);
-        c += 1;
+    fill(out, 0, count, 0);
+    let mut i = names::count(table);
+    while 0 < i {
+        i -= 1;
+        mark(table, i, count, out);
     }
 }

@@ -12,6 +12,13 @@ ghost use Rattle.statements.specs.Statement.{Compiles};
 ghost use Rattle.statements.specs.Alike.{Zeros, sameToken, Alike};
 ghost use Rattle.statements.specs.Assignment.{Targets, Summands, Back, Tests, Updates, Stores};
 ghost use Rattle.statements.specs.Comparison.{Relates, Then, readCompared, codeCompared, inCompared};
+use code::CHECK;
+use code::JUMP_UNLESS;
+use code::LINE;
+use code::STORE;
+use code::STORE_AT;
+use code::UPDATE;
+use code::UPDATE_AT;
 use expressions::Got;
 use expressions::emit;
 use expressions::expect;
@@ -25,21 +32,10 @@ use lexer::equal;
 use lexer::pass;
 use lexer::reads;
 use lexer::token;
+use names::Table;
+use names::VARIABLE;
 use names::find;
 use names::is_named;
-
-// The numbers of the operations (`operation` of Rattle.code.specs.Instr).
-const STORE: u32 = 10;
-
-const STORE_AT: u32 = 11;
-
-const CHECK: u32 = 12;
-
-const UPDATE: u32 = 13;
-
-const UPDATE_AT: u32 = 14;
-
-const JUMP_UNLESS: u32 = 15;
 
 // ---- conditions
 
@@ -100,7 +96,7 @@ fn comparison(
     at: usize,
     rank: u32,
     line: u32,
-    table: &[u32; 613],
+    table: &Table,
     code: &mut [u32],
     place: usize,
 ) -> Got
@@ -120,7 +116,7 @@ fn comparison(
 }
 
 // `if`, a bracket, the two sides with their relation, the other bracket, and `then`. The bracket does not count among those that are open.
-pub fn condition(s: &[u8], line: u32, table: &[u32; 613], code: &mut [u32], place: usize) -> Got
+pub fn condition(s: &[u8], line: u32, table: &Table, code: &mut [u32], place: usize) -> Got
     requires { ⌜ (length (now s) ≤ 2048) × (line ≤ 2049) × (2 * (place + 2 * length (now s)) ≤ length (now code)) ⌝ }
     ensures { λ r. ⌜ Compiles (readWhen peek-in skip-in) (now (table .entry)) (now (s .entry)) line place (now (code .entry)) (now (code .exit)) r ⌝ }
 {
@@ -223,7 +219,7 @@ fn operand_of(subscripted: bool, first: u32, size: u32) -> u32
 }
 
 // The name that a line begins with.
-fn target_of(s: &[u8], table: &[u32; 613]) -> Target
+fn target_of(s: &[u8], table: &Table) -> Target
     ensures { λ r. ⌜ Targets (now (table .entry)) (now (s .entry)) r ⌝ }
 {
     let t = token(s, 0);
@@ -244,7 +240,7 @@ fn target_of(s: &[u8], table: &[u32; 613]) -> Target
     Target {
         subscripted,
         reduction: 3 <= n.clause,
-        variable: is_named(table, 16, &s[a..e]),
+        variable: is_named(table, VARIABLE, &s[a..e]),
         operand: operand_of(subscripted, n.first, n.size),
     }
 }
@@ -259,7 +255,7 @@ fn summand(
     from: usize,
     rank: u32,
     line: u32,
-    table: &[u32; 613],
+    table: &Table,
     code: &mut [u32],
     place: usize,
     reduction: bool,
@@ -301,7 +297,7 @@ fn operation(plain: u32, indexed: u32, line: u32, subscripted: bool) -> u32
     ensures { λ r. ⌜ r ≡ cond subscripted (indexed + 32 * line) plain ⌝ }
 {
     if subscripted {
-        return indexed + 32 * line;
+        return indexed + LINE * line;
     }
     plain
 }
@@ -322,7 +318,7 @@ fn test(code: &mut [u32], place: usize, line: u32, subscripted: bool, operand: u
     ensures { λ r. ⌜ Tests subscripted line operand place (now (code .entry)) (now (code .exit)) r ⌝ }
 {
     if subscripted {
-        emit(code, place, CHECK + 32 * line, operand);
+        emit(code, place, CHECK + LINE * line, operand);
         return place + 1;
     }
     place
@@ -334,7 +330,7 @@ fn updating(
     at: usize,
     rank: u32,
     line: u32,
-    table: &[u32; 613],
+    table: &Table,
     code: &mut [u32],
     place: usize,
     target: Target,
@@ -361,7 +357,7 @@ fn storing(
     at: usize,
     rank: u32,
     line: u32,
-    table: &[u32; 613],
+    table: &Table,
     code: &mut [u32],
     place: usize,
     target: Target,
@@ -397,7 +393,7 @@ fn assigned_rank(variable: bool) -> u32
 }
 
 // A reference, =, and an expression.
-pub fn assignment(s: &[u8], line: u32, table: &[u32; 613], code: &mut [u32], place: usize) -> Got
+pub fn assignment(s: &[u8], line: u32, table: &Table, code: &mut [u32], place: usize) -> Got
     requires { ⌜ (length (now s) ≤ 2048) × (line ≤ 2049) × (2 * (place + 2 * length (now s)) ≤ length (now code)) ⌝ }
     ensures { λ r. ⌜ Compiles (readAssign peek-in skip-in) (now (table .entry)) (now (s .entry)) line place (now (code .entry)) (now (code .exit)) r ⌝ }
 {

@@ -39,7 +39,7 @@ fn untried(number: u32, line: u32) -> Tried
 pub fn trial(text: &[u8], cells: &mut [i32], workspace: &mut [u32], schedule: &[u8]) -> Tried
     ensures { λ r. ⌜ TrialOf (readText (now (text .entry))) (now (cells .entry)) (now (workspace .entry)) (now (schedule .entry)) r (now (cells .exit)) (now (workspace .exit)) ⌝ }
 {
-    let mut code = [0; 8194];
+    let mut code = [0; code::WORDS];
     let mut classes = [0; 4096];
     let r = prepare(text, &mut code, &mut classes);
     if r.number != 0 {

@@ -1,6 +1,7 @@
--- The readers of expressions call each other. The measure is three for each byte that is left, and a little more for those that call another at the
--- same place. Each answer hands what is known to one law of `Sums` or `Factors`.
+-- The readers of expressions call each other. "Remaining bytes and bracket depth give the falling number": two for each byte that is left, one for each
+-- bracket that may still open, and the level of the reader. Each answer hands what is known to one law of `Sums` or `Factors`.
 use Prim.Native.Nat.{ℕ, suc, _+_, _-_, _*_, _<_}
+use mathlib.Core.List.{List}
 use mathlib.Core.Path.{refl, sym, _∙_}
 use native.Mathlib.Numerals.{add-one}
 use native.Mathlib.Omega.{arith}
@@ -49,23 +50,27 @@ use Rattle.expressions.proofs.+expression+factor+more_factors+more_term
   close,
 }
 
+-- a call at the same place has a lower level; one further on has a byte less, and where the level rises by two a bracket has opened
+abbrev left : List ℕ → ℕ → ℕ → ℕ
+left s at depth = 2 * (length s - at) + (length s - depth)
+
 abbrev μ-expression : Measures 3 expression-kinds.ps ℕ
-μ-expression κs a = 3 * (length (a .0 .now) - a .1 .0) + 2
+μ-expression κs a = left (a .0 .now) (a .1 .0) (a .1 .1 .0) + 2
 
 abbrev μ-factor : Measures 3 factor-kinds.ps ℕ
-μ-factor κs a = 3 * (length (a .0 .now) - a .1 .0)
+μ-factor κs a = left (a .0 .now) (a .1 .0) (a .1 .1 .0)
 
 abbrev μ-more-factors : Measures 3 more-factors-kinds.ps ℕ
-μ-more-factors κs a = 3 * (length (a .0 .now) - a .1 .0)
+μ-more-factors κs a = left (a .0 .now) (a .1 .0) (a .1 .1 .0)
 
 abbrev μ-more-terms : Measures 3 more-terms-kinds.ps ℕ
-μ-more-terms κs a = 3 * (length (a .0 .now) - a .1 .0)
+μ-more-terms κs a = left (a .0 .now) (a .1 .0) (a .1 .1 .0)
 
 abbrev μ-quotient : Measures 3 quotient-kinds.ps ℕ
-μ-quotient κs a = 3 * (length (a .0 .now) - a .1 .0) + 3
+μ-quotient κs a = left (a .0 .now) (a .1 .0) (a .1 .1 .0) + 3
 
 abbrev μ-term : Measures 3 term-kinds.ps ℕ
-μ-term κs a = 3 * (length (a .0 .now) - a .1 .0) + 1
+μ-term κs a = left (a .0 .now) (a .1 .0) (a .1 .1 .0) + 1
 
 abbrev expression-at : ℕ → In 3 expression-kinds.ps
 expression-at t =

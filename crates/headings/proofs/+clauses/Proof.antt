@@ -1,9 +1,8 @@
 -- `headings::clauses` meets its contract: none, one that is broken, or one and others.
-use mathlib.Core.Path.{_≡_, refl, sym, _∙_}
+use mathlib.Core.Path.{refl, sym, _∙_}
 use native.Mathlib.Omega.{arith}
 use Prim.Native.Nat.{_-_}
 use lib.ListN.{length}
-use borrow.Author.Needs.{needs}
 use Rattle.headings.proofs.IntegerLines.{keeps-on}
 use Rattle.headings.proofs.ClauseLines.{clauses-lost, clauses-done, clauses-broken, clauses-more}
 use Prim.Native.Nat.{ℕ, _<_}

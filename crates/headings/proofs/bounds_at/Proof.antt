@@ -3,12 +3,6 @@ use Rattle.headings.proofs.DoLines.{bounds-read}
 use borrow.Author.Needs.{needs}
 use Rattle.headings.proofs.bounds_at.Statement.{statement}
 use Rattle.headings.proofs.bounds_at.Tie as tie
-use Rattle.headings.proofs.bounds_at.Reads as reads
-use Rattle.headings.proofs.bounds_at.Lts as lts
-use Rattle.lexer.proofs.digits.Reads as digits-reads
-use Rattle.lexer.proofs.lead.Reads as lead-reads
-use Rattle.lexer.proofs.name.Reads as name-reads
-use Rattle.lexer.proofs.pass.Reads as pass-reads
 
 name-requires : tie.Need-name-requires
 name-requires c κs = search needs

@@ -6,11 +6,6 @@ use Rattle.headings.proofs.ClauseLines.{claims-none, claims-taken, clai
 use borrow.Author.Needs.{needs}
 use Rattle.headings.proofs.claim.Statement.{statement}
 use Rattle.headings.proofs.claim.Tie as tie
-use Rattle.headings.proofs.claim.Reads as reads
-use Rattle.headings.proofs.claim.Lts as lts
-use Rattle.headings.proofs.ranked.Reads as ranked-reads
-use Rattle.names.proofs.classify.Reads as classify-reads
-use Rattle.names.proofs.find.Reads as find-reads
 
 find-requires : tie.Need-find-requires
 find-requires c κs = search needs

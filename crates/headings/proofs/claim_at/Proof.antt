@@ -1,19 +1,12 @@
 -- `headings::claim_at` meets its contract.
-use mathlib.Core.Path.{refl, sym, ap, subst}
-use mathlib.Core.List.{List}
-use Prim.Native.Nat.{ℕ}
+use mathlib.Core.Path.{refl, ap}
 use native.Mathlib.Omega.{arith}
 use lib.ListN.{length}
 use Rattle.lexer.proofs.PlaceLaws.{goes-saying, goes-some}
-use Rattle.names.specs.Table.{classOf}
 use Rattle.headings.proofs.ClauseLines.{claiming-at}
 use borrow.Author.Needs.{needs}
 use Rattle.headings.proofs.claim_at.Statement.{statement}
 use Rattle.headings.proofs.claim_at.Tie as tie
-use Rattle.headings.proofs.claim_at.Reads as reads
-use Rattle.headings.proofs.claim_at.Lts as lts
-use Rattle.headings.proofs.claim.Reads as claim-reads
-use Rattle.lexer.proofs.name.Reads as name-reads
 
 name-requires : tie.Need-name-requires
 name-requires c κs = search needs

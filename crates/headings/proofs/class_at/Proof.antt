@@ -6,9 +6,6 @@ use Rattle.headings.proofs.ClauseLines.{class-shared, class-lastprivate
 use borrow.Author.Needs.{needs}
 use Rattle.headings.proofs.class_at.Statement.{statement}
 use Rattle.headings.proofs.class_at.Tie as tie
-use Rattle.headings.proofs.class_at.Reads as reads
-use Rattle.headings.proofs.class_at.Lts as lts
-use Rattle.lexer.proofs.pass.Reads as pass-reads
 
 slice-aggregate-pass : tie.Need-slice-aggregate-pass
 slice-aggregate-pass c = search needs

@@ -1,15 +1,8 @@
 -- `headings::clause_at` meets its contract: the class, the names and the bracket.
-use native.Mathlib.Omega.{arith}
-use Rattle.syntax.specs.Bytes.{bytes}
 use Rattle.headings.proofs.ClauseLines.{clause-read, clause-onward}
 use borrow.Author.Needs.{needs}
 use Rattle.headings.proofs.clause_at.Statement.{statement}
 use Rattle.headings.proofs.clause_at.Tie as tie
-use Rattle.headings.proofs.clause_at.Reads as reads
-use Rattle.headings.proofs.clause_at.Lts as lts
-use Rattle.headings.proofs.claims.Reads as claims-reads
-use Rattle.headings.proofs.class_at.Reads as class-at-reads
-use Rattle.lexer.proofs.pass.Reads as pass-reads
 
 class-at-requires : tie.Need-class-at-requires
 class-at-requires c κs = c .before .pre .0

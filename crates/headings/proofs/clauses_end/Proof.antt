@@ -1,20 +1,9 @@
 -- `headings::clauses_end` meets its contract.
-use mathlib.Core.Path.{sym, _∙_, ap}
-use mathlib.Core.Bool.{Bool, _||_}
-use Prim.Native.Nat.{ℕ}
-use lib.Dec.{eqb}
-use lib.ListN.{drop}
-use Rattle.syntax.specs.Bytes.{bytes}
-use Rattle.syntax.specs.Reader.{kind, peek-in}
-use Rattle.lexer.proofs.Said.{says-said}
+use mathlib.Core.Path.{sym, _∙_}
 use Rattle.headings.proofs.ClauseLines.{ends-word, ends-kind}
 use borrow.Author.Needs.{needs}
 use Rattle.headings.proofs.clauses_end.Statement.{statement}
 use Rattle.headings.proofs.clauses_end.Tie as tie
-use Rattle.headings.proofs.clauses_end.Reads as reads
-use Rattle.headings.proofs.clauses_end.Lts as lts
-use Rattle.lexer.proofs.reads.Reads as reads-reads
-use Rattle.lexer.proofs.token.Reads as token-reads
 
 token-requires : tie.Need-token-requires
 token-requires c κs = search needs

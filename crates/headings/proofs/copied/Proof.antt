@@ -3,10 +3,6 @@ use Rattle.headings.proofs.DataLines.{copied-lands}
 use borrow.Author.Needs.{needs}
 use Rattle.headings.proofs.copied.Statement.{statement}
 use Rattle.headings.proofs.copied.Tie as tie
-use Rattle.headings.proofs.copied.Reads as reads
-use Rattle.headings.proofs.copied.Lts as lts
-use Rattle.lexer.proofs.digits.Reads as digits-reads
-use Rattle.lexer.proofs.lead.Reads as lead-reads
 
 lead-requires : tie.Need-lead-requires
 lead-requires c κs = search needs

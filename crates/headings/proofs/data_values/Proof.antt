@@ -1,7 +1,5 @@
 -- `headings::data_values` meets its contract.
-use mathlib.Core.Path.{refl, sym, _∙_, ap, subst}
-use mathlib.Core.List.{List}
-use Prim.Native.Nat.{ℕ}
+use mathlib.Core.Path.{refl, ap}
 use native.Mathlib.Omega.{arith}
 use lib.ListN.{length}
 use Rattle.names.proofs.Rows.{find-bounded}
@@ -13,13 +11,6 @@ use Rattle.headings.specs.Data.{Puts}
 use borrow.Author.Needs.{needs}
 use Rattle.headings.proofs.data_values.Statement.{statement}
 use Rattle.headings.proofs.data_values.Tie as tie
-use Rattle.headings.proofs.data_values.Reads as reads
-use Rattle.headings.proofs.data_values.Lts as lts
-use Rattle.headings.proofs.give_data.Reads as give-data-reads
-use Rattle.headings.proofs.items.Reads as items-reads
-use Rattle.lexer.proofs.name.Reads as name-reads
-use Rattle.lexer.proofs.pass.Reads as pass-reads
-use Rattle.names.proofs.find.Reads as find-reads
 
 name-requires : tie.Need-name-requires
 name-requires c κs = search needs

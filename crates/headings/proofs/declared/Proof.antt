@@ -4,11 +4,6 @@ use Rattle.headings.proofs.IntegerLines.{declares-one, declares-array}
 use borrow.Author.Needs.{needs}
 use Rattle.headings.proofs.declared.Statement.{statement}
 use Rattle.headings.proofs.declared.Tie as tie
-use Rattle.headings.proofs.declared.Reads as reads
-use Rattle.headings.proofs.declared.Lts as lts
-use Rattle.lexer.proofs.digits.Reads as digits-reads
-use Rattle.lexer.proofs.name.Reads as name-reads
-use Rattle.lexer.proofs.pass.Reads as pass-reads
 
 name-requires : tie.Need-name-requires
 name-requires c κs = search needs

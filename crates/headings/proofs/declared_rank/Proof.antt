@@ -11,9 +11,6 @@ use Rattle.headings.proofs.IntegerLines.{same-truth, fits-true, true-fi
 use borrow.Author.Needs.{needs}
 use Rattle.headings.proofs.declared_rank.Statement.{statement}
 use Rattle.headings.proofs.declared_rank.Tie as tie
-use Rattle.headings.proofs.declared_rank.Reads as reads
-use Rattle.headings.proofs.declared_rank.Lts as lts
-use Rattle.headings.proofs.ranked.Reads as ranked-reads
 
 ranked-requires : tie.Need-ranked-requires
 ranked-requires c κs = search needs

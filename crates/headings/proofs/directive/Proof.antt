@@ -8,13 +8,6 @@ use Rattle.headings.proofs.ClauseLines.{directed}
 use borrow.Author.Needs.{needs}
 use Rattle.headings.proofs.directive.Statement.{statement}
 use Rattle.headings.proofs.directive.Tie as tie
-use Rattle.headings.proofs.directive.Reads as reads
-use Rattle.headings.proofs.directive.Lts as lts
-use Rattle.headings.proofs.clauses.Reads as clauses-reads
-use Rattle.headings.proofs.few.Reads as few-reads
-use Rattle.headings.proofs.ranked.Reads as ranked-reads
-use Rattle.lexer.proofs.digits.Reads as digits-reads
-use Rattle.lexer.proofs.pass.Reads as pass-reads
 
 clauses-requires : tie.Need-clauses-requires
 clauses-requires c κs = search needs

@@ -1,5 +1,5 @@
 -- `headings::do_line` meets its contract.
-use mathlib.Core.Path.{_≡_, refl, ap}
+use mathlib.Core.Path.{ap}
 use native.Mathlib.Omega.{arith}
 use lib.ListN.{length}
 use Rattle.int32.proofs.Laws.{landed}
@@ -10,16 +10,6 @@ use Rattle.headings.proofs.DoLines.{raised-most, looping}
 use borrow.Author.Needs.{needs}
 use Rattle.headings.proofs.do_line.Statement.{statement}
 use Rattle.headings.proofs.do_line.Tie as tie
-use Rattle.headings.proofs.do_line.Reads as reads
-use Rattle.headings.proofs.do_line.Lts as lts
-use Rattle.headings.proofs.bounds_at.Reads as bounds-at-reads
-use Rattle.headings.proofs.count_from.Reads as count-from-reads
-use Rattle.headings.proofs.item_value.Reads as item-value-reads
-use Rattle.headings.proofs.limited.Reads as limited-reads
-use Rattle.headings.proofs.raised.Reads as raised-reads
-use Rattle.headings.proofs.ranked.Reads as ranked-reads
-use Rattle.names.proofs.find.Reads as find-reads
-use Rattle.names.proofs.put_name.Reads as put-name-reads
 
 bounds-at-requires : tie.Need-bounds-at-requires
 bounds-at-requires c κs = search needs

@@ -5,8 +5,6 @@ use borrow.Author.Tests.{not-true, not-false}
 use lib.Dec.{eqb}
 use Rattle.headings.proofs.due.Statement.{statement}
 use Rattle.headings.proofs.due.Tie as tie
-use Rattle.headings.proofs.due.Reads as reads
-use Rattle.headings.proofs.due.Lts as lts
 
 returns : tie.Need-returns
 returns c = sym (ap (λ (b : Bool). b && (not (c .before .before .args .n .given) && eqb (c .before .before .args .values) (c .before .before .args .n .size))) (not-true (c .before .before .args .n .known) (c .if1 .taken)))

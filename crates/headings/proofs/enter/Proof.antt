@@ -3,9 +3,6 @@ use mathlib.Core.Path.{refl}
 use borrow.Author.Needs.{needs}
 use Rattle.headings.proofs.enter.Statement.{statement}
 use Rattle.headings.proofs.enter.Tie as tie
-use Rattle.headings.proofs.enter.Reads as reads
-use Rattle.headings.proofs.enter.Lts as lts
-use Rattle.names.proofs.add.Reads as add-reads
 
 returns : tie.Need-returns
 returns c = record { added = λ e. absurd (c .if1 .taken e); more = λ e. absurd (c .if1 .taken e); left = λ n. refl; same = λ n. refl }

@@ -6,8 +6,6 @@ use borrow.Author.Tests.{lt-leb, le-leb}
 use lib.Dec.{leb}
 use Rattle.headings.proofs.few.Statement.{statement}
 use Rattle.headings.proofs.few.Tie as tie
-use Rattle.headings.proofs.few.Reads as reads
-use Rattle.headings.proofs.few.Lts as lts
 
 returns : tie.Need-returns
 returns c = sym (ap (λ (b : Bool). b && leb (c .before .args .processors) 8) (lt-leb 1 (c .before .args .processors) (omega arith)))

@@ -1,8 +1,8 @@
 use borrow.Author.Needs.{needs}
 -- `headings::fill` meets its contract.
-use mathlib.Core.Path.{_≡_, refl, sym, _∙_, ap}
+use mathlib.Core.Path.{_≡_, refl, _∙_, ap}
 use mathlib.Core.List.{List}
-use Prim.Native.Nat.{ℕ, _+_, _-_, _≤_}
+use Prim.Native.Nat.{_+_, _-_, _≤_}
 use native.Mathlib.Omega.{arith}
 use lib.ListN.{length, replicate, set, length-set}
 use lib.IntN.{ℤ}
@@ -12,8 +12,6 @@ use mir.Val.{toZ, ofZ}
 use Rattle.headings.proofs.DataLines.{fill-more, fill-none}
 use Rattle.headings.proofs.fill.Statement.{statement}
 use Rattle.headings.proofs.fill.Tie as tie
-use Rattle.headings.proofs.fill.Reads as reads
-use Rattle.headings.proofs.fill.Lts as lts
 
 abbrev Inv-loop : tie.InvT-loop
 Inv-loop cells₀ from copies x end i₀ cells i = (from ≤ i) × (i ≤ end) × (end ≡ from + copies) × (length cells ≡ length cells₀) × (cells ≡ sets cells₀ from (replicate (i - from) (toZ w32 x)))

@@ -7,11 +7,6 @@ use Rattle.headings.proofs.DataLines.{due-known}
 use borrow.Author.Needs.{needs}
 use Rattle.headings.proofs.give_data.Statement.{statement}
 use Rattle.headings.proofs.give_data.Tie as tie
-use Rattle.headings.proofs.give_data.Reads as reads
-use Rattle.headings.proofs.give_data.Lts as lts
-use Rattle.headings.proofs.due.Reads as due-reads
-use Rattle.headings.proofs.ranked.Reads as ranked-reads
-use Rattle.names.proofs.give.Reads as give-reads
 
 due-requires : tie.Need-due-requires
 due-requires c κs = search needs

@@ -7,13 +7,6 @@ use borrow.Author.Needs.{needs}
 use Rattle.headings.proofs.integer.Statement.{statement}
 -- `headings::integer` meets its contract.
 use Rattle.headings.proofs.integer.Tie as tie
-use Rattle.headings.proofs.integer.Reads as reads
-use Rattle.headings.proofs.integer.Lts as lts
-use Rattle.headings.proofs.declared.Reads as declared-reads
-use Rattle.headings.proofs.declared_rank.Reads as declared-rank-reads
-use Rattle.headings.proofs.enter.Reads as enter-reads
-use Rattle.headings.proofs.repeated.Reads as repeated-reads
-use Rattle.names.proofs.count.Reads as count-reads
 
 declared-requires : tie.Need-declared-requires
 declared-requires c κs = search needs

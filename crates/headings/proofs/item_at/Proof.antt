@@ -6,11 +6,6 @@ use Rattle.headings.proofs.DataLines.{item-repeated, item-once}
 use borrow.Author.Needs.{needs}
 use Rattle.headings.proofs.item_at.Statement.{statement}
 use Rattle.headings.proofs.item_at.Tie as tie
-use Rattle.headings.proofs.item_at.Reads as reads
-use Rattle.headings.proofs.item_at.Lts as lts
-use Rattle.headings.proofs.copied.Reads as copied-reads
-use Rattle.lexer.proofs.digits.Reads as digits-reads
-use Rattle.lexer.proofs.pass.Reads as pass-reads
 
 digits-requires : tie.Need-digits-requires
 digits-requires c κs = search needs

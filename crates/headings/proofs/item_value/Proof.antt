@@ -7,10 +7,6 @@ use Rattle.headings.proofs.DataLines.{led-none, led-minus}
 use borrow.Author.Needs.{needs}
 use Rattle.headings.proofs.item_value.Statement.{statement}
 use Rattle.headings.proofs.item_value.Tie as tie
-use Rattle.headings.proofs.item_value.Reads as reads
-use Rattle.headings.proofs.item_value.Lts as lts
-use Rattle.int32.proofs.negate.Reads as negate-reads
-use Rattle.int32.proofs.of_word.Reads as of-word-reads
 
 of-word-requires : tie.Need-of-word-requires
 of-word-requires c κs = search needs

@@ -6,8 +6,6 @@ use borrow.Author.Tests.{lt-leb, le-leb}
 use lib.Dec.{leb}
 use Rattle.headings.proofs.limited.Statement.{statement}
 use Rattle.headings.proofs.limited.Tie as tie
-use Rattle.headings.proofs.limited.Reads as reads
-use Rattle.headings.proofs.limited.Lts as lts
 
 returns : tie.Need-returns
 returns c = sym (ap (λ (b : Bool). b && leb (c .before .args .size) 2147483647) (lt-leb (c .before .args .copies) 2147483647 (omega arith)))

@@ -11,9 +11,6 @@ use Rattle.headings.proofs.DataLines.{placed-over, placed-many, placed}
 use borrow.Author.Needs.{needs}
 use Rattle.headings.proofs.place.Statement.{statement}
 use Rattle.headings.proofs.place.Tie as tie
-use Rattle.headings.proofs.place.Reads as reads
-use Rattle.headings.proofs.place.Lts as lts
-use Rattle.headings.proofs.fill.Reads as fill-reads
 
 returns : tie.Need-returns
 returns c = placed-over _ _ _ _ _ _ (omega arith)

@@ -1,11 +1,9 @@
 -- `headings::put_item` meets its contract.
-use mathlib.Core.Path.{_≡_, refl, sym, _∙_, ap}
+use mathlib.Core.Path.{refl, _∙_, ap}
 use mathlib.Core.Bool.{Bool, true}
-use Prim.Native.Nat.{max, suc}
+use Prim.Native.Nat.{max}
 use native.Mathlib.Omega.{arith}
 use Rattle.lexer.specs.Places.{leadOf}
-use mir.Syntax.{w32}
-use mir.Val.{toZ, ofZ}
 use Rattle.int32.proofs.Laws.{landed}
 use Rattle.lexer.proofs.PlaceLaws.{goes-some}
 use Rattle.headings.specs.Lists.{order}
@@ -13,13 +11,6 @@ use Rattle.headings.proofs.DataLines.{item-broken, item-zero, item-some
 use borrow.Author.Needs.{needs}
 use Rattle.headings.proofs.put_item.Statement.{statement}
 use Rattle.headings.proofs.put_item.Tie as tie
-use Rattle.headings.proofs.put_item.Reads as reads
-use Rattle.headings.proofs.put_item.Lts as lts
-use Rattle.headings.proofs.item_at.Reads as item-at-reads
-use Rattle.headings.proofs.item_value.Reads as item-value-reads
-use Rattle.headings.proofs.limited.Reads as limited-reads
-use Rattle.headings.proofs.place.Reads as place-reads
-use Rattle.headings.proofs.ranked.Reads as ranked-reads
 
 item-at-requires : tie.Need-item-at-requires
 item-at-requires c κs = search needs

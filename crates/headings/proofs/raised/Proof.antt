@@ -5,8 +5,6 @@ use Rattle.headings.proofs.DoLines.{raise-up, raise-down}
 use borrow.Author.Needs.{needs}
 use Rattle.headings.proofs.raised.Statement.{statement}
 use Rattle.headings.proofs.raised.Tie as tie
-use Rattle.headings.proofs.raised.Reads as reads
-use Rattle.headings.proofs.raised.Lts as lts
 
 add-result : tie.Need-add-result
 add-result c = search needs

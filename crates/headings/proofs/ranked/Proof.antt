@@ -4,8 +4,6 @@ use borrow.Author.Tests.{not-true, not-false}
 use Rattle.headings.proofs.Lists.{order-unnamed, order-large, order-good}
 use Rattle.headings.proofs.ranked.Statement.{statement}
 use Rattle.headings.proofs.ranked.Tie as tie
-use Rattle.headings.proofs.ranked.Reads as reads
-use Rattle.headings.proofs.ranked.Lts as lts
 
 returns : tie.Need-returns
 returns c = omega (arith, order-unnamed (c .before .before .args .named) (c .before .before .args .small) (not-true _ (c .before .if1 .taken)))

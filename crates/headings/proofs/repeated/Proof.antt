@@ -8,10 +8,6 @@ use Rattle.headings.specs.Integer.{namesOf}
 use borrow.Author.Needs.{needs}
 use Rattle.headings.proofs.repeated.Statement.{statement}
 use Rattle.headings.proofs.repeated.Tie as tie
-use Rattle.headings.proofs.repeated.Reads as reads
-use Rattle.headings.proofs.repeated.Lts as lts
-use Rattle.headings.proofs.later.Reads as later-reads
-use Rattle.names.proofs.find.Reads as find-reads
 
 no : false ≡ true → ⊥
 no e = let q : _≡_ {A = ℕ} 0 1 = ap (λ (u : Bool). cond u 1 0) e in omega arith

@@ -8,36 +8,25 @@ use Rattle.lexer.proofs.PlaceLaws.{kind-there, kind-other}
 use borrow.Author.Needs.{needs}
 use Rattle.lexer.proofs.digits.Statement.{statement}
 use Rattle.lexer.proofs.digits.Tie as tie
-use Rattle.lexer.proofs.digits.Reads as reads
-use Rattle.lexer.proofs.digits.Lts as lts
-use Rattle.lexer.proofs.literal.Reads as literal-reads
-use Rattle.lexer.proofs.cursor.take.Reads as take-reads
 
--- src/lib.rt:354:19
 add-t10 : tie.Need-add-t10
 add-t10 c = search needs
 
--- src/lib.rt:353:9
 returns : tie.Need-returns
 returns c = record { lands = λ h. absurd (omega arith); from = λ h. absurd (omega arith); lost = λ h. refl }
 
--- src/lib.rt:358:9
 take-requires : tie.Need-take-requires
 take-requires c κs = search needs
 
--- src/lib.rt:364:21
 literal-requires : tie.Need-literal-requires
 literal-requires c κs = search needs
 
--- src/lib.rt:368:19
 add-t14 : tie.Need-add-t14
 add-t14 c = search needs
 
--- src/lib.rt:348:1
 returns-2 : tie.Need-returns-2
 returns-2 c = record { lands = λ h. rw (c .before .before .before .take .ensures .1) (kind-there (c .before .before .before .take .ensures .0) 3 _ (c .before .if2 .taken) (c .literal .ensures ∙ ap (λ (w : List ℕ). min (number w) 2147483648) (sym (c .before .before .before .take .ensures .0 .bytes)))); from = λ h. omega (arith, c .before .before .before .take .ensures .1, c .before .before .before .take .ensures .0 .from, c .before .before .before .take .ensures .0 .order, c .before .before .before .take .ensures .0 .within); lost = λ h. absurd (omega arith) }
 
--- src/lib.rt:348:1
 returns-3 : tie.Need-returns-3
 returns-3 c = record { lands = λ h. kind-other (c .before .before .take .ensures .0) 3 _ (c .if2 .left); from = λ h. omega (arith, c .before .before .take .ensures .0 .from, c .before .before .take .ensures .0 .order, c .before .before .take .ensures .0 .within); lost = λ h. absurd (omega arith) }
 

@@ -5,31 +5,22 @@ use Rattle.lexer.proofs.PlaceLaws.{kind-there, kind-other, spells}
 use borrow.Author.Needs.{needs}
 use Rattle.lexer.proofs.name.Statement.{statement}
 use Rattle.lexer.proofs.name.Tie as tie
-use Rattle.lexer.proofs.name.Reads as reads
-use Rattle.lexer.proofs.name.Lts as lts
-use Rattle.lexer.proofs.cursor.take.Reads as take-reads
 
--- src/lib.rt:329:19
 add-t9 : tie.Need-add-t9
 add-t9 c = search needs
 
--- src/lib.rt:328:9
 returns : tie.Need-returns
 returns c = record { lands = λ h. absurd (omega arith); from = λ h. absurd (omega arith); lost = λ h. refl }
 
--- src/lib.rt:333:9
 take-requires : tie.Need-take-requires
 take-requires c κs = search needs
 
--- src/lib.rt:342:19
 add-t12 : tie.Need-add-t12
 add-t12 c = search needs
 
--- src/lib.rt:323:1
 returns-2 : tie.Need-returns-2
 returns-2 c = record { lands = λ h. rw (c .before .before .take .ensures .1) (kind-there (c .before .before .take .ensures .0) 1 _ (c .if2 .taken) (spells (c .before .before .take .ensures .0) (c .if2 .taken))); from = λ h. omega (arith, c .before .before .take .ensures .1, c .before .before .take .ensures .0 .from, c .before .before .take .ensures .0 .order, c .before .before .take .ensures .0 .within); lost = λ h. absurd (omega arith) }
 
--- src/lib.rt:323:1
 returns-3 : tie.Need-returns-3
 returns-3 c = record { lands = λ h. kind-other (c .before .before .take .ensures .0) 1 _ (c .if2 .left); from = λ h. omega (arith, c .before .before .take .ensures .0 .from, c .before .before .take .ensures .0 .order, c .before .before .take .ensures .0 .within); lost = λ h. absurd (omega arith) }
 

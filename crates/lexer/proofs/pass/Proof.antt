@@ -5,36 +5,25 @@ use Rattle.lexer.proofs.PlaceLaws.{passes-there, passes-other}
 use borrow.Author.Needs.{needs}
 use Rattle.lexer.proofs.pass.Statement.{statement}
 use Rattle.lexer.proofs.pass.Tie as tie
-use Rattle.lexer.proofs.pass.Reads as reads
-use Rattle.lexer.proofs.pass.Lts as lts
-use Rattle.lexer.proofs.reads.Reads as reads-reads
-use Rattle.lexer.proofs.cursor.take.Reads as take-reads
 
--- src/lib.rt:264:16
 add-result : tie.Need-add-result
 add-result c = search needs
 
--- src/lib.rt:264:9
 returns : tie.Need-returns
 returns c = record { lands = λ h. absurd (omega arith); from = λ h. absurd (omega arith); lost = λ h. refl }
 
--- src/lib.rt:266:9
 take-requires : tie.Need-take-requires
 take-requires c κs = search needs
 
--- src/lib.rt:268:8
 reads-requires : tie.Need-reads-requires
 reads-requires c κs = search needs
 
--- src/lib.rt:268:36
 add-result-2 : tie.Need-add-result-2
 add-result-2 c = search needs
 
--- src/lib.rt:259:1
 returns-2 : tie.Need-returns-2
 returns-2 c = record { lands = λ h. rw (c .before .before .before .take .ensures .1) (passes-there (c .before .before .before .take .ensures .0) (c .before .before .before .before .before .before .before .args .w .now) (sym (c .before .reads .ensures) ∙ c .if2 .taken)); from = λ h. omega (arith, c .before .before .before .take .ensures .1, c .before .before .before .take .ensures .0 .from, c .before .before .before .take .ensures .0 .order, c .before .before .before .take .ensures .0 .within); lost = λ h. absurd (omega arith) }
 
--- src/lib.rt:259:1
 returns-3 : tie.Need-returns-3
 returns-3 c = record { lands = λ h. passes-other (c .before .before .before .take .ensures .0) (c .before .before .before .before .before .before .before .args .w .now) (sym (c .before .reads .ensures) ∙ c .if2 .left); from = λ h. omega (arith, c .before .before .before .take .ensures .0 .from, c .before .before .before .take .ensures .0 .order, c .before .before .before .take .ensures .0 .within); lost = λ h. absurd (omega arith) }
 

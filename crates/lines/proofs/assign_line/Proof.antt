@@ -1,20 +1,13 @@
 -- `lines::assign_line` meets its contract.
-use mathlib.Core.Path.{ap, subst}
-use native.Mathlib.Omega.{arith}
+use mathlib.Core.Path.{subst}
 use Rattle.syntax.specs.Reader.{readAssign, peek-in, skip-in}
 use Rattle.statements.specs.Statement.{Compiles}
-use Rattle.lines.specs.declared.Progress.{Progress}
 use Rattle.lines.specs.Progress.{numberOf}
 use Rattle.lines.proofs.EndLines.{concluded}
-use Rattle.lines.proofs.StatementLines.{assign-line, assign-broken, compiled-bounded}
+use Rattle.lines.proofs.StatementLines.{assign-line, assign-broken}
 use borrow.Author.Needs.{needs}
 use Rattle.lines.proofs.assign_line.Statement.{statement}
 use Rattle.lines.proofs.assign_line.Tie as tie
-use Rattle.lines.proofs.assign_line.Reads as reads
-use Rattle.lines.proofs.assign_line.Lts as lts
-use Rattle.lines.proofs.number_of.Reads as number-of-reads
-use Rattle.lines.proofs.onward.Reads as onward-reads
-use Rattle.statements.proofs.assignment.Reads as assignment-reads
 
 assignment-requires : tie.Need-assignment-requires
 assignment-requires c κs = search needs

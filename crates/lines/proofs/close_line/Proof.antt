@@ -1,17 +1,9 @@
 -- `lines::close_line` meets its contract.
-use mathlib.Core.Path.{ap}
-use native.Mathlib.Omega.{arith}
-use Rattle.lines.specs.declared.Progress.{Progress}
 use Rattle.lines.specs.Progress.{numberOf}
 use Rattle.lines.proofs.EndLines.{concluded, close-line}
 use borrow.Author.Needs.{needs}
 use Rattle.lines.proofs.close_line.Statement.{statement}
 use Rattle.lines.proofs.close_line.Tie as tie
-use Rattle.lines.proofs.close_line.Reads as reads
-use Rattle.lines.proofs.close_line.Lts as lts
-use Rattle.lexer.proofs.pass.Reads as pass-reads
-use Rattle.lines.proofs.number_of.Reads as number-of-reads
-use Rattle.lines.proofs.onward.Reads as onward-reads
 
 slice-aggregate-pass : tie.Need-slice-aggregate-pass
 slice-aggregate-pass c = search needs

@@ -1,15 +1,8 @@
 -- `lines::data_line` meets its contract.
-use mathlib.Core.Path.{refl, _∙_}
-use native.Mathlib.Omega.{arith}
 use Rattle.lines.proofs.GiveLine.{give-line}
 use borrow.Author.Needs.{needs}
 use Rattle.lines.proofs.data_line.Statement.{statement}
 use Rattle.lines.proofs.data_line.Tie as tie
-use Rattle.lines.proofs.data_line.Reads as reads
-use Rattle.lines.proofs.data_line.Lts as lts
-use Rattle.headings.proofs.data_values.Reads as data-values-reads
-use Rattle.lexer.proofs.pass.Reads as pass-reads
-use Rattle.lines.proofs.number_of.Reads as number-of-reads
 
 slice-aggregate-pass : tie.Need-slice-aggregate-pass
 slice-aggregate-pass c = search needs

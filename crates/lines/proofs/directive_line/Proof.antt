@@ -1,14 +1,8 @@
 -- `lines::directive_line` meets its contract.
-use mathlib.Core.Path.{refl}
 use Rattle.lines.proofs.DirectLine.{direct-line}
 use borrow.Author.Needs.{needs}
 use Rattle.lines.proofs.directive_line.Statement.{statement}
 use Rattle.lines.proofs.directive_line.Tie as tie
-use Rattle.lines.proofs.directive_line.Reads as reads
-use Rattle.lines.proofs.directive_line.Lts as lts
-use Rattle.headings.proofs.directive.Reads as directive-reads
-use Rattle.lexer.proofs.pass.Reads as pass-reads
-use Rattle.lines.proofs.number_of.Reads as number-of-reads
 
 slice-aggregate-pass : tie.Need-slice-aggregate-pass
 slice-aggregate-pass c = search needs

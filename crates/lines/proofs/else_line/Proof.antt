@@ -4,18 +4,11 @@ use mathlib.Core.List.{List}
 use Prim.Native.Nat.{ℕ, _+_, _*_}
 use native.Mathlib.Omega.{arith}
 use lib.ListN.{set}
-use Rattle.lines.specs.declared.Progress.{Progress}
 use Rattle.lines.specs.Progress.{numberOf}
 use Rattle.lines.proofs.EndLines.{concluded, jumps, else-none, else-again, else-turns}
 use borrow.Author.Needs.{needs}
 use Rattle.lines.proofs.else_line.Statement.{statement}
 use Rattle.lines.proofs.else_line.Tie as tie
-use Rattle.lines.proofs.else_line.Reads as reads
-use Rattle.lines.proofs.else_line.Lts as lts
-use Rattle.lines.proofs.fill.Reads as fill-reads
-use Rattle.lines.proofs.number_of.Reads as number-of-reads
-use Rattle.lines.proofs.onward.Reads as onward-reads
-use Rattle.lines.proofs.put_jump.Reads as put-jump-reads
 
 onward-requires : tie.Need-onward-requires
 onward-requires c κs = search needs

@@ -1,16 +1,10 @@
 -- `lines::end_do_line` meets its contract.
-use mathlib.Core.Path.{ap}
 use native.Mathlib.Omega.{arith}
-use Rattle.lines.specs.declared.Progress.{Progress}
 use Rattle.lines.specs.Progress.{numberOf}
 use Rattle.lines.proofs.EndLines.{concluded, end-do-line, end-do-open}
 use borrow.Author.Needs.{needs}
 use Rattle.lines.proofs.end_do_line.Statement.{statement}
 use Rattle.lines.proofs.end_do_line.Tie as tie
-use Rattle.lines.proofs.end_do_line.Reads as reads
-use Rattle.lines.proofs.end_do_line.Lts as lts
-use Rattle.lines.proofs.number_of.Reads as number-of-reads
-use Rattle.lines.proofs.onward.Reads as onward-reads
 
 number-of-requires : tie.Need-number-of-requires
 number-of-requires c κs = search needs

@@ -1,17 +1,10 @@
 -- `lines::end_if_line` meets its contract.
-use mathlib.Core.Path.{refl, ap, _∙_}
 use native.Mathlib.Omega.{arith}
-use Rattle.lines.specs.declared.Progress.{Progress}
 use Rattle.lines.specs.Progress.{numberOf}
 use Rattle.lines.proofs.EndLines.{concluded, jumps, end-if-none, end-if-ends}
 use borrow.Author.Needs.{needs}
 use Rattle.lines.proofs.end_if_line.Statement.{statement}
 use Rattle.lines.proofs.end_if_line.Tie as tie
-use Rattle.lines.proofs.end_if_line.Reads as reads
-use Rattle.lines.proofs.end_if_line.Lts as lts
-use Rattle.lines.proofs.fill.Reads as fill-reads
-use Rattle.lines.proofs.number_of.Reads as number-of-reads
-use Rattle.lines.proofs.onward.Reads as onward-reads
 
 onward-requires : tie.Need-onward-requires
 onward-requires c κs = search needs

@@ -5,20 +5,12 @@ use lib.ListN.{set}
 use native.Mathlib.Omega.{arith}
 use Rattle.syntax.specs.Reader.{readWhen, peek-in, skip-in}
 use Rattle.statements.specs.Statement.{Compiles}
-use Rattle.lines.specs.declared.Progress.{Progress}
 use Rattle.lines.specs.Progress.{numberOf}
 use Rattle.lines.proofs.EndLines.{concluded}
 use Rattle.lines.proofs.StatementLines.{when-line, when-deep, when-broken, compiled-bounded, compiled-number}
 use borrow.Author.Needs.{needs}
 use Rattle.lines.proofs.if_line.Statement.{statement}
 use Rattle.lines.proofs.if_line.Tie as tie
-use Rattle.lines.proofs.if_line.Reads as reads
-use Rattle.lines.proofs.if_line.Lts as lts
-use Rattle.lines.proofs.nested.Reads as nested-reads
-use Rattle.lines.proofs.number_of.Reads as number-of-reads
-use Rattle.lines.proofs.onward.Reads as onward-reads
-use Rattle.lines.proofs.open_word.Reads as open-word-reads
-use Rattle.statements.proofs.condition.Reads as condition-reads
 
 condition-requires : tie.Need-condition-requires
 condition-requires c κs = search needs

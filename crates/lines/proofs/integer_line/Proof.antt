@@ -3,11 +3,6 @@ use Rattle.lines.proofs.DeclareLine.{declare-line}
 use borrow.Author.Needs.{needs}
 use Rattle.lines.proofs.integer_line.Statement.{statement}
 use Rattle.lines.proofs.integer_line.Tie as tie
-use Rattle.lines.proofs.integer_line.Reads as reads
-use Rattle.lines.proofs.integer_line.Lts as lts
-use Rattle.headings.proofs.integers.Reads as integers-reads
-use Rattle.lexer.proofs.pass.Reads as pass-reads
-use Rattle.lines.proofs.number_of.Reads as number-of-reads
 
 slice-aggregate-pass : tie.Need-slice-aggregate-pass
 slice-aggregate-pass c = search needs

@@ -6,11 +6,6 @@ use Rattle.lines.proofs.LoopLine.{loop-line}
 use borrow.Author.Needs.{needs}
 use Rattle.lines.proofs.loop_line.Statement.{statement}
 use Rattle.lines.proofs.loop_line.Tie as tie
-use Rattle.lines.proofs.loop_line.Reads as reads
-use Rattle.lines.proofs.loop_line.Lts as lts
-use Rattle.headings.proofs.do_line.Reads as do-line-reads
-use Rattle.lexer.proofs.pass.Reads as pass-reads
-use Rattle.lines.proofs.number_of.Reads as number-of-reads
 
 slice-aggregate-pass : tie.Need-slice-aggregate-pass
 slice-aggregate-pass c = search needs

@@ -1,12 +1,8 @@
 -- `lines::nested` meets its contract.
 use native.Mathlib.Omega.{arith}
 use Rattle.lines.proofs.StatementLines.{nested-low, nested-high}
-use Rattle.lines.proofs.StatementLines.{nested-low, nested-high}
-use Rattle.lines.proofs.StatementLines.{nested-low, nested-high}
 use Rattle.lines.proofs.nested.Statement.{statement}
 use Rattle.lines.proofs.nested.Tie as tie
-use Rattle.lines.proofs.nested.Reads as reads
-use Rattle.lines.proofs.nested.Lts as lts
 
 returns : tie.Need-returns
 returns c = nested-low _ (c .before .args .depth) (omega arith)

@@ -1,14 +1,11 @@
 -- `lines::number_of` meets its contract.
-use mathlib.Core.Path.{refl, sym, ap}
+use mathlib.Core.Path.{sym, ap}
 use native.Mathlib.Omega.{arith}
 use Rattle.lines.specs.Progress.{numbered}
 use Rattle.lines.proofs.Verdicts.{numbers-beyond, numbers-more, numbers-end, numbered-large}
 use borrow.Author.Needs.{needs}
 use Rattle.lines.proofs.number_of.Statement.{statement}
 use Rattle.lines.proofs.number_of.Tie as tie
-use Rattle.lines.proofs.number_of.Reads as reads
-use Rattle.lines.proofs.number_of.Lts as lts
-use Rattle.lexer.proofs.token.Reads as token-reads
 
 returns : tie.Need-returns
 returns c = numbers-beyond (omega arith)

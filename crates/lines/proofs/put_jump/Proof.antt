@@ -5,8 +5,6 @@ use lib.ListN.{length-set}
 use borrow.Author.Needs.{needs}
 use Rattle.lines.proofs.put_jump.Statement.{statement}
 use Rattle.lines.proofs.put_jump.Tie as tie
-use Rattle.lines.proofs.put_jump.Reads as reads
-use Rattle.lines.proofs.put_jump.Lts as lts
 
 mul-i : tie.Need-mul-i
 mul-i c = search needs

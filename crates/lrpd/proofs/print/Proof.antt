@@ -6,7 +6,6 @@ use lib.IntN.{pos}
 use Rattle.lrpd.proofs.Answering.{lent-few, prints-lent}
 use native.Mathlib.Omega.{arith}
 use borrow.Author.Needs.{needs}
-use borrow.Author.Needs.{needs}
 use Rattle.lrpd.proofs.print.Statement.{statement}
 use Rattle.lrpd.proofs.print.Tie as tie
 

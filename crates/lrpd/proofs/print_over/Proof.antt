@@ -76,6 +76,7 @@ returns c =
     (run .ensures .1 .0)
     _
     _
+    _
     (c .report .ensures)
 
 pub print-over-spec : {M : Type 1} → statement M

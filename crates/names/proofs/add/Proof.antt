@@ -7,76 +7,55 @@ use Rattle.names.proofs.Rows.{added, full}
 use borrow.Author.Needs.{needs}
 use Rattle.names.proofs.add.Statement.{statement}
 use Rattle.names.proofs.add.Tie as tie
-use Rattle.names.proofs.add.Reads as reads
-use Rattle.names.proofs.add.Lts as lts
-use Rattle.names.proofs.count.Reads as count-reads
-use Rattle.names.proofs.put_name.Reads as put-name-reads
 
--- src/lib.rt:122:9
 count-requires : tie.Need-count-requires
 count-requires c κs = search needs
 
--- src/lib.rt:124:9
 returns : tie.Need-returns
 returns c = full _ _ _ _ _ (omega arith)
 
--- src/lib.rt:126:5
 put-name-requires : tie.Need-put-name-requires
 put-name-requires c κs = search needs
 
--- src/lib.rt:127:16
 mul-base : tie.Need-mul-base
 mul-base c = search needs
 
--- src/lib.rt:128:11
 add-table : tie.Need-add-table
 add-table c = search needs
 
--- src/lib.rt:128:5
 mul-table : tie.Need-mul-table
 mul-table c = search needs
 
--- src/lib.rt:128:5
 element-write-table : tie.Need-element-write-table
 element-write-table c = search needs
 
--- src/lib.rt:129:11
 add-table-2 : tie.Need-add-table-2
 add-table-2 c = search needs
 
--- src/lib.rt:129:5
 mul-table-2 : tie.Need-mul-table-2
 mul-table-2 c = search needs
 
--- src/lib.rt:129:5
 element-write-table-2 : tie.Need-element-write-table-2
 element-write-table-2 c = search needs
 
--- src/lib.rt:130:11
 add-table-3 : tie.Need-add-table-3
 add-table-3 c = search needs
 
--- src/lib.rt:130:5
 mul-table-3 : tie.Need-mul-table-3
 mul-table-3 c = search needs
 
--- src/lib.rt:130:5
 element-write-table-3 : tie.Need-element-write-table-3
 element-write-table-3 c = search needs
 
--- src/lib.rt:131:18
 cast-table : tie.Need-cast-table
 cast-table c = search needs
 
--- src/lib.rt:131:18
 add-table-4 : tie.Need-add-table-4
 add-table-4 c = search needs
 
--- src/lib.rt:131:5
 element-write-table-4 : tie.Need-element-write-table-4
 element-write-table-4 c = search needs
 
--- src/lib.rt:118:1
 returns-2 : tie.Need-returns-2
 returns-2 c =
     let a = c .before .before .before .before .before .before .before .args in

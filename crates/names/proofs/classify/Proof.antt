@@ -1,54 +1,43 @@
 -- `names::classify` meets its contract: one word changes.
 use native.Mathlib.Omega.{arith}
+use Rattle.names.specs.Table.{factsWord}
 use Rattle.names.proofs.Laws.{word-place}
 use Rattle.names.proofs.Rows.{classed}
 use borrow.Author.Needs.{needs}
 use Rattle.names.proofs.classify.Statement.{statement}
 use Rattle.names.proofs.classify.Tie as tie
-use Rattle.names.proofs.classify.Reads as reads
-use Rattle.names.proofs.classify.Lts as lts
 
--- src/lib.rt:150:16
 mul-base : tie.Need-mul-base
 mul-base c = search needs
 
--- src/lib.rt:151:24
 mul-table : tie.Need-mul-table
 mul-table c = search needs
 
--- src/lib.rt:151:43
 add-table : tie.Need-add-table
 add-table c = search needs
 
--- src/lib.rt:151:37
 mul-table-2 : tie.Need-mul-table-2
 mul-table-2 c = search needs
 
--- src/lib.rt:151:37
 element-copy-out-table : tie.Need-element-copy-out-table
 element-copy-out-table c = search needs
 
--- src/lib.rt:151:24
 add-table-2 : tie.Need-add-table-2
 add-table-2 c = search needs
 
--- src/lib.rt:151:11
 add-table-3 : tie.Need-add-table-3
 add-table-3 c = search needs
 
--- src/lib.rt:151:5
 mul-table-3 : tie.Need-mul-table-3
 mul-table-3 c = search needs
 
--- src/lib.rt:151:5
 element-write-table : tie.Need-element-write-table
 element-write-table c = search needs
 
--- src/lib.rt:146:1
 returns : tie.Need-returns
 returns c =
     let a = c .before .args in
-    classed (a .table .now) (a .i) (omega arith) _ (word-place (a .table .now) (a .i) 35) (a .clause) (omega arith)
+    classed (a .table .now) (a .i) (omega arith) _ (word-place (a .table .now) (a .i) factsWord) (a .clause) (omega arith)
 
 pub classify-spec : {M : Type 1} → statement M
 classify-spec =

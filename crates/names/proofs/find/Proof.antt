@@ -4,6 +4,7 @@ use mathlib.Core.Bool.{Bool, true, false, cond}
 use Prim.Native.Nat.{ℕ}
 use native.Mathlib.Omega.{arith}
 use borrow.Author.Needs.{needs}
+use Rattle.names.specs.Table.{firstWord, sizeWord, factsWord}
 use Rattle.names.proofs.Laws.{knows-none, knows-there, stands-there, word-place}
 use Rattle.names.proofs.find.Statement.{statement}
 use Rattle.names.proofs.find.Tie as tie
@@ -55,8 +56,8 @@ returns-2 c =
     let T = c .before .before .before .before .before .before .before .args .table .now in
     let i = c .before .before .before .before .before .position .result in (
       omega (arith, c .before .before .before .before .before .position .ensures .within),
-      λ t d. knows-there T t d (c .before .before .before .before .before .before .before .args .w .now) i (c .before .before .before .before .before .position .ensures) (omega (arith, c .before .before .before .before .count .ensures)) _ _ _ (word-place T i 35) (word-place T i 33) (word-place T i 34),
-      λ t d e. stands-there T t d (c .before .before .before .before .before .before .before .args .w .now) i (c .before .before .before .before .before .position .ensures) (omega (arith, c .before .before .before .before .count .ensures)) _ (word-place T i 35) _ refl refl,
+      λ t d. knows-there T t d (c .before .before .before .before .before .before .before .args .w .now) i (c .before .before .before .before .before .position .ensures) (omega (arith, c .before .before .before .before .count .ensures)) _ _ _ (word-place T i factsWord) (word-place T i firstWord) (word-place T i sizeWord),
+      λ t d e. stands-there T t d (c .before .before .before .before .before .before .before .args .w .now) i (c .before .before .before .before .before .position .ensures) (omega (arith, c .before .before .before .before .count .ensures)) _ (word-place T i factsWord) _ refl refl,
     )
 
 pub find-spec : {M : Type 1} → statement M

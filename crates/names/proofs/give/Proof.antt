@@ -3,53 +3,41 @@ use mathlib.Core.Path.{sym, subst}
 use Prim.Native.Nat.{ℕ, _+_, _*_}
 use native.Mathlib.Omega.{arith}
 use lib.ListN.{set}
-use Rattle.names.specs.Table.{Gave}
+use Rattle.names.specs.Table.{Gave, factsWord, entryWords}
 use Rattle.names.proofs.Laws.{word-place}
 use Rattle.names.proofs.Rows.{gave}
 use borrow.Author.Needs.{needs}
 use Rattle.names.proofs.give.Statement.{statement}
 use Rattle.names.proofs.give.Tie as tie
-use Rattle.names.proofs.give.Reads as reads
-use Rattle.names.proofs.give.Lts as lts
-use Rattle.names.proofs.with_data.Reads as with-data-reads
 
--- src/lib.rt:147:16
 mul-base : tie.Need-mul-base
 mul-base c = search needs
 
--- src/lib.rt:148:40
 add-with-data : tie.Need-add-with-data
 add-with-data c = search needs
 
--- src/lib.rt:148:34
 mul-with-data : tie.Need-mul-with-data
 mul-with-data c = search needs
 
--- src/lib.rt:148:34
 element-copy-out-with-data : tie.Need-element-copy-out-with-data
 element-copy-out-with-data c = search needs
 
--- src/lib.rt:148:24
 with-data-requires : tie.Need-with-data-requires
 with-data-requires c κs = search needs
 
--- src/lib.rt:148:11
 add-table : tie.Need-add-table
 add-table c = search needs
 
--- src/lib.rt:148:5
 mul-table : tie.Need-mul-table
 mul-table c = search needs
 
--- src/lib.rt:148:5
 element-write-table : tie.Need-element-write-table
 element-write-table c = search needs
 
--- src/lib.rt:143:1
 returns : tie.Need-returns
 returns c =
     let a = c .before .before .args in
-    subst (λ (n : ℕ). Gave (a .table .now) (a .i) (set (a .table .now) (a .i * 36 + 35) n)) (sym (c .with-data .ensures)) (gave (a .table .now) (a .i) (omega arith) _ (word-place (a .table .now) (a .i) 35))
+    subst (λ (n : ℕ). Gave (a .table .now) (a .i) (set (a .table .now) (a .i * entryWords + factsWord) n)) (sym (c .with-data .ensures)) (gave (a .table .now) (a .i) (omega arith) _ (word-place (a .table .now) (a .i) factsWord))
 
 pub give-spec : {M : Type 1} → statement M
 give-spec =

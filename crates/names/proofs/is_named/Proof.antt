@@ -8,7 +8,7 @@ use lib.ListN.{length, getD}
 use mathlib.Core.List.{List}
 use Rattle.rules.specs.Cells.{listed}
 use Rattle.syntax.specs.Bytes.{same}
-use Rattle.names.specs.Table.{wordAt, nameAt}
+use Rattle.names.specs.Table.{wordAt, nameAt, lengthAt, lengthWord, entryWords}
 use Rattle.names.proofs.Laws.{same-listed, same-differs, name-long, name-other, word-place}
 use Rattle.names.proofs.is_named.Statement.{statement}
 use Rattle.names.proofs.is_named.Tie as tie
@@ -37,7 +37,7 @@ wide-requires c κs = search needs
 returns : tie.Need-returns Inv-loop μ-loop
 returns c =
     let a = c .before .before .before .before .args in
-    sym (name-other (a .table .now) (a .i) (a .w .now) (λ (e : wordAt (a .table .now) (a .i) 32 ≡ length (a .w .now)). c .if1 .taken (c .before .wide .ensures ∙ word-place (a .table .now) (a .i) 32 ∙ e)))
+    sym (name-other (a .table .now) (a .i) (a .w .now) (λ (e : lengthAt (a .table .now) (a .i) ≡ length (a .w .now)). c .if1 .taken (c .before .wide .ensures ∙ word-place (a .table .now) (a .i) lengthWord ∙ e)))
 
 loop-holds : tie.Need-loop-holds Inv-loop μ-loop
 loop-holds c = (omega arith, λ j b. absurd (omega arith))
@@ -58,8 +58,8 @@ cast-if2 : tie.Need-cast-if2 Inv-loop μ-loop
 cast-if2 c = omega (arith, c .shared-slice-known2 .given (c .before .before .before .loop .k))
 
 -- the name, where it is as long as the word
-long : (T : List ℕ) (i : ℕ) (w : List ℕ) → getD T (i * 36 + 32) 0 ≡ length w → nameAt T i ≡ listed (length w) (λ k. wordAt T i k)
-long T i w e = name-long T i w (sym (word-place T i 32) ∙ e)
+long : (T : List ℕ) (i : ℕ) (w : List ℕ) → getD T (i * entryWords + lengthWord) 0 ≡ length w → nameAt T i ≡ listed (length w) (λ k. wordAt T i k)
+long T i w e = name-long T i w (sym (word-place T i lengthWord) ∙ e)
 
 returns-2 : tie.Need-returns-2 Inv-loop μ-loop
 returns-2 c =

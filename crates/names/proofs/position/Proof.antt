@@ -1,12 +1,11 @@
 -- `names::position` meets its contract: no entry before i has the name.
-use Prim.Native.Nat.{ℕ, _≤_, _<_, _-_, min}
+use Prim.Native.Nat.{ℕ, _≤_, _<_, _-_}
 use mathlib.Core.Path.{_≡_, sym, _∙_}
 use mathlib.Core.Bool.{false}
 use native.Mathlib.Omega.{arith}
 use borrow.Author.Count.{below-more}
-use lib.ListN.{getD}
 use Rattle.syntax.specs.Bytes.{same}
-use Rattle.names.specs.Table.{nameAt}
+use Rattle.names.specs.Table.{nameAt, countIn}
 use Rattle.names.proofs.position.Statement.{statement}
 use Rattle.names.proofs.position.Tie as tie
 
@@ -38,7 +37,7 @@ loop-again : tie.Need-loop-again Inv-loop μ-loop
 loop-again c = (omega arith, below-more (λ k. same (c .before .before .before .before .before .before .args .w .now) (nameAt (c .before .before .before .before .before .before .args .table .now) k) ≡ false) (c .before .before .before .loop .i) (c .before .before .before .loop .inv .1) (sym (c .before .is-named .ensures) ∙ c .if1 .left))
 
 returns-2 : tie.Need-returns-2 Inv-loop μ-loop
-returns-2 c = record { within = omega (arith, c .before .before .count .ensures); before = c .before .loop .inv .1; there = λ (h : c .before .loop .i < min (getD (c .before .before .before .before .args .table .now) 612 0) 16). absurd (omega (arith, c .before .before .count .ensures)) }
+returns-2 c = record { within = omega (arith, c .before .before .count .ensures); before = c .before .loop .inv .1; there = λ (h : c .before .loop .i < countIn (c .before .before .before .before .args .table .now)). absurd (omega (arith, c .before .before .count .ensures)) }
 
 pub position-spec : {M : Type 1} → statement M
 position-spec =

@@ -6,7 +6,7 @@ use native.Mathlib.Decide.{ℕ-discrete}
 use native.Mathlib.Omega.{arith}
 use lib.ListN.{length, getD, set, length-set}
 use lib.Seq.{getD-set-same, getD-set-other}
-use Rattle.names.specs.Table.{wordAt}
+use Rattle.names.specs.Table.{wordAt, tableWords, nameWords, lengthWord, firstWord, entryWords}
 use Rattle.names.proofs.Laws.{name-written, set-elsewhere}
 use Rattle.names.proofs.put_name.Statement.{statement}
 use Rattle.names.proofs.put_name.Tie as tie
@@ -15,9 +15,9 @@ abbrev Inv-loop : tie.InvT-loop
 Inv-loop table₀ i w base k₀ table k =
     (k ≤ length w)
     × (length table ≡ length table₀)
-    × (613 ≤ length table₀ → (j : ℕ) → j < k → wordAt table i j ≡ getD w j 0)
-    × ((p : ℕ) → p < 36 * i → getD table p 0 ≡ getD table₀ p 0)
-    × ((p : ℕ) → 36 * i + 32 ≤ p → getD table p 0 ≡ getD table₀ p 0)
+    × (tableWords ≤ length table₀ → (j : ℕ) → j < k → wordAt table i j ≡ getD w j 0)
+    × ((p : ℕ) → p < entryWords * i → getD table p 0 ≡ getD table₀ p 0)
+    × ((p : ℕ) → entryWords * i + k ≤ p → getD table p 0 ≡ getD table₀ p 0)
 
 abbrev μ-loop : tie.MeasureT-loop
 μ-loop table₀ i w base k₀ table k = length w - k
@@ -50,10 +50,10 @@ loop-less : tie.Need-loop-less Inv-loop μ-loop
 loop-less c = omega arith
 
 -- a byte more
-more : (T : List ℕ) (i k b : ℕ) (w : List ℕ) → i * 36 + k < length T → b ≡ getD w k 0 → ((j : ℕ) → j < k → wordAt T i j ≡ getD w j 0) → (j : ℕ) → j < k + 1 → wordAt (set T (i * 36 + k) b) i j ≡ getD w j 0
+more : (T : List ℕ) (i k b : ℕ) (w : List ℕ) → i * entryWords + k < length T → b ≡ getD w k 0 → ((j : ℕ) → j < k → wordAt T i j ≡ getD w j 0) → (j : ℕ) → j < k + 1 → wordAt (set T (i * entryWords + k) b) i j ≡ getD w j 0
 more T i k b w h e f j l = elim (ℕ-discrete j k) [
-  | yes q ↦ ap (λ (n : ℕ). getD (set T (i * 36 + k) b) n 0) (omega arith) ∙ getD-set-same T (i * 36 + k) b 0 h ∙ e ∙ ap (λ (n : ℕ). getD w n 0) (sym q)
-  | no n ↦ getD-set-other T (i * 36 + k) (36 * i + j) b 0 (omega arith) ∙ f j (omega arith)
+  | yes q ↦ ap (λ (n : ℕ). getD (set T (i * entryWords + k) b) n 0) (omega arith) ∙ getD-set-same T (i * entryWords + k) b 0 h ∙ e ∙ ap (λ (n : ℕ). getD w n 0) (sym q)
+  | no n ↦ getD-set-other T (i * entryWords + k) (entryWords * i + j) b 0 (omega arith) ∙ f j (omega arith)
 ]
 
 loop-again : tie.Need-loop-again Inv-loop μ-loop
@@ -62,9 +62,9 @@ loop-again c =
     let l = c .before .before .loop in (
       omega arith,
       simp length-set (l .inv .1),
-      λ (h : 613 ≤ length (a .table .now)). more (l .table) (a .i) (l .k) _ (a .w .now) (omega (arith, l .inv .1)) refl (l .inv .2 h),
-      λ p (b : p < 36 * a .i). set-elsewhere (l .table) (a .i * 36 + l .k) p _ (omega arith) ∙ l .inv .3 p b,
-      λ p (b : 36 * a .i + 32 ≤ p). set-elsewhere (l .table) (a .i * 36 + l .k) p _ (omega arith) ∙ l .inv .4 p b,
+      λ (h : tableWords ≤ length (a .table .now)). more (l .table) (a .i) (l .k) _ (a .w .now) (omega (arith, l .inv .1)) refl (l .inv .2 h),
+      λ p (b : p < entryWords * a .i). set-elsewhere (l .table) (a .i * entryWords + l .k) p _ (omega arith) ∙ l .inv .3 p b,
+      λ p (b : entryWords * a .i + (l .k + 1) ≤ p). set-elsewhere (l .table) (a .i * entryWords + l .k) p _ (omega arith) ∙ l .inv .4 p (omega arith),
     )
 
 cast-table-2 : tie.Need-cast-table-2 Inv-loop μ-loop
@@ -87,8 +87,9 @@ returns c =
     record {
       long = simp length-set (l .inv .1);
       name = λ h. name-written (l .table) (a .i) (a .w .now) (l .k) k (omega (arith, l .inv .1)) (l .inv .2 h) (omega arith);
-      before = λ p (b : p < 36 * a .i). set-elsewhere (l .table) (a .i * 36 + 32) p (l .k) (omega arith) ∙ l .inv .3 p b;
-      after = λ p (b : 36 * a .i + 33 ≤ p). set-elsewhere (l .table) (a .i * 36 + 32) p (l .k) (omega arith) ∙ l .inv .4 p (omega arith);
+      before = λ p (b : p < entryWords * a .i). set-elsewhere (l .table) (a .i * entryWords + lengthWord) p (l .k) (omega arith) ∙ l .inv .3 p b;
+      spare = λ j (b : length (a .w .now) ≤ j) (d : j < nameWords). set-elsewhere (l .table) (a .i * entryWords + lengthWord) (entryWords * a .i + j) (l .k) (omega arith) ∙ l .inv .4 (entryWords * a .i + j) (omega arith);
+      after = λ p (b : entryWords * a .i + firstWord ≤ p). set-elsewhere (l .table) (a .i * entryWords + lengthWord) p (l .k) (omega arith) ∙ l .inv .4 p (omega arith);
     }
 
 pub put-name-spec : {M : Type 1} → statement M

@@ -24,7 +24,6 @@ abbrev put-digits-below : ℕ → In 1 put-digits-kinds.ps
 put-digits-below t =
     and 1 put-digits-kinds.ps (falls 1 put-digits-kinds.ps _<_ μ-put-digits t) put-digits.Pre
 
--- src/lib.rt:41:9
 put-digits-returns : (t : ℕ) → put-digits-lts.Need-returns (
   put-reads.Asked,
   put-reads.Learnt,
@@ -33,7 +32,6 @@ put-digits-returns : (t : ℕ) → put-digits-lts.Need-returns (
 ) (put-digits-at t) put-digits.Post
 put-digits-returns t c = digits-none _ _ _ _ (c .if1 .taken)
 
--- src/lib.rt:44:34
 put-digits-cast-put : (t : ℕ) → put-digits-lts.Need-cast-put (
   put-reads.Asked,
   put-reads.Learnt,
@@ -42,7 +40,6 @@ put-digits-cast-put : (t : ℕ) → put-digits-lts.Need-cast-put (
 ) (put-digits-at t) put-digits.Post
 put-digits-cast-put t c = search needs
 
--- src/lib.rt:44:29
 put-digits-add-put : (t : ℕ) → put-digits-lts.Need-add-put (
   put-reads.Asked,
   put-reads.Learnt,
@@ -51,7 +48,6 @@ put-digits-add-put : (t : ℕ) → put-digits-lts.Need-add-put (
 ) (put-digits-at t) put-digits.Post
 put-digits-add-put t c = search needs
 
--- src/lib.rt:44:9
 put-digits-put-requires : (t : ℕ) → put-digits-lts.Need-put-requires (
   put-reads.Asked,
   put-reads.Learnt,
@@ -60,7 +56,6 @@ put-digits-put-requires : (t : ℕ) → put-digits-lts.Need-put-requires (
 ) (put-digits-at t) put-digits.Post
 put-digits-put-requires t c κs = search needs
 
--- src/lib.rt:44:9
 put-digits-returns-2 : (t : ℕ) → put-digits-lts.Need-returns-2 (
   put-reads.Asked,
   put-reads.Learnt,
@@ -69,7 +64,6 @@ put-digits-returns-2 : (t : ℕ) → put-digits-lts.Need-returns-2 (
 ) (put-digits-at t) put-digits.Post
 put-digits-returns-2 t c = digits-last _ _ (c .before .before .before .if1 .left) (c .before .before .if2 .taken) (c .put .ensures)
 
--- src/lib.rt:46:41
 put-digits-sub-put-digits : (t : ℕ) → put-digits-lts.Need-sub-put-digits (
   put-reads.Asked,
   put-reads.Learnt,
@@ -78,7 +72,6 @@ put-digits-sub-put-digits : (t : ℕ) → put-digits-lts.Need-sub-put-digits (
 ) (put-digits-at t) put-digits.Post
 put-digits-sub-put-digits t c = search needs
 
--- src/lib.rt:46:9
 put-digits-put-digits-requires : (t : ℕ) → put-digits-lts.Need-put-digits-requires (
   put-reads.Asked,
   put-reads.Learnt,
@@ -87,7 +80,6 @@ put-digits-put-digits-requires : (t : ℕ) → put-digits-lts.Need-put-digits-re
 ) (put-digits-at t) put-digits.Post
 put-digits-put-digits-requires t c κs = search needs
 
--- src/lib.rt:47:22
 put-digits-cast-put-2 : (t : ℕ) → put-digits-lts.Need-cast-put-2 (
   put-reads.Asked,
   put-reads.Learnt,
@@ -96,7 +88,6 @@ put-digits-cast-put-2 : (t : ℕ) → put-digits-lts.Need-cast-put-2 (
 ) (put-digits-at t) put-digits.Post
 put-digits-cast-put-2 t c = search needs
 
--- src/lib.rt:47:17
 put-digits-add-put-2 : (t : ℕ) → put-digits-lts.Need-add-put-2 (
   put-reads.Asked,
   put-reads.Learnt,
@@ -105,7 +96,6 @@ put-digits-add-put-2 : (t : ℕ) → put-digits-lts.Need-add-put-2 (
 ) (put-digits-at t) put-digits.Post
 put-digits-add-put-2 t c = search needs
 
--- src/lib.rt:47:5
 put-digits-put-requires-2 : (t : ℕ) → put-digits-lts.Need-put-requires-2 (
   put-reads.Asked,
   put-reads.Learnt,
@@ -114,7 +104,6 @@ put-digits-put-requires-2 : (t : ℕ) → put-digits-lts.Need-put-requires-2 (
 ) (put-digits-at t) put-digits.Post
 put-digits-put-requires-2 t c κs = omega (arith, c .before .put-digits .ensures .place, digits-few (c .before .before .before .before .before .args .k - 1) (c .before .before .before .before .before .args .n / 10))
 
--- src/lib.rt:36:1
 put-digits-returns-3 : (t : ℕ) → put-digits-lts.Need-returns-3 (
   put-reads.Asked,
   put-reads.Learnt,

@@ -15,39 +15,30 @@ Inv-loop out₀ at s k₀ out k = (k ≤ length s) × Writes out₀ at (take k s
 abbrev μ-loop : tie.MeasureT-loop
 μ-loop out₀ at s k₀ out k = length s - k
 
--- src/lib.rt:28:5
 loop-holds : tie.Need-loop-holds Inv-loop μ-loop
 loop-holds c = (omega arith, bytes-none _ _)
 
--- src/lib.rt:29:23
 shared-slice-read-out : tie.Need-shared-slice-read-out Inv-loop μ-loop
 shared-slice-read-out c = search needs
 
--- src/lib.rt:29:13
 add-out : tie.Need-add-out Inv-loop μ-loop
 add-out c = search needs
 
--- src/lib.rt:29:9
 element-write-out : tie.Need-element-write-out Inv-loop μ-loop
 element-write-out c = search needs
 
--- src/lib.rt:30:9
 add-k : tie.Need-add-k Inv-loop μ-loop
 add-k c = search needs
 
--- src/lib.rt:28:5
 loop-less : tie.Need-loop-less Inv-loop μ-loop
 loop-less c = search needs
 
--- src/lib.rt:28:5
 loop-again : tie.Need-loop-again Inv-loop μ-loop
 loop-again c = (omega arith, bytes-more _ _ _ _ _ _ (omega arith) refl (c .before .before .loop .inv .1))
 
--- src/lib.rt:32:5
 add-result : tie.Need-add-result Inv-loop μ-loop
 add-result c = search needs
 
--- src/lib.rt:23:1
 returns : tie.Need-returns Inv-loop μ-loop
 returns c = bytes-all _ _ _ _ (c .before .loop .k) (omega arith) (c .before .loop .inv .1)
 

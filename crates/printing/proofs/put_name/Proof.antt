@@ -15,27 +15,27 @@ Inv-loop out₀ at table i n k₀ out k = (k ≤ n) × Writes out₀ at (listed 
 abbrev μ-loop : tie.MeasureT-loop
 μ-loop out₀ at table i n k₀ out k = n - k
 
-word-at-requires : tie.Need-word-at-requires Inv-loop μ-loop
-word-at-requires c κs = search needs
+length-of-requires : tie.Need-length-of-requires Inv-loop μ-loop
+length-of-requires c κs = search needs
 
 loop-holds : tie.Need-loop-holds Inv-loop μ-loop
 loop-holds c = (omega arith, name-none _ _ (c .before .args .table .now) (c .before .args .i))
 
-byte-at-requires : tie.Need-byte-at-requires Inv-loop μ-loop
-byte-at-requires c κs =
+byte-of-requires : tie.Need-byte-of-requires Inv-loop μ-loop
+byte-of-requires c κs =
     let pre = c .before .before .before .pre in
-    let word-at = c .before .before .word-at in
+    let length-of = c .before .before .length-of in
     let loop = c .before .loop in
-    (pre .1 .low, omega (arith, word-at .ensures, pre .1 .short), pre .1 .plain (loop .k) (omega (arith, word-at .ensures)))
+    (omega (arith, pre .1 .low), omega (arith, length-of .ensures, pre .1 .short), pre .1 .plain (loop .k) (omega (arith, length-of .ensures)))
 
 add-out : tie.Need-add-out Inv-loop μ-loop
-add-out c = omega (arith, c .before .before .before .word-at .ensures, c .before .before .before .before .pre .1 .short)
+add-out c = omega (arith, c .before .before .before .length-of .ensures, c .before .before .before .before .pre .1 .short)
 
 element-write-out : tie.Need-element-write-out Inv-loop μ-loop
-element-write-out c = omega (arith, c .before .before .before .word-at .ensures, c .before .before .before .before .pre .1 .short)
+element-write-out c = omega (arith, c .before .before .before .length-of .ensures, c .before .before .before .before .pre .1 .short)
 
 add-k : tie.Need-add-k Inv-loop μ-loop
-add-k c = omega (arith, c .before .before .before .word-at .ensures, c .before .before .before .before .pre .1 .short)
+add-k c = omega (arith, c .before .before .before .length-of .ensures, c .before .before .before .before .pre .1 .short)
 
 loop-less : tie.Need-loop-less Inv-loop μ-loop
 loop-less c = search needs
@@ -44,18 +44,18 @@ loop-again : tie.Need-loop-again Inv-loop μ-loop
 loop-again c =
     let args = c .before .before .before .before .args in
     let loop = c .before .before .loop in
-    let byte-at = c .byte-at in
-    (omega arith, name-more (args .table .now) (args .i) (loop .k) (byte-at .result) (byte-at .ensures) (loop .inv .1))
+    let byte-of = c .byte-of in
+    (omega arith, name-more (args .table .now) (args .i) (loop .k) (byte-of .result) (byte-of .ensures) (loop .inv .1))
 
 add-result : tie.Need-add-result Inv-loop μ-loop
-add-result c = omega (arith, c .before .before .word-at .ensures, c .before .before .before .pre .1 .short)
+add-result c = omega (arith, c .before .before .length-of .ensures, c .before .before .before .pre .1 .short)
 
 returns : tie.Need-returns Inv-loop μ-loop
 returns c =
     let args = c .before .before .before .args in
-    let word-at = c .before .before .word-at in
+    let length-of = c .before .before .length-of in
     let loop = c .before .loop in
-    name-all (args .table .now) (args .i) (loop .k) (omega (arith, word-at .ensures)) (loop .inv .1)
+    name-all (args .table .now) (args .i) (loop .k) (omega (arith, length-of .ensures)) (loop .inv .1)
 
 pub put-name-spec : {M : Type 1} → statement M
 put-name-spec =
@@ -63,9 +63,9 @@ put-name-spec =
     (tie.spec
     Inv-loop
     μ-loop
-    word-at-requires
+    length-of-requires
     loop-holds
-    byte-at-requires
+    byte-of-requires
     add-out
     element-write-out
     add-k

@@ -4,10 +4,6 @@ use Rattle.reader.proofs.WholeLines.{begins-at}
 use borrow.Author.Needs.{needs}
 use Rattle.reader.proofs.begins.Statement.{statement}
 use Rattle.reader.proofs.begins.Tie as tie
-use Rattle.reader.proofs.begins.Reads as reads
-use Rattle.reader.proofs.begins.Lts as lts
-use Rattle.lexer.proofs.run_end.Reads as run-end-reads
-use Rattle.lexer.proofs.starts.Reads as starts-reads
 
 run-end-requires : tie.Need-run-end-requires
 run-end-requires c κs = search needs

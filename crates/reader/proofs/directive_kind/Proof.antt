@@ -1,13 +1,9 @@
 -- `reader::directive_kind` meets its contract.
-use mathlib.Core.Path.{refl, _∙_, sym}
+use mathlib.Core.Path.{refl, _∙_}
 use Rattle.reader.proofs.Starts.{said, directive-closing, directive-opening}
 use borrow.Author.Needs.{needs}
 use Rattle.reader.proofs.directive_kind.Statement.{statement}
 use Rattle.reader.proofs.directive_kind.Tie as tie
-use Rattle.reader.proofs.directive_kind.Reads as reads
-use Rattle.reader.proofs.directive_kind.Lts as lts
-use Rattle.lexer.proofs.reads.Reads as reads-reads
-use Rattle.lexer.proofs.token.Reads as token-reads
 
 token-requires : tie.Need-token-requires
 token-requires c κs = search needs

@@ -1,13 +1,9 @@
 -- `reader::end_kind` meets its contract.
-use mathlib.Core.Path.{refl, _∙_, sym}
+use mathlib.Core.Path.{refl, _∙_}
 use Rattle.reader.proofs.Starts.{said, end-of-if, end-of-do, end-of-none}
 use borrow.Author.Needs.{needs}
 use Rattle.reader.proofs.end_kind.Statement.{statement}
 use Rattle.reader.proofs.end_kind.Tie as tie
-use Rattle.reader.proofs.end_kind.Reads as reads
-use Rattle.reader.proofs.end_kind.Lts as lts
-use Rattle.lexer.proofs.reads.Reads as reads-reads
-use Rattle.lexer.proofs.token.Reads as token-reads
 
 token-requires : tie.Need-token-requires
 token-requires c κs = search needs

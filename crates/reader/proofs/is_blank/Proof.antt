@@ -3,9 +3,6 @@ use Rattle.reader.proofs.WholeLines.{blank-is}
 use borrow.Author.Needs.{needs}
 use Rattle.reader.proofs.is_blank.Statement.{statement}
 use Rattle.reader.proofs.is_blank.Tie as tie
-use Rattle.reader.proofs.is_blank.Reads as reads
-use Rattle.reader.proofs.is_blank.Lts as lts
-use Rattle.lexer.proofs.run_end.Reads as run-end-reads
 
 run-end-requires : tie.Need-run-end-requires
 run-end-requires c κs = search needs

@@ -1,13 +1,9 @@
 -- `reader::is_next` meets its contract.
-use mathlib.Core.Path.{sym, ap, _∙_}
+use mathlib.Core.Path.{_∙_}
 use Rattle.reader.proofs.Order.{next-one, next-same, next-two, next-none}
 use borrow.Author.Needs.{needs}
 use Rattle.reader.proofs.is_next.Statement.{statement}
 use Rattle.reader.proofs.is_next.Tie as tie
-use Rattle.reader.proofs.is_next.Reads as reads
-use Rattle.reader.proofs.is_next.Lts as lts
-use Rattle.reader.proofs.is_several.Reads as is-several-reads
-use Rattle.reader.proofs.may_be_missing.Reads as may-be-missing-reads
 
 add-if1 : tie.Need-add-if1
 add-if1 c = search needs

@@ -6,12 +6,6 @@ use lib.ListN.{length, drop}
 use Rattle.syntax.specs.Bytes.{all, printable}
 use Rattle.syntax.proofs.TestLaws.{all-on, all-off, all-out}
 use Rattle.reader.proofs.WholeLines.{printable-low, printable-high, printable-mid}
-use Rattle.syntax.specs.Bytes.{all, printable}
-use Rattle.syntax.proofs.TestLaws.{all-on, all-off, all-out}
-use Rattle.reader.proofs.WholeLines.{printable-low, printable-high, printable-mid}
-use Rattle.syntax.specs.Bytes.{all, printable}
-use Rattle.syntax.proofs.TestLaws.{all-on, all-off, all-out}
-use Rattle.reader.proofs.WholeLines.{printable-low, printable-high, printable-mid}
 use Rattle.reader.proofs.is_printable.Statement.{statement}
 use Rattle.reader.proofs.is_printable.Tie as tie
 

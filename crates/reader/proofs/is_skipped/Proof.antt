@@ -5,10 +5,6 @@ use Rattle.reader.proofs.WholeLines.{skipped-by}
 use borrow.Author.Needs.{needs}
 use Rattle.reader.proofs.is_skipped.Statement.{statement}
 use Rattle.reader.proofs.is_skipped.Tie as tie
-use Rattle.reader.proofs.is_skipped.Reads as reads
-use Rattle.reader.proofs.is_skipped.Lts as lts
-use Rattle.reader.proofs.begins.Reads as begins-reads
-use Rattle.reader.proofs.is_blank.Reads as is-blank-reads
 
 is-blank-requires : tie.Need-is-blank-requires
 is-blank-requires c κs = search needs

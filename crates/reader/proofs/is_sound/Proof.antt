@@ -5,10 +5,6 @@ use Rattle.reader.proofs.WholeLines.{sound-by}
 use borrow.Author.Needs.{needs}
 use Rattle.reader.proofs.is_sound.Statement.{statement}
 use Rattle.reader.proofs.is_sound.Tie as tie
-use Rattle.reader.proofs.is_sound.Reads as reads
-use Rattle.reader.proofs.is_sound.Lts as lts
-use Rattle.reader.proofs.begins.Reads as begins-reads
-use Rattle.reader.proofs.is_printable.Reads as is-printable-reads
 
 is-printable-requires : tie.Need-is-printable-requires
 is-printable-requires c κs = search needs

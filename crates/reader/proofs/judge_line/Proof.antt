@@ -1,16 +1,10 @@
 -- `reader::judge_line` meets its contract.
-use mathlib.Core.Path.{_≡_, refl, sym, _∙_, ap}
+use mathlib.Core.Path.{sym, _∙_}
 use native.Mathlib.Omega.{arith}
 use Rattle.reader.proofs.Judging.{bad-bytes, skipped-early, skipped-good, ends-late, ends-open}
 use borrow.Author.Needs.{needs}
 use Rattle.reader.proofs.judge_line.Statement.{statement}
 use Rattle.reader.proofs.judge_line.Tie as tie
-use Rattle.reader.proofs.judge_line.Reads as reads
-use Rattle.reader.proofs.judge_line.Lts as lts
-use Rattle.reader.proofs.broken_line.Reads as broken-line-reads
-use Rattle.reader.proofs.is_skipped.Reads as is-skipped-reads
-use Rattle.reader.proofs.is_sound.Reads as is-sound-reads
-use Rattle.reader.proofs.spoken_line.Reads as spoken-line-reads
 
 is-sound-requires : tie.Need-is-sound-requires
 is-sound-requires c κs = search needs

@@ -1,16 +1,10 @@
 -- `reader::kind_of` meets its contract.
-use mathlib.Core.Path.{refl, _∙_, sym}
+use mathlib.Core.Path.{refl, _∙_}
 use Rattle.reader.proofs.Starts.{said, seen, starts-integer, starts-data, starts-directive, starts-do, starts-if, starts-else, starts-end, starts-endif, starts-enddo, starts-other}
 use Rattle.lexer.proofs.PlaceLaws.{taken-next, taken-within}
 use borrow.Author.Needs.{needs}
 use Rattle.reader.proofs.kind_of.Statement.{statement}
 use Rattle.reader.proofs.kind_of.Tie as tie
-use Rattle.reader.proofs.kind_of.Reads as reads
-use Rattle.reader.proofs.kind_of.Lts as lts
-use Rattle.lexer.proofs.reads.Reads as reads-reads
-use Rattle.lexer.proofs.cursor.take.Reads as take-reads
-use Rattle.reader.proofs.directive_kind.Reads as directive-kind-reads
-use Rattle.reader.proofs.end_kind.Reads as end-kind-reads
 
 take-requires : tie.Need-take-requires
 take-requires c κs = search needs

@@ -1,23 +1,9 @@
 -- `reader::line_by` meets its contract.
-use mathlib.Core.Path.{refl}
 use native.Mathlib.Omega.{arith}
 use Rattle.reader.proofs.Dispatch.{inside-else, inside-end-if, inside-end-do, underway, by-broken, by-integer, by-data, by-opening, by-loop, by-assignment, by-if, by-else, by-end-if, by-end-do, by-closing}
 use borrow.Author.Needs.{needs}
 use Rattle.reader.proofs.line_by.Statement.{statement}
 use Rattle.reader.proofs.line_by.Tie as tie
-use Rattle.reader.proofs.line_by.Reads as reads
-use Rattle.reader.proofs.line_by.Lts as lts
-use Rattle.lines.proofs.assign_line.Reads as assign-line-reads
-use Rattle.lines.proofs.close_line.Reads as close-line-reads
-use Rattle.lines.proofs.data_line.Reads as data-line-reads
-use Rattle.lines.proofs.directive_line.Reads as directive-line-reads
-use Rattle.lines.proofs.else_line.Reads as else-line-reads
-use Rattle.lines.proofs.end_do_line.Reads as end-do-line-reads
-use Rattle.lines.proofs.end_if_line.Reads as end-if-line-reads
-use Rattle.lines.proofs.if_line.Reads as if-line-reads
-use Rattle.lines.proofs.integer_line.Reads as integer-line-reads
-use Rattle.lines.proofs.loop_line.Reads as loop-line-reads
-use Rattle.reader.proofs.broken_line.Reads as broken-line-reads
 
 enum-told : tie.Need-enum-told
 enum-told c = search needs

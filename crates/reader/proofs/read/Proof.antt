@@ -1,16 +1,11 @@
 -- `reader::read` meets its contract.
-use mathlib.Core.Path.{refl, sym, _∙_, ap}
+use mathlib.Core.Path.{refl}
 use native.Mathlib.Omega.{arith}
 use lib.ListN.{replicate}
 use Rattle.reader.proofs.Whole.{over-long, in-lower, lowered-at}
 use borrow.Author.Needs.{needs}
 use Rattle.reader.proofs.read.Statement.{statement}
 use Rattle.reader.proofs.read.Tie as tie
-use Rattle.reader.proofs.read.Reads as reads
-use Rattle.reader.proofs.read.Lts as lts
-use Rattle.lexer.proofs.lowered.Reads as lowered-reads
-use Rattle.reader.proofs.read_lines.Reads as read-lines-reads
-use Rattle.reader.proofs.too_long.Reads as too-long-reads
 
 too-long-requires : tie.Need-too-long-requires
 too-long-requires c κs = search needs

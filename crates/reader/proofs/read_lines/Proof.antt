@@ -9,11 +9,6 @@ use Rattle.reader.proofs.Reaching.{Reached, initial-long, reached-none,
 use Rattle.reader.proofs.TextLines.{end-within, end-after}
 use Rattle.reader.proofs.read_lines.Statement.{statement}
 use Rattle.reader.proofs.read_lines.Tie as tie
-use Rattle.reader.proofs.read_lines.Reads as reads
-use Rattle.reader.proofs.read_lines.Lts as lts
-use Rattle.lexer.proofs.line_end.Reads as line-end-reads
-use Rattle.reader.proofs.judge_line.Reads as judge-line-reads
-use Rattle.reader.proofs.start.Reads as start-reads
 
 abbrev Inv-loop : tie.InvT-loop
 Inv-loop s table₀ initial₀ code₀ n opens₀ at₀ line₀ p₀ table initial code opens at line p = Reached s n table initial code opens at line p

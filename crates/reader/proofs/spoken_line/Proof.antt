@@ -1,5 +1,5 @@
 -- `reader::spoken_line` meets its contract.
-use mathlib.Core.Path.{_≡_, refl, sym, _∙_, ap}
+use mathlib.Core.Path.{sym, _∙_}
 use mathlib.Core.Logic.{inl, inr}
 use native.Mathlib.Omega.{arith}
 use Rattle.syntax.specs.Conditions.{follows}
@@ -7,13 +7,6 @@ use Rattle.reader.proofs.Judging.{stands-not, ends-early, judged-line, 
 use borrow.Author.Needs.{needs}
 use Rattle.reader.proofs.spoken_line.Statement.{statement}
 use Rattle.reader.proofs.spoken_line.Tie as tie
-use Rattle.reader.proofs.spoken_line.Reads as reads
-use Rattle.reader.proofs.spoken_line.Lts as lts
-use Rattle.reader.proofs.broken_line.Reads as broken-line-reads
-use Rattle.reader.proofs.is_next.Reads as is-next-reads
-use Rattle.reader.proofs.kind_of.Reads as kind-of-reads
-use Rattle.reader.proofs.line_by.Reads as line-by-reads
-use Rattle.reader.proofs.stage_of.Reads as stage-of-reads
 
 kind-of-requires : tie.Need-kind-of-requires
 kind-of-requires c κs = search needs

@@ -5,8 +5,6 @@ use Rattle.reader.proofs.Order.{staged}
 use borrow.Author.Needs.{needs}
 use Rattle.reader.proofs.stage_of.Statement.{statement}
 use Rattle.reader.proofs.stage_of.Tie as tie
-use Rattle.reader.proofs.stage_of.Reads as reads
-use Rattle.reader.proofs.stage_of.Lts as lts
 
 enum-told : tie.Need-enum-told
 enum-told c = search needs
