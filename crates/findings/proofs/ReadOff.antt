@@ -17,7 +17,7 @@ use Rattle.rules.specs.Merge.{sum-of}
 use Rattle.shadow.specs.Tables.{Row, shown, Stale-row, Blocked, chosen}
 use Rattle.shadow.proofs.Shows.{merged-off}
 use Rattle.tables.specs.Layout.{class-number, bit, flags-word, class-word, RowHeld}
-use Rattle.tables.proofs.Accesses.{flags-crossed, flags-updated, flags-class}
+use Rattle.tables.proofs.Flags.{flags-crossed, flags-updated, flags-class}
 use Rattle.findings.specs.Findings.{marks-of, contested, stale, mixed, blocked, blocked-of, last-word, gathered, merged}
 
 -- ---- marks

@@ -20,7 +20,8 @@ use Rattle.rules.proofs.TrialRun.{home}
 use Rattle.shadow.proofs.Change.{turn-cons}
 use Rattle.shadow.proofs.Counts.{inside-cons}
 use Rattle.shadow.proofs.Shows.{worker}
-use Rattle.tables.proofs.Logged.{Logged, logged-read, logged-write, logged-update, logged-ready}
+use Rattle.tables.proofs.Logged.{Logged}
+use Rattle.noting.proofs.Logging.{logged-read, logged-write, logged-update, logged-ready}
 use Rattle.stepping.specs.declared.Role.{Role}
 use Rattle.stepping.specs.Access.{Accessible, seen-by, stored-by, added-by, seen, read-words, stored, written-words, added, updated-words}
 use Rattle.trial.specs.Standing.{dealt}
@@ -80,12 +81,12 @@ module _ (l : Loop) (i c : ℕ) (M : List ℤ) (W : List ℕ) (m : ℕ → ℤ) 
 
   pub serves-read : (y : ℤ) → Serially l i M (read-words x i W c) m (access reads i c y ∷ g)
   unfolding singles
-  serves-read y = more reads y M _ m (s .stands .cells) (logged-read l δ (s .stands .suits .plus) (s .stands .suits .nought) g W (s .stands .words) 0 i c mine (s .inside) low y)
+  serves-read y = more reads y M _ m (s .stands .cells) (logged-read l δ (s .stands .suits .plus) g W (s .stands .words) 0 i c mine (s .inside) low y)
 
   -- "a write stores in place"
   pub serves-write : (y : ℤ) → SFits w32 y → Serially l i (stored x M W c y) (written-words x i W c y) (put m c y) (access writes i c y ∷ g)
   unfolding singles stored-by
-  serves-write y f = more writes y (set M c y) _ (put m c y) (ap (λ (n : List ℤ). set n c y) (s .stands .cells) ∙ listed-set (l .size) m c y (s .inside)) (logged-write l δ (s .stands .suits .plus) (s .stands .suits .nought) g W (s .stands .words) 0 i c mine (s .inside) low y f)
+  serves-write y f = more writes y (set M c y) _ (put m c y) (ap (λ (n : List ℤ). set n c y) (s .stands .cells) ∙ listed-set (l .size) m c y (s .inside)) (logged-write l δ (s .stands .suits .plus) g W (s .stands .words) 0 i c mine (s .inside) low y f)
 
   -- "an update adds its remainder to the cell"
   pub serves-update : (y : ℤ) → Serially l i (added x M c y) (updated-words x i W c y) (put m c (l .plus (m c) y)) (access updates i c y ∷ g)
@@ -94,7 +95,7 @@ module _ (l : Loop) (i c : ℕ) (M : List ℤ) (W : List ℕ) (m : ℕ → ℤ) 
       let e : sum (cellOf M c) y ≡ l .plus (m c) y = ap (λ (n : ℤ). sum n y) stands-as ∙ sym (ap (λ (f : ℤ → ℤ → ℤ). f (m c) y) (s .stands .suits .plus)) in
       more updates y (set M c (sum (cellOf M c) y)) _ (put m c (l .plus (m c) y))
       (ap (λ (n : ℤ). set M c n) e ∙ ap (λ (n : List ℤ). set n c (l .plus (m c) y)) (s .stands .cells) ∙ listed-set (l .size) m c (l .plus (m c) y) (s .inside))
-      (logged-update l δ (s .stands .suits .plus) (s .stands .suits .nought) g W (s .stands .words) 0 i c mine (s .inside) low y)
+      (logged-update l δ (s .stands .suits .plus) g W (s .stands .words) 0 i c mine (s .inside) low y)
 
 -- the next iteration
 pub serially-next : (l : Loop) (i j : ℕ) (M : List ℤ) (W : List ℕ) (m : ℕ → ℤ) (g : Log) → i ≤ j → Serially l i M W m g → Serially l j M W m g

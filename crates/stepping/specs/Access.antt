@@ -9,7 +9,7 @@ use Rattle.rules.specs.Choose.{pick}
 use Rattle.rules.specs.Cells.{cellOf}
 use Rattle.rules.specs.Blocks.{single}
 use Rattle.tables.specs.Layout.{row-at, own-at, class-word}
-use Rattle.tables.specs.Changes.{Ready, read-noted, counted, written, updated, own-seen}
+use Rattle.noting.specs.Changes.{Ready, read-noted, counted, written, updated, own-seen}
 use Rattle.stepping.specs.declared.Manner.{Manner}
 use Rattle.stepping.specs.declared.Manner.the-variants.{ByClass, InPlace}
 use Rattle.stepping.specs.declared.Role.{Role}

@@ -27,7 +27,7 @@ fn seen(
             if tables::class_of(w, row) == tables::SHARED {
                 return cells[cell];
             }
-            tables::own_value(w, row, own, group)
+            noting::own_value(w, row, own, group)
         }
     }
 }
@@ -43,7 +43,7 @@ pub fn read_cell(role: Role, i: Iteration, cells: &[i32], w: &mut [u32], cell: u
     let row = tables::row_of(cell, role.processors);
     let own = tables::own_of(row, p);
     let x = seen(manner, cells, w, cell, row, own, group);
-    tables::note_read(w, row, own, group);
+    noting::note_read(w, row, own, group);
     x
 }
 
@@ -83,7 +83,7 @@ pub fn write_cell(
     let own = tables::own_of(row, p);
     let class = tables::class_of(w, row);
     store(manner, cells, class, cell, value);
-    tables::note_write(w, row, own, group, i, value);
+    noting::note_write(w, row, own, group, i, value);
 }
 
 // A value is added to a cell in place. By its class the sum gathers in the tables alone.
@@ -116,5 +116,5 @@ pub fn update_cell(
     let row = tables::row_of(cell, role.processors);
     let own = tables::own_of(row, p);
     add(manner, cells, cell, value);
-    tables::note_update(w, row, own, i, value);
+    noting::note_update(w, row, own, i, value);
 }

@@ -15,7 +15,7 @@ use Rattle.int32.proofs.Laws.{value-word}
 use Rattle.rules.specs.Loop.{Class}
 use Rattle.shadow.specs.Tables.{Row, blank, tables}
 use Rattle.tables.specs.Layout.{row-at, own-at, class-number, flags-of, OwnHeld, RowHeld, Holds}
-use Rattle.tables.specs.Changes.{entered}
+use Rattle.tables.specs.Entered.{entered}
 use Rattle.tables.proofs.Words.{entered-length, entered-value, entered-met, entered-writers, entered-flags, entered-other}
 use Rattle.tables.proofs.Held.{rows-apart, row-kept}
 

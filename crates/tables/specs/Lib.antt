@@ -1,3 +1,3 @@
--- Where the words of the tables stand, and what the functions do to them.
+-- Where the words of the tables stand, and what a row begins with.
 pub mod Layout
-pub mod Changes
+pub mod Entered

@@ -19,8 +19,9 @@ use Rattle.rules.specs.Steps.{State, latest, given}
 use Rattle.rules.proofs.TrialRun.{Home, home}
 use Rattle.shadow.proofs.Shows.{worker, table, Shows, tables-right}
 use Rattle.tables.specs.Layout.{row-at, own-at, class-number}
-use Rattle.tables.specs.Changes.{own-seen}
-use Rattle.tables.proofs.Logged.{Logged, logged-read, logged-write, logged-update, logged-ready, logged-class, logged-own}
+use Rattle.noting.specs.Changes.{own-seen}
+use Rattle.tables.proofs.Logged.{Logged, logged-class}
+use Rattle.noting.proofs.Logging.{logged-read, logged-write, logged-update, logged-ready, logged-own}
 use Rattle.stepping.specs.declared.Manner.the-variants.{ByClass}
 use Rattle.stepping.specs.declared.Role.{Role}
 use Rattle.stepping.specs.Access.{Accessible, seen-by, stored-by, seen, read-words, stored, written-words, updated-words}
@@ -114,12 +115,12 @@ module _ (k : ℕ) (l : Loop) (M : List ℤ) (W : List ℕ) (s : State) (p i c :
   -- what is noted
   pub access-reads : (v : ℤ) → Logged l δ (access reads i c v ∷ s .log) (read-words x i W c)
   unfolding singles
-  access-reads v = logged-read l δ (a .standing .suits .plus) (a .standing .suits .nought) (s .log) W (a .standing .words) p i c (here .owned) (a .inside) owner-low v
+  access-reads v = logged-read l δ (a .standing .suits .plus) (s .log) W (a .standing .words) p i c (here .owned) (a .inside) owner-low v
 
   pub access-writes : (v : ℤ) → SFits w32 v → Logged l δ (access writes i c v ∷ s .log) (written-words x i W c v)
   unfolding singles
-  access-writes v f = logged-write l δ (a .standing .suits .plus) (a .standing .suits .nought) (s .log) W (a .standing .words) p i c (here .owned) (a .inside) owner-low v f
+  access-writes v f = logged-write l δ (a .standing .suits .plus) (s .log) W (a .standing .words) p i c (here .owned) (a .inside) owner-low v f
 
   pub access-updates : (v : ℤ) → Logged l δ (access updates i c v ∷ s .log) (updated-words x i W c v)
   unfolding singles
-  access-updates v = logged-update l δ (a .standing .suits .plus) (a .standing .suits .nought) (s .log) W (a .standing .words) p i c (here .owned) (a .inside) owner-low v
+  access-updates v = logged-update l δ (a .standing .suits .plus) (s .log) W (a .standing .words) p i c (here .owned) (a .inside) owner-low v

@@ -17,7 +17,7 @@ use Rattle.rules.specs.Blocks.{blockStart, singles}
 use Rattle.rules.specs.Steps.{start}
 use Rattle.shadow.proofs.Orderly.{start-orderly}
 use Rattle.tables.specs.Layout.{row-at, class-number}
-use Rattle.tables.specs.Changes.{entered}
+use Rattle.tables.specs.Entered.{entered}
 use Rattle.tables.proofs.Held.{rows-apart}
 use Rattle.tables.proofs.Start.{Begun, begun-clear, begun-more}
 use Rattle.tables.proofs.Logged.{Logged, logged-nil}

@@ -4,7 +4,7 @@ use native.Mathlib.Omega.{arith}
 use borrow.Author.Needs.{needs}
 use lib.ListN.{length-set}
 use Rattle.int32.proofs.Laws.{seen}
-use Rattle.tables.specs.Changes.{entered}
+use Rattle.tables.specs.Entered.{entered}
 use Rattle.tables.proofs.set_entry.Statement.{statement}
 use Rattle.tables.proofs.set_entry.Tie as tie
 

@@ -1,12 +1,12 @@
--- `tables::mark_own` meets its contract.
+-- `noting::mark_own` meets its contract.
 use mathlib.Core.Path.{_∙_}
 use native.Mathlib.Omega.{arith}
 use lib.ListN.{length-set}
 use Rattle.int32.proofs.Laws.{seen}
-use Rattle.tables.specs.Changes.{own-written}
+use Rattle.noting.specs.Changes.{own-written}
 use borrow.Author.Needs.{needs}
-use Rattle.tables.proofs.mark_own.Statement.{statement}
-use Rattle.tables.proofs.mark_own.Tie as tie
+use Rattle.noting.proofs.mark_own.Statement.{statement}
+use Rattle.noting.proofs.mark_own.Tie as tie
 
 group-stamp-requires : tie.Need-group-stamp-requires
 group-stamp-requires c κs = search needs

@@ -1,11 +1,11 @@
--- `tables::mark_row` meets its contract.
+-- `noting::mark_row` meets its contract.
 use mathlib.Core.Path.{_∙_}
 use native.Mathlib.Omega.{arith}
 use borrow.Author.Needs.{needs}
 use lib.ListN.{length-set}
-use Rattle.tables.specs.Changes.{row-written}
-use Rattle.tables.proofs.mark_row.Statement.{statement}
-use Rattle.tables.proofs.mark_row.Tie as tie
+use Rattle.noting.specs.Changes.{row-written}
+use Rattle.noting.proofs.mark_row.Statement.{statement}
+use Rattle.noting.proofs.mark_row.Tie as tie
 
 group-stamp-requires : tie.Need-group-stamp-requires
 group-stamp-requires c κs = search needs

@@ -1,9 +1,9 @@
--- `tables::met_by` meets its contract.
+-- `noting::met_by` meets its contract.
 use mathlib.Core.Path.{_∙_, ap}
 use borrow.Author.Needs.{needs}
 use Rattle.rules.specs.Choose.{pick}
-use Rattle.tables.proofs.met_by.Statement.{statement}
-use Rattle.tables.proofs.met_by.Tie as tie
+use Rattle.noting.proofs.met_by.Statement.{statement}
+use Rattle.noting.proofs.met_by.Tie as tie
 
 add-choose : tie.Need-add-choose
 add-choose c = search needs

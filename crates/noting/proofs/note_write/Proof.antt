@@ -1,13 +1,13 @@
--- `tables::note_write` meets its contract.
+-- `noting::note_write` meets its contract.
 use mathlib.Core.Path.{_≡_}
 use native.Mathlib.Omega.{arith}
 use borrow.Author.Needs.{needs}
 use mir.Syntax.{w32}
 use mir.Val.{toZ, ofZ}
-use Rattle.tables.specs.Changes.{written}
-use Rattle.tables.proofs.Words.{counted-ready}
-use Rattle.tables.proofs.note_write.Statement.{statement}
-use Rattle.tables.proofs.note_write.Tie as tie
+use Rattle.noting.specs.Changes.{written}
+use Rattle.noting.proofs.Words.{counted-ready}
+use Rattle.noting.proofs.note_write.Statement.{statement}
+use Rattle.noting.proofs.note_write.Tie as tie
 
 count-requires : tie.Need-count-requires
 count-requires c κs = search needs

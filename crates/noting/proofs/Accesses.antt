@@ -1,6 +1,6 @@
 -- After a function has noted an access, the words stand for the tables that `note` gives.
-use mathlib.Core.Path.{_≡_, refl, sym, _∙_, ap}
-use mathlib.Core.Bool.{Bool, true, false, cond}
+use mathlib.Core.Path.{_≡_, sym, _∙_, ap}
+use mathlib.Core.Bool.{Bool, true, cond}
 use mathlib.Core.List.{List}
 use Prim.Native.Nat.{ℕ, suc, _+_, _*_, _/_, _%_, _≤_, _<_}
 use native.Mathlib.Numerals.{add-one}
@@ -17,36 +17,15 @@ use Rattle.rules.specs.ChooseLaws.{pick-same, pick-other}
 use Rattle.rules.specs.Loop.{Class}
 use Rattle.rules.specs.Log.{reads, writes, updates, access}
 use Rattle.shadow.specs.Tables.{Own, Tables, note}
 use Rattle.tables.specs.Layout.{row-at, own-at, class-number, bit, flags-of, RowHeld, Holds}
-use Rattle.tables.specs.Changes.{Placed, one-more, read-noted, counted, written, updated}
-use Rattle.tables.proofs.Words.{read-length, read-met, read-exposed, read-other, counted-length, counted-other, counted-pairs, counted-cells, counted-touched, counted-placed, written-length, written-met, written-writers, written-flags, written-value, written-wrote, written-other, updated-length, updated-flags, updated-sum, updated-other}
+use Rattle.noting.specs.Changes.{Placed, one-more, read-noted, counted, written, updated}
+use Rattle.noting.proofs.Words.{read-length, read-met, read-exposed, read-other, counted-length, counted-other, counted-pairs, counted-cells, counted-touched, counted-placed, written-length, written-met, written-writers, written-flags, written-value, written-wrote, written-other, updated-length, updated-flags, updated-sum, updated-other}
+use Rattle.tables.proofs.Flags.{bit-most, flags-updated, pick-bit}
 use Rattle.tables.proofs.Held.{rows-apart, outside-other, row-changed, holds-changed}
 
 -- ---- flags
 
-pub bit-most : (b : Bool) → bit b ≤ 1
-bit-most true = omega arith
-bit-most false = omega arith
-
 module _ (k : Class) (cr up : Bool) where
-  pub flags-crossed : flags-of k cr up % 2 ≡ bit cr
-  flags-crossed = low (class-number k) (bit up) (bit cr) (bit-most cr)
-    where
-      low : (a b c : ℕ) → c ≤ 1 → (4 * a + 2 * b + c) % 2 ≡ c
-      low a b c h = omega arith
-
-  pub flags-updated : flags-of k cr up / 2 % 2 ≡ bit up
-  flags-updated = middle (class-number k) (bit up) (bit cr) (bit-most up) (bit-most cr)
-    where
-      middle : (a b c : ℕ) → b ≤ 1 → c ≤ 1 → (4 * a + 2 * b + c) / 2 % 2 ≡ b
-      middle a b c g h = omega arith
-
-  pub flags-class : flags-of k cr up / 4 ≡ class-number k
-  flags-class = high (class-number k) (bit up) (bit cr) (bit-most up) (bit-most cr)
-    where
-      high : (a b c : ℕ) → b ≤ 1 → c ≤ 1 → (4 * a + 2 * b + c) / 4 ≡ a
-      high a b c g h = omega arith
-
   -- with either mark
   cross-flags : flags-of k cr up / 2 * 2 + 1 ≡ flags-of k true up
   cross-flags = up-one (class-number k) (bit up) (bit cr) (bit-most cr)
@@ -66,11 +45,6 @@ module _ (k : Class) (cr up : Bool) where
     | yes y ↦ pick-same y _ _ ∙ cross-flags ∙ ap (λ (b : Bool). flags-of k b up) (sym (pick-same y true cr))
     | no y ↦ pick-other y _ _ ∙ ap (λ (b : Bool). flags-of k b up) (sym (pick-other y true cr))
   ]
-
--- a choice by a mark's bit
-pub pick-bit : {A : Type 0} (b : Bool) (x y : A) → pick (bit b) 1 x y ≡ cond b x y
-pick-bit true x y = pick-same refl x y
-pick-bit false x y = pick-other (omega arith) x y
 
 -- ---- counts
 

@@ -1,13 +1,13 @@
--- `tables::mark_updated` meets its contract.
+-- `noting::mark_updated` meets its contract.
 use mathlib.Core.Path.{_≡_}
 use native.Mathlib.Omega.{arith}
 use borrow.Author.Needs.{needs}
 use mir.Syntax.{w32}
 use mir.Val.{toZ, ofZ}
 use lib.ListN.{length-set}
-use Rattle.tables.specs.Changes.{updated}
-use Rattle.tables.proofs.mark_updated.Statement.{statement}
-use Rattle.tables.proofs.mark_updated.Tie as tie
+use Rattle.noting.specs.Changes.{updated}
+use Rattle.noting.proofs.mark_updated.Statement.{statement}
+use Rattle.noting.proofs.mark_updated.Tie as tie
 
 add-flags : tie.Need-add-flags
 add-flags c = omega arith

@@ -1,10 +1,10 @@
--- `tables::count` meets its contract.
+-- `noting::count` meets its contract.
 use native.Mathlib.Omega.{arith}
 use borrow.Author.Needs.{needs}
 use lib.ListN.{length-set}
-use Rattle.tables.specs.Changes.{counted}
-use Rattle.tables.proofs.count.Statement.{statement}
-use Rattle.tables.proofs.count.Tie as tie
+use Rattle.noting.specs.Changes.{counted}
+use Rattle.noting.proofs.count.Statement.{statement}
+use Rattle.noting.proofs.count.Tie as tie
 
 iteration-stamp-requires : tie.Need-iteration-stamp-requires
 iteration-stamp-requires c κs = search needs

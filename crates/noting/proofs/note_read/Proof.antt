@@ -1,10 +1,10 @@
--- `tables::note_read` meets its contract.
+-- `noting::note_read` meets its contract.
 use native.Mathlib.Omega.{arith}
 use borrow.Author.Needs.{needs}
 use lib.ListN.{length-set}
-use Rattle.tables.specs.Changes.{read-noted}
-use Rattle.tables.proofs.note_read.Statement.{statement}
-use Rattle.tables.proofs.note_read.Tie as tie
+use Rattle.noting.specs.Changes.{read-noted}
+use Rattle.noting.proofs.note_read.Statement.{statement}
+use Rattle.noting.proofs.note_read.Tie as tie
 
 group-stamp-requires : tie.Need-group-stamp-requires
 group-stamp-requires c κs = search needs

@@ -77,9 +77,3 @@ updated W row own v =
 -- what group g reads that has the cell for itself
 abbrev pub own-seen : List ℕ → ℕ → ℕ → ℕ → ℤ
 own-seen W row own g = value (pick (wrote-word W own) (g + 1) (private-word W own) (entry-word W row))
-
--- ---- the start
-
--- the entry value and the class of a row
-unfoldable pub entered : List ℕ → ℕ → ℤ → ℕ → List ℕ
-entered W row v k = set (set (set (set W row (word v)) (met-at row) 0) (writers-at row) 0) (flags-at row) (4 * k)

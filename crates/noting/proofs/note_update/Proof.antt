@@ -1,11 +1,11 @@
--- `tables::note_update` meets its contract.
+-- `noting::note_update` meets its contract.
 use mathlib.Core.Path.{_≡_}
 use borrow.Author.Needs.{needs}
 use mir.Syntax.{w32}
 use mir.Val.{toZ, ofZ}
-use Rattle.tables.proofs.Words.{counted-placed}
-use Rattle.tables.proofs.note_update.Statement.{statement}
-use Rattle.tables.proofs.note_update.Tie as tie
+use Rattle.noting.proofs.Words.{counted-placed}
+use Rattle.noting.proofs.note_update.Statement.{statement}
+use Rattle.noting.proofs.note_update.Tie as tie
 
 count-requires : tie.Need-count-requires
 count-requires c κs = search needs

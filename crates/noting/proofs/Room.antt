@@ -7,9 +7,9 @@ use lib.IntN.{ℤ}
 use Rattle.rules.specs.Loop.{Class, Loop, Partition}
 use Rattle.shadow.specs.Tables.{Tables}
 use Rattle.shadow.proofs.Bounds.{Bounded}
 use Rattle.tables.specs.Layout.{row-at, own-at, Holds}
-use Rattle.tables.specs.Changes.{Ready}
+use Rattle.noting.specs.Changes.{Ready}
 use Rattle.tables.proofs.Held.{rows-apart}
 
 -- "N to 4,096; P 1 to 8; n to 65,535"
 pub ready : (l : Loop) (δ : Partition) (p : ℕ) (class : ℕ → Class) (entry : ℕ → ℤ) (W : List ℕ) (t : Tables) → Holds (l .size) p class entry W t → Bounded l δ t → l .size ≤ 4096 → l .iterations ≤ 65535 → δ .groups ≤ 65535

@@ -1,11 +1,11 @@
--- `tables::own_value` meets its contract.
+-- `noting::own_value` meets its contract.
 use mathlib.Core.Path.{_≡_}
 use native.Mathlib.Omega.{arith}
 use borrow.Author.Needs.{needs}
 use mir.Syntax.{w32}
 use mir.Val.{toZ, ofZ}
-use Rattle.tables.proofs.own_value.Statement.{statement}
-use Rattle.tables.proofs.own_value.Tie as tie
+use Rattle.noting.proofs.own_value.Statement.{statement}
+use Rattle.noting.proofs.own_value.Tie as tie
 
 add-choose : tie.Need-add-choose
 add-choose c = omega arith

@@ -1,0 +1,157 @@
+-- The words after each function, one by one.
+use mathlib.Core.Path.{_≡_, _∙_}
+use mathlib.Core.List.{List}
+use Prim.Native.Nat.{ℕ, _+_, _*_, _/_, _%_, _<_}
+use native.Mathlib.Omega.{arith}
+use lib.IntN.{ℤ}
+use lib.ListN.{length, getD, set, length-set}
+use Rattle.int32.specs.Integers.{word, value, sum}
+use Rattle.rules.specs.Choose.{pick}
+use Rattle.tables.proofs.Words.{hit, unset}
+use Rattle.noting.specs.Changes.{Placed, Ready, one-more, read-noted, counted, row-written, own-written, written, updated}
+
+-- ---- a read
+
+module _ (W : List ℕ) (row own g : ℕ) (p : Placed W row own) where
+  abbrev met-set : List ℕ
+  met-set = set W (row + 1) (one-more (getD W (own + 1) 0) (getD W (own + 2) 0) (g + 1) (getD W (row + 1) 0))
+
+  pub read-length : length (read-noted W row own g) ≡ length W
+  unfolding read-noted
+  read-length = simp length-set
+
+  pub read-met : getD (read-noted W row own g) (row + 1) 0 ≡ one-more (getD W (own + 1) 0) (getD W (own + 2) 0) (g + 1) (getD W (row + 1) 0)
+  unfolding read-noted
+  read-met = unset met-set (own + 2) (row + 1) _ (omega (arith, p .apart)) ∙ hit W (row + 1) _ (omega (arith, p .apart, p .inside))
+
+  pub read-exposed : getD (read-noted W row own g) (own + 2) 0 ≡ pick (getD W (own + 1) 0) (g + 1) (getD W (own + 2) 0) (g + 1)
+  unfolding read-noted
+  read-exposed = hit met-set (own + 2) _ (simp length-set (omega (arith, p .inside)))
+
+  pub read-other : (k : ℕ) → (k ≡ row + 1 → ⊥) → (k ≡ own + 2 → ⊥) → getD (read-noted W row own g) k 0 ≡ getD W k 0
+  unfolding read-noted
+  read-other k m n = unset met-set (own + 2) k _ n ∙ unset W (row + 1) k _ m
+
+-- ---- the counts of a write or an update
+
+module _ (W : List ℕ) (row own i : ℕ) where
+  abbrev pairs-set : List ℕ
+  pairs-set = set W 0 (pick (getD W (own + 4) 0) (i + 1) (getD W 0 0) (getD W 0 0 + 1))
+
+  abbrev cells-set : List ℕ
+  cells-set = set pairs-set 1 (pick (getD W (row + 3) 0 / 2 % 2) 1 (getD W 1 0) (pick (getD W (row + 2) 0) 0 (getD W 1 0 + 1) (getD W 1 0)))
+
+  pub counted-length : length (counted W row own i) ≡ length W
+  unfolding counted
+  counted-length = simp length-set
+
+  pub counted-other : (k : ℕ) → 1 < k → (k ≡ own + 4 → ⊥) → getD (counted W row own i) k 0 ≡ getD W k 0
+  unfolding counted
+  counted-other k h n = unset cells-set (own + 4) k _ n ∙ unset pairs-set 1 k _ (omega arith) ∙ unset W 0 k _ (omega arith)
+
+  module _ (p : Placed W row own) where
+    pub counted-pairs : getD (counted W row own i) 0 0 ≡ pick (getD W (own + 4) 0) (i + 1) (getD W 0 0) (getD W 0 0 + 1)
+    unfolding counted
+    counted-pairs = unset cells-set (own + 4) 0 _ (omega arith) ∙ unset pairs-set 1 0 _ (omega arith) ∙ hit W 0 _ (omega (arith, p .inside))
+
+    pub counted-cells : getD (counted W row own i) 1 0 ≡ pick (getD W (row + 3) 0 / 2 % 2) 1 (getD W 1 0) (pick (getD W (row + 2) 0) 0 (getD W 1 0 + 1) (getD W 1 0))
+    unfolding counted
+    counted-cells = unset cells-set (own + 4) 1 _ (omega arith) ∙ hit pairs-set 1 _ (simp length-set (omega (arith, p .inside)))
+
+    pub counted-touched : getD (counted W row own i) (own + 4) 0 ≡ i + 1
+    unfolding counted
+    counted-touched = hit cells-set (own + 4) _ (simp length-set (omega (arith, p .inside)))
+
+    pub counted-placed : Placed (counted W row own i) row own
+    counted-placed = record { first = p .first; apart = p .apart; inside = omega (arith, p .inside, counted-length) }
+
+  -- then the cell's own words can be marked
+  pub counted-ready : (g : ℕ) → Ready W row own → g < 4294967295
+      → (Placed (counted W row own i) row own) × (getD (counted W row own i) (row + 1) 0 < 4294967295) × (getD (counted W row own i) (row + 2) 0 < 4294967295) × (g < 4294967295)
+  counted-ready g r h =
+      let p = r .placed in
+      let a = p .first in
+      let b = p .apart in
+      let m : getD (counted W row own i) (row + 1) 0 ≡ getD W (row + 1) 0 = counted-other (row + 1) (omega arith) (omega arith) in
+      let w : getD (counted W row own i) (row + 2) 0 ≡ getD W (row + 2) 0 = counted-other (row + 2) (omega arith) (omega arith) in
+      (counted-placed p, omega (arith, m, r .met), omega (arith, w, r .writers), h)
+
+-- ---- a write
+
+module _ (W : List ℕ) (row own g : ℕ) (v : ℤ) (p : Placed W row own) where
+  abbrev write1 : List ℕ
+  write1 = set W (row + 1) (one-more (getD W (own + 1) 0) (getD W (own + 2) 0) (g + 1) (getD W (row + 1) 0))
+
+  abbrev write2 : List ℕ
+  write2 = set write1 (row + 2) (pick (getD W (own + 1) 0) (g + 1) (getD W (row + 2) 0) (getD W (row + 2) 0 + 1))
+
+  abbrev write3 : List ℕ
+  write3 = set write2 (row + 3) (pick (getD W (own + 2) 0) (g + 1) (getD W (row + 3) 0 / 2 * 2 + 1) (getD W (row + 3) 0))
+
+  abbrev write4 : List ℕ
+  write4 = set write3 own (word v)
+
+  pub written-length : length (written W row own g v) ≡ length W
+  unfolding written row-written own-written
+  written-length = simp length-set
+
+  pub written-met : getD (written W row own g v) (row + 1) 0 ≡ one-more (getD W (own + 1) 0) (getD W (own + 2) 0) (g + 1) (getD W (row + 1) 0)
+  unfolding written row-written own-written
+  written-met =
+      let a = p .apart in
+      unset write4 (own + 1) (row + 1) _ (omega arith)
+      ∙ unset write3 own (row + 1) _ (omega arith)
+      ∙ unset write2 (row + 3) (row + 1) _ (omega arith)
+      ∙ unset write1 (row + 2) (row + 1) _ (omega arith)
+      ∙ hit W (row + 1) _ (omega (arith, p .inside))
+
+  pub written-writers : getD (written W row own g v) (row + 2) 0 ≡ pick (getD W (own + 1) 0) (g + 1) (getD W (row + 2) 0) (getD W (row + 2) 0 + 1)
+  unfolding written row-written own-written
+  written-writers =
+      let a = p .apart in
+      unset write4 (own + 1) (row + 2) _ (omega arith)
+      ∙ unset write3 own (row + 2) _ (omega arith)
+      ∙ unset write2 (row + 3) (row + 2) _ (omega arith)
+      ∙ hit write1 (row + 2) _ (simp length-set (omega (arith, p .inside)))
+
+  pub written-flags : getD (written W row own g v) (row + 3) 0 ≡ pick (getD W (own + 2) 0) (g + 1) (getD W (row + 3) 0 / 2 * 2 + 1) (getD W (row + 3) 0)
+  unfolding written row-written own-written
+  written-flags =
+      let a = p .apart in
+      unset write4 (own + 1) (row + 3) _ (omega arith)
+      ∙ unset write3 own (row + 3) _ (omega arith)
+      ∙ hit write2 (row + 3) _ (simp length-set (omega (arith, p .inside)))
+
+  pub written-value : getD (written W row own g v) own 0 ≡ word v
+  unfolding written row-written own-written
+  written-value = unset write4 (own + 1) own _ (omega arith) ∙ hit write3 own _ (simp length-set (omega (arith, p .inside)))
+
+  pub written-wrote : getD (written W row own g v) (own + 1) 0 ≡ g + 1
+  unfolding written row-written own-written
+  written-wrote = hit write4 (own + 1) _ (simp length-set (omega (arith, p .inside)))
+
+  pub written-other : (k : ℕ) → (k ≡ row + 1 → ⊥) → (k ≡ row + 2 → ⊥) → (k ≡ row + 3 → ⊥) → (k ≡ own → ⊥) → (k ≡ own + 1 → ⊥) → getD (written W row own g v) k 0 ≡ getD W k 0
+  unfolding written row-written own-written
+  written-other k a b c d e = unset write4 (own + 1) k _ e ∙ unset write3 own k _ d ∙ unset write2 (row + 3) k _ c ∙ unset write1 (row + 2) k _ b ∙ unset W (row + 1) k _ a
+
+-- ---- an update
+
+module _ (W : List ℕ) (row own : ℕ) (v : ℤ) (p : Placed W row own) where
+  abbrev flags-set : List ℕ
+  flags-set = set W (row + 3) (getD W (row + 3) 0 / 4 * 4 + 2 + getD W (row + 3) 0 % 2)
+
+  pub updated-length : length (updated W row own v) ≡ length W
+  unfolding updated
+  updated-length = simp length-set
+
+  pub updated-flags : getD (updated W row own v) (row + 3) 0 ≡ getD W (row + 3) 0 / 4 * 4 + 2 + getD W (row + 3) 0 % 2
+  unfolding updated
+  updated-flags = unset flags-set (own + 3) (row + 3) _ (omega (arith, p .apart)) ∙ hit W (row + 3) _ (omega (arith, p .apart, p .inside))
+
+  pub updated-sum : getD (updated W row own v) (own + 3) 0 ≡ word (sum v (value (getD W (own + 3) 0)))
+  unfolding updated
+  updated-sum = hit flags-set (own + 3) _ (simp length-set (omega (arith, p .inside)))
+
+  pub updated-other : (k : ℕ) → (k ≡ row + 3 → ⊥) → (k ≡ own + 3 → ⊥) → getD (updated W row own v) k 0 ≡ getD W k 0
+  unfolding updated
+  updated-other k a b = unset flags-set (own + 3) k _ b ∙ unset W (row + 3) k _ a

@@ -1,0 +1,2 @@
+-- What the functions do to the words.
+pub mod Changes
