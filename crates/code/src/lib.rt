@@ -38,5 +38,11 @@ pub const JUMP: u32 = 16;
 
 pub const LINE: u32 = 32;
 
+// The second word of an element: its array's first cell, and ELEMENT times how many cells that has.
+pub const ELEMENT: u32 = 4096;
+
+// The second word of a jump: a relation, and DISTANCE times how many instructions it goes over.
+pub const DISTANCE: u32 = 8;
+
 // The words that hold the code of any text.
 pub const WORDS: usize = 8194;

@@ -1,3 +1,2 @@
--- The instruction of two words, and subscripts.
+-- The instruction of two words.
 mod Decoding
-mod Subscripts

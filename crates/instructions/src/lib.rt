@@ -1,153 +1,17 @@
-// The instructions that access cells or jump, one function for each, and the instruction of two words (crates/code).
+// The instructions that jump, and the instruction of two words (crates/code).
 ghost use mathlib.Core.Path.{_≡_};
 ghost use mathlib.Core.List.{List};
-ghost use Prim.Native.Nat.{ℕ, _^_, _/_, _%_, _≤_, _<_};
+ghost use Prim.Native.Nat.{_^_, _/_, _%_, _≤_, _<_};
 ghost use lib.ListN.{length};
 ghost use lib.IntN.{ℤ};
-ghost use Rattle.rules.specs.Loop.{Act};
-ghost use Rattle.syntax.specs.Meaning.{located};
 ghost use Rattle.code.specs.Instr.{Instr, decode, relation-of};
 ghost use Rattle.operands.specs.Pending.{Holding};
 ghost use Rattle.operands.specs.Performing.{does, Performs};
-ghost use Rattle.instructions.specs.Cells.{at-cell};
 use int32::Relation;
 use operands::Move;
 use operands::Performed;
-use operands::fault;
 use operands::go_on;
 use operands::stop;
-
-// The cell of a subscript, if it is inside its array.
-pub enum Located {
-    Cell(usize),
-    Outside,
-}
-
-// ---- accesses
-
-// The cell of subscript i in an array of so many cells from `first` on.
-pub fn locate(first: u32, size: u32, i: i32) -> Located
-    ensures { λ r. ⌜ ((line : ℕ) (k : ℕ → Act) → located line first size i k ≡ at-cell r line k) ⌝ }
-{
-    if i < 1 {
-        return Located::Outside;
-    }
-    let k = i as u32 - 1;
-    if size <= k {
-        return Located::Outside;
-    }
-    Located::Cell(first as usize + k as usize)
-}
-
-// The value of a cell.
-pub fn load(place: usize, depth: usize, cell: u32) -> Performed
-    requires { ⌜ depth ≤ 32 ⌝ }
-    ensures { λ r. ⌜ ((a : List ℤ) (v : ℤ) → length a ≡ 32 → Performs (does (Instr.load cell) place depth a v) place a r) ⌝ }
-{
-    if 32 <= depth {
-        return stop(place, depth, Move::End);
-    }
-    let c = cell as usize;
-    stop(place, depth, Move::Read { cell: c })
-}
-
-// The value of an element; the subscript is pending.
-pub fn load_at(place: usize, depth: usize, pending: &[i32; 32], arg: u32, line: u32) -> Performed
-    requires { ⌜ Holding (now pending) depth ⌝ }
-    ensures { λ r. ⌜ ((v : ℤ) → Performs (does (Instr.load-at (arg % 4096) (arg / 4096) line) place depth (now (pending .entry)) v) place (now (pending .entry)) r) ⌝ }
-{
-    if depth < 1 {
-        return stop(place, depth, Move::End);
-    }
-    let d = depth - 1;
-    let i = pending[d];
-    let found = locate(arg % 4096, arg / 4096, i);
-    match found {
-        Located::Cell(c) => stop(place, d, Move::Read { cell: c }),
-        Located::Outside => fault(place, d, 9, line),
-    }
-}
-
-// A value is written to a cell.
-pub fn store(place: usize, depth: usize, pending: &[i32; 32], cell: u32) -> Performed
-    requires { ⌜ Holding (now pending) depth ⌝ }
-    ensures { λ r. ⌜ ((v : ℤ) → Performs (does (Instr.store cell) place depth (now (pending .entry)) v) place (now (pending .entry)) r) ⌝ }
-{
-    if depth < 1 {
-        return stop(place, depth, Move::End);
-    }
-    let d = depth - 1;
-    let c = cell as usize;
-    let x = pending[d];
-    stop(place, d, Move::Write { cell: c, value: x })
-}
-
-// A value is added to a cell.
-pub fn update(place: usize, depth: usize, pending: &[i32; 32], cell: u32) -> Performed
-    requires { ⌜ Holding (now pending) depth ⌝ }
-    ensures { λ r. ⌜ ((v : ℤ) → Performs (does (Instr.update cell) place depth (now (pending .entry)) v) place (now (pending .entry)) r) ⌝ }
-{
-    if depth < 1 {
-        return stop(place, depth, Move::End);
-    }
-    let d = depth - 1;
-    let c = cell as usize;
-    let x = pending[d];
-    stop(place, d, Move::Update { cell: c, value: x })
-}
-
-// A value is written to an element; the subscript is pending above the value.
-pub fn store_at(place: usize, depth: usize, pending: &[i32; 32], arg: u32, line: u32) -> Performed
-    requires { ⌜ Holding (now pending) depth ⌝ }
-    ensures { λ r. ⌜ ((v : ℤ) → Performs (does (Instr.store-at (arg % 4096) (arg / 4096) line) place depth (now (pending .entry)) v) place (now (pending .entry)) r) ⌝ }
-{
-    if depth < 2 {
-        return stop(place, depth, Move::End);
-    }
-    let d = depth - 2;
-    let x = pending[d];
-    let i = pending[d + 1];
-    let found = locate(arg % 4096, arg / 4096, i);
-    match found {
-        Located::Cell(c) => stop(place, d, Move::Write { cell: c, value: x }),
-        Located::Outside => fault(place, d, 9, line),
-    }
-}
-
-// An update's subscript is tested and stays.
-pub fn check(place: usize, depth: usize, pending: &[i32; 32], arg: u32, line: u32) -> Performed
-    requires { ⌜ Holding (now pending) depth ⌝ }
-    ensures { λ r. ⌜ ((v : ℤ) → Performs (does (Instr.check (arg % 4096) (arg / 4096) line) place depth (now (pending .entry)) v) place (now (pending .entry)) r) ⌝ }
-{
-    if depth < 1 {
-        return stop(place, depth, Move::End);
-    }
-    let d = depth - 1;
-    let i = pending[d];
-    let found = locate(arg % 4096, arg / 4096, i);
-    match found {
-        Located::Cell(_) => go_on(place, depth),
-        Located::Outside => fault(place, d, 9, line),
-    }
-}
-
-// A value is added to an element; the subscript is pending below the value.
-pub fn update_at(place: usize, depth: usize, pending: &[i32; 32], arg: u32, line: u32) -> Performed
-    requires { ⌜ Holding (now pending) depth ⌝ }
-    ensures { λ r. ⌜ ((v : ℤ) → Performs (does (Instr.update-at (arg % 4096) (arg / 4096) line) place depth (now (pending .entry)) v) place (now (pending .entry)) r) ⌝ }
-{
-    if depth < 2 {
-        return stop(place, depth, Move::End);
-    }
-    let d = depth - 2;
-    let i = pending[d];
-    let x = pending[d + 1];
-    let found = locate(arg % 4096, arg / 4096, i);
-    match found {
-        Located::Cell(c) => stop(place, d, Move::Update { cell: c, value: x }),
-        Located::Outside => fault(place, d, 9, line),
-    }
-}
 
 // ---- jumps
 
@@ -156,7 +20,7 @@ pub fn jump(place: usize, depth: usize, arg: u32) -> Performed
     requires { ⌜ (depth ≤ 32) × (place < 2 ^ 63) ⌝ }
     ensures { λ r. ⌜ ((a : List ℤ) (v : ℤ) → length a ≡ 32 → Performs (does (Instr.jump (arg / 8)) place depth a v) place a r) ⌝ }
 {
-    go_on(place + (arg / 8) as usize, depth)
+    go_on(place + (arg / code::DISTANCE) as usize, depth)
 }
 
 // The relation of a number.
@@ -184,7 +48,7 @@ pub fn jump_unless(place: usize, depth: usize, pending: &[i32; 32], arg: u32) ->
     let d = depth - 2;
     let x = pending[d];
     let y = pending[d + 1];
-    if int32::holds(relation(arg % 8), x, y) {
+    if int32::holds(relation(arg % code::DISTANCE), x, y) {
         return go_on(place, d);
     }
     jump(place, d, arg)
@@ -209,19 +73,19 @@ pub fn perform(
     match operation {
         code::PUSH => operands::push(place, depth, pending, int32::of_word(arg)),
         code::PUSH_V => operands::push(place, depth, pending, v),
-        code::LOAD => load(place, depth, arg),
-        code::LOAD_AT => load_at(place, depth, pending, arg, line),
+        code::LOAD => accesses::load(place, depth, arg),
+        code::LOAD_AT => accesses::load_at(place, depth, pending, arg, line),
         code::ADD => operands::add(place, depth, pending),
         code::SUBTRACT => operands::subtract(place, depth, pending),
         code::MULTIPLY => operands::multiply(place, depth, pending),
         code::NEGATE => operands::negate(place, depth, pending),
         code::DIVIDE => operands::divide(place, depth, pending, line),
         code::ROUND => operands::round(place, depth, pending, line),
-        code::STORE => store(place, depth, pending, arg),
-        code::STORE_AT => store_at(place, depth, pending, arg, line),
-        code::CHECK => check(place, depth, pending, arg, line),
-        code::UPDATE => update(place, depth, pending, arg),
-        code::UPDATE_AT => update_at(place, depth, pending, arg, line),
+        code::STORE => accesses::store(place, depth, pending, arg),
+        code::STORE_AT => accesses::store_at(place, depth, pending, arg, line),
+        code::CHECK => accesses::check(place, depth, pending, arg, line),
+        code::UPDATE => accesses::update(place, depth, pending, arg),
+        code::UPDATE_AT => accesses::update_at(place, depth, pending, arg, line),
         code::JUMP_UNLESS => jump_unless(place, depth, pending, arg),
         code::JUMP => jump(place, depth, arg),
         _ => stop(place, depth, Move::End),

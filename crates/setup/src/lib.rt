@@ -7,14 +7,18 @@ ghost use Rattle.tables.specs.Layout.{class-number};
 ghost use Rattle.setup.specs.Classes.{Filled, Marked, Classifies};
 use names::Table;
 
-// The number of a class by its clause: 0 shared, 1 lastprivate, 2 reduction.
+// The number of a class by its clause.
 fn number_of(clause: u32) -> u32
     ensures { λ r. ⌜ r ≡ class-number (classOf clause) ⌝ }
 {
     if clause < 2 {
-        return 0;
+        return tables::SHARED;
     }
-    if clause == 2 { 1 } else { 2 }
+    if clause == 2 {
+        tables::LASTPRIVATE
+    } else {
+        tables::REDUCTION
+    }
 }
 
 // A number for the cells from one up to another.
@@ -50,7 +54,7 @@ pub fn classes(table: &Table, count: usize, out: &mut [u32])
     requires { ⌜ (count ≤ length (now out)) × (length (now out) ≤ 4096) ⌝ }
     ensures { λ _. ⌜ Classifies (now (table .entry)) count (now (out .entry)) (now (out .exit)) ⌝ }
 {
-    fill(out, 0, count, 0);
+    fill(out, 0, count, tables::SHARED);
     let mut i = names::count(table);
     while 0 < i {
         i -= 1;

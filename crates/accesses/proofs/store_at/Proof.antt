@@ -1,4 +1,4 @@
--- `instructions::update_at` meets its contract.
+-- `accesses::store_at` meets its contract.
 use mathlib.Core.Path.{_≡_, _∙_}
 use Prim.Native.Nat.{_+_, _-_}
 use native.Mathlib.Omega.{arith}
@@ -9,14 +9,14 @@ use mir.ValLaws.{toZ-ofZ}
 use lib.ListN.{getD}
 use lib.IntN.{pos}
 use Rattle.code.specs.Instr.{perform}
-use Rattle.instructions.specs.declared.Located.the-variants.{Cell, Outside}
+use Rattle.accesses.specs.declared.Located.the-variants.{Cell, Outside}
 use Rattle.operands.specs.Performing.{left}
-use Rattle.instructions.specs.Cells.{at-cell}
+use Rattle.accesses.specs.Cells.{at-cell}
 use Rattle.operands.proofs.Pending.{with2-short, with2-taken}
 use Rattle.operands.proofs.Performing.{moves, ends}
-use Rattle.instructions.proofs.Subscripts.{located-found}
-use Rattle.instructions.proofs.update_at.Statement.{statement}
-use Rattle.instructions.proofs.update_at.Tie as tie
+use Rattle.accesses.proofs.Subscripts.{located-found}
+use Rattle.accesses.proofs.store_at.Statement.{statement}
+use Rattle.accesses.proofs.store_at.Tie as tie
 
 stop-requires : tie.Need-stop-requires
 stop-requires c κs = search needs
@@ -27,20 +27,20 @@ returns c =
     let p = c .before .before .pre in
     λ v. ends _ _ _ _ (p .size) (p .most) (c .stop .ensures) (λ go. with2-short _ _ _ (c .before .if1 .taken))
 
-mul-i : tie.Need-mul-i
-mul-i c = search needs
-
-element-copy-out-i : tie.Need-element-copy-out-i
-element-copy-out-i c = search needs
-
-add-x : tie.Need-add-x
-add-x c = search needs
-
 mul-x : tie.Need-mul-x
 mul-x c = search needs
 
 element-copy-out-x : tie.Need-element-copy-out-x
 element-copy-out-x c = search needs
+
+add-i : tie.Need-add-i
+add-i c = search needs
+
+mul-i : tie.Need-mul-i
+mul-i c = search needs
+
+element-copy-out-i : tie.Need-element-copy-out-i
+element-copy-out-i c = search needs
 
 locate-requires : tie.Need-locate-requires
 locate-requires c κs = search needs
@@ -62,9 +62,9 @@ unfolding perform left at-cell
 returns-2 c =
     let a = c .before .before .before .before .before .before .before .before .args in
     let p = c .before .before .before .before .before .before .before .before .pre in
-    let i : SFits w32 (getD (a .pending .now) (a .depth - 2) (pos 0)) = record { sfits = c .before .before .before .before .before .before .i .given } in
+    let i : SFits w32 (getD (a .pending .now) (a .depth - 2 + 1) (pos 0)) = record { sfits = c .before .before .before .before .before .i .given } in
     let e : c .before .before .before .before .locate .result ≡ Cell (c .before .before .found .given .0 .0) = cc in
-    let f : toZ w32 (ofZ w32 (getD (a .pending .now) (a .depth - 2 + 1) (pos 0))) ≡ getD (a .pending .now) (a .depth - 2 + 1) (pos 0) = toZ-ofZ w32 _ (record { sfits = c .before .before .before .before .before .x .given }) in
+    let f : toZ w32 (ofZ w32 (getD (a .pending .now) (a .depth - 2) (pos 0))) ≡ getD (a .pending .now) (a .depth - 2) (pos 0) = toZ-ofZ w32 _ (record { sfits = c .before .before .before .before .before .before .x .given }) in
     λ v. moves _ _ _ _ (p .size) _ (omega (arith, p .most)) (c .stop2 .ensures) (λ go. rw f (with2-taken _ _ _ (omega arith) ∙ located-found _ _ _ _ _ _ _ i (c .before .before .before .before .locate .ensures) e))
 
 returns-3 : tie.Need-returns-3
@@ -72,21 +72,21 @@ unfolding perform left at-cell
 returns-3 c =
     let a = c .before .before .before .before .before .before .before .args in
     let p = c .before .before .before .before .before .before .before .pre in
-    let i : SFits w32 (getD (a .pending .now) (a .depth - 2) (pos 0)) = record { sfits = c .before .before .before .before .before .i .given } in
+    let i : SFits w32 (getD (a .pending .now) (a .depth - 2 + 1) (pos 0)) = record { sfits = c .before .before .before .before .i .given } in
     let e : c .before .before .before .locate .result ≡ Outside = cc in
     λ v. moves _ _ _ _ (p .size) _ (omega (arith, p .most)) (c .fault .ensures) (λ go. with2-taken _ _ _ (omega arith) ∙ located-found _ _ _ _ _ _ _ i (c .before .before .before .locate .ensures) e)
 
-pub update-at-spec : {M : Type 1} → statement M
-update-at-spec =
+pub store-at-spec : {M : Type 1} → statement M
+store-at-spec =
     tie.close
     (tie.spec
     stop-requires
     returns
-    mul-i
-    element-copy-out-i
-    add-x
     mul-x
     element-copy-out-x
+    add-i
+    mul-i
+    element-copy-out-i
     locate-requires
     enum-known-found
     stop-requires-2

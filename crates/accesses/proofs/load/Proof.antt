@@ -1,12 +1,12 @@
--- `instructions::load` meets its contract.
+-- `accesses::load` meets its contract.
 use native.Mathlib.Omega.{arith}
 use borrow.Author.Needs.{needs}
 use Rattle.code.specs.Instr.{perform}
 use Rattle.operands.specs.Performing.{left}
 use Rattle.operands.proofs.Pending.{room-in, room-out}
 use Rattle.operands.proofs.Performing.{moves, ends}
-use Rattle.instructions.proofs.load.Statement.{statement}
-use Rattle.instructions.proofs.load.Tie as tie
+use Rattle.accesses.proofs.load.Statement.{statement}
+use Rattle.accesses.proofs.load.Tie as tie
 
 stop-requires : tie.Need-stop-requires
 stop-requires c κs = search needs

@@ -12,8 +12,8 @@ use lib.IntN.{ℤ, pos, negsuc, natAbs}
 use lib.Signed.{ltZ, nonNeg, mag}
 use Rattle.rules.specs.Loop.{Act, fault}
 use Rattle.syntax.specs.Meaning.{located}
-use Rattle.instructions.specs.declared.Located.{Located}
-use Rattle.instructions.specs.Cells.{at-cell}
+use Rattle.accesses.specs.declared.Located.{Located}
+use Rattle.accesses.specs.Cells.{at-cell}
 
 pub located-low : (line b n : ℕ) (i : ℤ) (k : ℕ → Act) → ltZ i (pos 1) ≡ true → located line b n i k ≡ fault 9 line
 unfolding located

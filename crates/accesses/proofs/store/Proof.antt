@@ -1,4 +1,4 @@
--- `instructions::store` meets its contract.
+-- `accesses::store` meets its contract.
 use mathlib.Core.Path.{_≡_}
 use Prim.Native.Nat.{_-_}
 use native.Mathlib.Omega.{arith}
@@ -12,8 +12,8 @@ use Rattle.code.specs.Instr.{perform}
 use Rattle.operands.specs.Performing.{left}
 use Rattle.operands.proofs.Pending.{with1-short, with1-taken}
 use Rattle.operands.proofs.Performing.{moves, ends}
-use Rattle.instructions.proofs.store.Statement.{statement}
-use Rattle.instructions.proofs.store.Tie as tie
+use Rattle.accesses.proofs.store.Statement.{statement}
+use Rattle.accesses.proofs.store.Tie as tie
 
 stop-requires : tie.Need-stop-requires
 stop-requires c κs = search needs

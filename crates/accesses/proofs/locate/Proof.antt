@@ -1,4 +1,4 @@
--- `instructions::locate` meets its contract.
+-- `accesses::locate` meets its contract.
 use mathlib.Core.Path.{_≡_}
 use mathlib.Core.Bool.{true, false}
 use native.Mathlib.Omega.{arith}
@@ -7,10 +7,10 @@ use mir.Syntax.{w32}
 use mir.Val.{toZ, ofZ}
 use lib.IntN.{pos}
 use lib.Signed.{ltZ}
-use Rattle.instructions.specs.Cells.{at-cell}
-use Rattle.instructions.proofs.Subscripts.{located-low, positive, located-far, located-at}
-use Rattle.instructions.proofs.locate.Statement.{statement}
-use Rattle.instructions.proofs.locate.Tie as tie
+use Rattle.accesses.specs.Cells.{at-cell}
+use Rattle.accesses.proofs.Subscripts.{located-low, positive, located-far, located-at}
+use Rattle.accesses.proofs.locate.Statement.{statement}
+use Rattle.accesses.proofs.locate.Tie as tie
 
 returns : tie.Need-returns
 unfolding at-cell

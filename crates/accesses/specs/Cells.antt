@@ -1,8 +1,8 @@
 -- The cell of a subscript.
 use Prim.Native.Nat.{ℕ}
 use Rattle.rules.specs.Loop.{Act, fault}
-use Rattle.instructions.specs.declared.Located.{Located}
-use Rattle.instructions.specs.declared.Located.the-variants.{Cell, Outside}
+use Rattle.accesses.specs.declared.Located.{Located}
+use Rattle.accesses.specs.declared.Located.the-variants.{Cell, Outside}
 
 -- at the cell of a subscript, or the fault of one outside its array
 unfoldable pub at-cell : Located → ℕ → (ℕ → Act) → Act

@@ -1,4 +1,4 @@
--- `instructions::load_at` meets its contract.
+-- `accesses::load_at` meets its contract.
 use mathlib.Core.Path.{_≡_, _∙_}
 use Prim.Native.Nat.{_-_}
 use native.Mathlib.Omega.{arith}
@@ -8,14 +8,14 @@ use mir.Val.{SFits}
 use lib.ListN.{getD}
 use lib.IntN.{pos}
 use Rattle.code.specs.Instr.{perform}
-use Rattle.instructions.specs.declared.Located.the-variants.{Cell, Outside}
+use Rattle.accesses.specs.declared.Located.the-variants.{Cell, Outside}
 use Rattle.operands.specs.Performing.{left}
-use Rattle.instructions.specs.Cells.{at-cell}
+use Rattle.accesses.specs.Cells.{at-cell}
 use Rattle.operands.proofs.Pending.{with1-short, with1-taken}
 use Rattle.operands.proofs.Performing.{moves, ends}
-use Rattle.instructions.proofs.Subscripts.{located-found}
-use Rattle.instructions.proofs.load_at.Statement.{statement}
-use Rattle.instructions.proofs.load_at.Tie as tie
+use Rattle.accesses.proofs.Subscripts.{located-found}
+use Rattle.accesses.proofs.load_at.Statement.{statement}
+use Rattle.accesses.proofs.load_at.Tie as tie
 
 stop-requires : tie.Need-stop-requires
 stop-requires c κs = search needs

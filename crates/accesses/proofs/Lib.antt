@@ -1,0 +1,2 @@
+-- Subscripts.
+mod Subscripts
