@@ -25,7 +25,7 @@ servedBy s M (failed n t i) = Faulted n t (s .from +ℤ pos i)
 pub record Serves (s : State) (M : List ℤ) (r : Served) (M′ : List ℤ) (W′ : List ℕ) : Type 0 where
   pub answer : r ≡ servedBy s M (serial (loopOf s M) .outcome)
   pub cells : M′ ≡ listed (loopOf s M .size) (serial (loopOf s M) .cells)
-  -- the words hold the cells at entry, and the accesses of one processor
+  -- the words keep the cells at entry, in the rows of tables for one processor
   pub kept : Kept 1 (loopOf s M) M′ W′
 
 abbrev pub ServesBy : State → ℕ → List ℤ → List ℕ → Served → List ℤ → List ℕ → Type 0
