@@ -13,15 +13,15 @@ use Rattle.syntax.specs.Reader.{Parsed, done, next, expects, peek-in, skip-in, 
 use Rattle.code.specs.Instr.{Instr, round, words}
 use Rattle.code.specs.Compile.{code, codeFactor, codeRef}
 use Rattle.names.specs.Table.{variableOf, Tabled}
-use Rattle.expressions.specs.Answer.{rank-of, worst, Reads, Within, Answers}
+use Rattle.parts.specs.Answer.{rank-of, worst, Reads, Within, Answers}
 use Rattle.expressions.specs.Readers.{readQuotient}
-use Rattle.expressions.specs.Parts.{textAt, Passes, begun, Begins, Sealed, Emits, Ranked, readsOf, Fetches, pushes, literalRank, Pushes, Loads}
-use Rattle.expressions.specs.declared.Got.{Got}
-use Rattle.expressions.specs.declared.Got.the-variants.{Broken, Done}
-use Rattle.expressions.specs.declared.Seen.{Seen}
-use Rattle.expressions.proofs.Laws.{worst-append, fueled, Since, since-none, since-rank, since-emit, reads-done, reads-sealed, reads-as, emits-broken, emits-none, done-emits}
-use Rattle.expressions.proofs.Leaves.{fetches-emits}
-use Rattle.expressions.proofs.Spans.{within-done, within-broken, within-from, within-emits, within-sealed}
+use Rattle.parts.specs.Parts.{textAt, Passes, begun, Begins, Sealed, Emits, Ranked, readsOf, Fetches, pushes, literalRank, Pushes, Loads}
+use Rattle.parts.specs.declared.Got.{Got}
+use Rattle.parts.specs.declared.Got.the-variants.{Broken, Done}
+use Rattle.parts.specs.declared.Seen.{Seen}
+use Rattle.parts.proofs.Laws.{worst-append, fueled, Since, since-none, since-rank, since-emit, reads-done, reads-sealed, reads-as, emits-broken, emits-none, done-emits}
+use Rattle.parts.proofs.Leaves.{fetches-emits}
+use Rattle.parts.proofs.Spans.{within-done, within-broken, within-from, within-emits, within-sealed}
 use Rattle.expressions.proofs.Shapes.{begins-few, ref-name, ref-element, ref-none, shape, factor-shape, element-shape}
 
 -- ---- an expression and its closing bracket

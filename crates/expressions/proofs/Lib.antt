@@ -1,9 +1,4 @@
--- What holds of the readers' answers, one after another, and of what stands at a place of a line.
-pub mod Laws
-pub mod Signs
-pub mod Names
-pub mod Leaves
+-- What the readers of expressions read, form by form.
 pub mod Shapes
-pub mod Spans
 pub mod Sums
 pub mod Factors

@@ -13,8 +13,8 @@ use Rattle.syntax.specs.Reader.{Parsed, broken, done, next, is, kind, text, isD
 use Rattle.syntax.proofs.Spelling.{is-true}
 use Rattle.expressions.specs.Readers.{readQuotient}
 use Rattle.lexer.specs.Places.{leadOf}
-use Rattle.expressions.specs.Parts.{skipped, Passes, stands, either, Joins, begins}
-use Rattle.expressions.specs.declared.Seen.{Seen}
+use Rattle.parts.specs.Parts.{skipped, Passes, stands, either, Joins, begins}
+use Rattle.parts.specs.declared.Seen.{Seen}
 
 -- ---- a lead, and terms
 

@@ -14,15 +14,15 @@ use Rattle.syntax.specs.Reader.{Parsed, done, next, peek-in, skip-in, readExpr,
 use Rattle.code.specs.Instr.{Instr, add, subtract, multiply, divide, operation, argument, words}
 use Rattle.code.specs.Compile.{codeLead, code, codeTerms, codeTerm, codeFactors, codeFactor}
 use Rattle.names.specs.Table.{variableOf, Tabled}
-use Rattle.expressions.specs.Answer.{worst, Reads, Within, Answers}
+use Rattle.parts.specs.Answer.{worst, Reads, Within, Answers}
 use Rattle.expressions.specs.Readers.{readRemainder}
 use Rattle.lexer.specs.Places.{leadOf}
-use Rattle.expressions.specs.Parts.{Passes, stands, Joins, Emits}
-use Rattle.expressions.specs.declared.Got.{Got}
-use Rattle.expressions.specs.declared.Got.the-variants.{Broken, Done}
-use Rattle.expressions.specs.declared.Seen.{Seen}
-use Rattle.expressions.proofs.Laws.{worst-append, fueled, since-none, reads-done, emits-none, in-turn}
-use Rattle.expressions.proofs.Spans.{within-done, within-from, within-then, within-emits}
+use Rattle.parts.specs.Parts.{Passes, stands, Joins, Emits}
+use Rattle.parts.specs.declared.Got.{Got}
+use Rattle.parts.specs.declared.Got.the-variants.{Broken, Done}
+use Rattle.parts.specs.declared.Seen.{Seen}
+use Rattle.parts.proofs.Laws.{worst-append, fueled, since-none, reads-done, emits-none, in-turn}
+use Rattle.parts.proofs.Spans.{within-done, within-from, within-then, within-emits}
 use Rattle.expressions.proofs.Shapes.{expr-shape, no-sign, some-sign}
 
 -- ---- what comes after what was read: the next reader, or nothing

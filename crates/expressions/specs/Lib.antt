@@ -1,4 +1,2 @@
--- What the readers of expressions answer and emit.
-pub mod Answer
+-- The readers of a quotient and of a remainder.
 pub mod Readers
-pub mod Parts

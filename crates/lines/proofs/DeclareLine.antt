@@ -20,10 +20,10 @@ use Rattle.code.specs.Instr.{words}
 use Rattle.code.specs.Compile.{codeOf, codeLines, codeOpens, codeStmts, places, placesOf}
 use Rattle.lexer.specs.Places.{Goes, Any, passes}
 use Rattle.names.specs.Table.{Tabled, Unclaimed}
-use Rattle.headings.specs.Lists.{readSome, order, Keeps}
-use Rattle.headings.specs.Integer.{apart, fit, Enlists, Integers}
-use Rattle.headings.specs.declared.Listed.{Listed}
-use Rattle.headings.proofs.Lists.{Nonempty, some-nonempty}
+use Rattle.heading.specs.Lists.{readSome, order, Keeps}
+use Rattle.declarations.specs.Integer.{apart, fit, Enlists, Integers}
+use Rattle.declarations.specs.declared.Listed.{Listed}
+use Rattle.heading.proofs.Lists.{Nonempty, some-nonempty}
 use Rattle.lines.specs.declared.Progress.{Progress}
 use Rattle.lines.specs.Progress.{Opened, Represents, numberOf, numbered, whole, Concludes, Numbers}
 use Rattle.lines.proofs.Verdicts.{ending, concludes-lands, concludes-word, number-by, numbered-zero, follows-most}

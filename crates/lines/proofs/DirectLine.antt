@@ -17,16 +17,15 @@ use Rattle.syntax.specs.Conditions.{inLine, different, clauseNames, within, nam
 use Rattle.syntax.specs.Text.{initial, loaded}
 use Rattle.syntax.specs.Reader.{Parsed, broken, done, Reader, next, finish, expects, wants, readDigits, readClauses, peek-in, skip-in}
 use Rattle.syntax.proofs.Spelling.{both-true, same-true}
-use Rattle.syntax.proofs.TestLaws.{both-hold, neither-holds, any-append, same-refl, same-comm-false}
+use Rattle.syntax.proofs.TestLaws.{both-hold, neither-holds, any-append, same-refl, same-comm-false, same-truth}
 use Rattle.syntax.proofs.TableLines.{classify-cells}
 use Rattle.code.specs.Instr.{words}
 use Rattle.lexer.specs.Places.{Goes, Any, passes}
 use Rattle.names.specs.Table.{classOf, Tabled, Unclaimed, class-to}
-use Rattle.headings.specs.Lists.{order, Keeps}
-use Rattle.headings.specs.Directive.{free, frees, claim-to, claims-to, clauses-to, Marked, readDirected, Directing, Directive}
-use Rattle.headings.specs.declared.Directed.{Directed}
-use Rattle.headings.proofs.IntegerLines.{same-truth}
-use Rattle.headings.proofs.ClauseLines.{claim-names, claims-names, frees-known, frees-append}
+use Rattle.heading.specs.Lists.{order, Keeps}
+use Rattle.clauses.specs.Directive.{free, frees, claim-to, claims-to, clauses-to, Marked, readDirected, Directing, Directive}
+use Rattle.clauses.specs.declared.Directed.{Directed}
+use Rattle.clauses.proofs.ClauseLines.{claim-names, claims-names, frees-known, frees-append}
 use Rattle.lines.specs.declared.Progress.{Progress}
 use Rattle.lines.specs.Progress.{Opened, Represents, numberOf, numbered, whole, Concludes, Numbers}
 use Rattle.lines.specs.Lines.{readOpening}

@@ -26,10 +26,10 @@ use Rattle.syntax.proofs.Sane.{Sane}
 use Rattle.code.specs.Instr.{words}
 use Rattle.lexer.specs.Places.{Lands, Goes, Any, passes}
 use Rattle.names.specs.Table.{Unclaimed}
-use Rattle.headings.specs.Lists.{readSome, order, Keeps}
-use Rattle.headings.specs.Data.{counted, readCounted, readData, may-give, Gives, Data as DataLine}
-use Rattle.headings.specs.declared.Headed.{Headed}
-use Rattle.headings.proofs.Lists.{Nonempty}
+use Rattle.heading.specs.Lists.{readSome, order, Keeps}
+use Rattle.values.specs.Data.{counted, readCounted, readData, may-give, Gives, Data as DataLine}
+use Rattle.heading.specs.declared.Headed.{Headed}
+use Rattle.heading.proofs.Lists.{Nonempty}
 use Rattle.lines.specs.declared.Progress.{Progress}
 use Rattle.lines.specs.Progress.{Opened, Represents, numberOf, numbered, whole, Concludes, Numbers}
 use Rattle.lines.proofs.Verdicts.{ending, concludes-lands, concludes-word, number-by, numbered-zero, follows-most, good-order}

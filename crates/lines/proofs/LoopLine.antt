@@ -15,9 +15,9 @@ use Rattle.syntax.specs.Reader.{Parsed, broken, done, next, finish, expects, wa
 use Rattle.code.specs.Instr.{words}
 use Rattle.code.proofs.Emitted.{emits-loop}
 use Rattle.lexer.specs.Places.{Goes, Any, passes}
-use Rattle.headings.specs.Lists.{order}
-use Rattle.headings.specs.DoLine.{Ends, readBounds, count-of, Looping, Do}
-use Rattle.headings.specs.declared.Looped.{Looped}
+use Rattle.heading.specs.Lists.{order}
+use Rattle.bounds.specs.DoLine.{Ends, readBounds, count-of, Looping, Do}
+use Rattle.bounds.specs.declared.Looped.{Looped}
 use Rattle.lines.specs.declared.Progress.{Progress}
 use Rattle.lines.specs.Progress.{Opened, Represents, numberOf, numbered, whole, Concludes, Numbers}
 use Rattle.lines.proofs.Verdicts.{ending, concludes-lands, concludes-word, number-by, numbered-zero}

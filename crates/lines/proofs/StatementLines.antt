@@ -20,11 +20,11 @@ use Rattle.code.specs.Compile.{codeAssign, codeIf, codeOf, placesOf}
 use Rattle.code.proofs.Words.{words-append}
 use Rattle.code.proofs.Emitted.{emits-assign, emits-when}
 use Rattle.names.specs.Table.{variableOf}
-use Rattle.expressions.specs.Answer.{rank-of, worst}
-use Rattle.expressions.specs.declared.Got.{Got}
-use Rattle.expressions.specs.declared.Got.the-variants.{Broken, Done}
+use Rattle.parts.specs.Answer.{rank-of, worst}
+use Rattle.parts.specs.declared.Got.{Got}
+use Rattle.parts.specs.declared.Got.the-variants.{Broken, Done}
 use Rattle.statements.specs.Statement.{codeLine, assignedRank, rankLine, Writes, Bounded, Compiles}
-use Rattle.headings.specs.Lists.{order}
+use Rattle.heading.specs.Lists.{order}
 use Rattle.lines.specs.declared.Progress.{Progress}
 use Rattle.lines.specs.Progress.{Opened, Represents, moved, numberOf, numbered, whole, Concludes, Numbers}
 use Rattle.lines.proofs.Verdicts.{concludes-lands, number-by, numbered-zero}

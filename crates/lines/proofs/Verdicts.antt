@@ -21,7 +21,7 @@ use Rattle.lexer.specs.Lex.{Lexed}
 use Rattle.lexer.specs.Places.{Lands, Goes, Any, passes}
 use Rattle.lexer.proofs.Said.{signed, lettered}
 use Rattle.lexer.proofs.PlaceLaws.{expects-passes, wants-passes}
-use Rattle.headings.specs.Lists.{order}
+use Rattle.heading.specs.Lists.{order}
 use Rattle.lines.specs.Progress.{numberOf, numbered, Concludes, Numbers}
 
 -- ---- the number

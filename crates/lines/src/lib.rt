@@ -9,20 +9,20 @@ ghost use lib.IntN.{ℤ};
 ghost use Rattle.syntax.specs.Grammar.{otherwise, end-if, inside, end-do};
 ghost use Rattle.syntax.specs.Reader.{readDeclare, readGive, readLoop, readAssign, readWhen, peek-in, skip-in};
 ghost use Rattle.code.specs.Instr.{operation, jump};
-ghost use Rattle.headings.specs.Lists.{Standing};
+ghost use Rattle.heading.specs.Lists.{Standing};
 ghost use Rattle.lines.specs.Lines.{Takes, readOpening, readClosing, reads};
 ghost use Rattle.lines.specs.Progress.{Numbers, moved, Underway};
+use assignments::assignment;
+use bounds::do_line;
+use clauses::directive;
 use code::JUMP;
-use expressions::Got;
-use headings::data_values;
-use headings::directive;
-use headings::do_line;
-use headings::integers;
+use conditions::condition;
+use declarations::integers;
 use lexer::pass;
 use lexer::token;
 use names::Table;
-use statements::assignment;
-use statements::condition;
+use parts::Got;
+use values::data_values;
 
 // How far a text was read: 0 or the number of its first bad line; which of 1 to 7 stood last; how many cells, processors and iterations there are,
 // and the first value of the loop's variable; how many instructions are emitted, and how many ifs are open.

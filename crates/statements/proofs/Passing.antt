@@ -11,7 +11,7 @@ use Rattle.syntax.specs.Reader.{Parsed, broken, done, Reader, next, expects, wa
 use Rattle.lexer.specs.Places.{Goes, Any, passes}
 use Rattle.lexer.proofs.Said.{signed, lettered, sign-text, word-text}
 use Rattle.lexer.proofs.PlaceLaws.{expects-passes, wants-passes, goes-some, pass-there, pass-not, pass-onward}
-use Rattle.expressions.specs.Parts.{Passes}
+use Rattle.parts.specs.Parts.{Passes}
 
 -- ---- readers one after another
 

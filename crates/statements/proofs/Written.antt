@@ -9,10 +9,10 @@ use Rattle.syntax.specs.Grammar.{Line}
 use Rattle.syntax.specs.Known.{Entry}
 use Rattle.syntax.specs.Reader.{Parsed, broken, done}
 use Rattle.code.specs.Instr.{words}
-use Rattle.expressions.specs.Answer.{Reads}
-use Rattle.expressions.specs.declared.Got.{Got}
-use Rattle.expressions.specs.declared.Got.the-variants.{Done}
-use Rattle.expressions.proofs.Laws.{words-length}
+use Rattle.parts.specs.Answer.{Reads}
+use Rattle.parts.specs.declared.Got.{Got}
+use Rattle.parts.specs.declared.Got.the-variants.{Done}
+use Rattle.parts.proofs.Laws.{words-length}
 use Rattle.statements.specs.Statement.{codeLine, rankLine, Writes, Bounded}
 
 pub take-sets : (b : List ℕ) (i : ℕ) (ws : List ℕ) → i + length ws ≤ length b → take (i + length ws) (sets b i ws) ≡ take i b ++ ws

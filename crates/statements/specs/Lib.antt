@@ -1,5 +1,2 @@
--- What the readers of assignments and conditions answer and emit.
+-- What the reader of a statement answers and emits.
 pub mod Statement
-pub mod Comparison
-pub mod Alike
-pub mod Assignment

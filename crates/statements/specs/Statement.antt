@@ -12,9 +12,9 @@ use Rattle.syntax.specs.Reader.{Parsed, broken, done}
 use Rattle.code.specs.Instr.{Instr, words}
 use Rattle.code.specs.Compile.{codeAssign, codeIf}
 use Rattle.names.specs.Table.{variableOf, Tabled}
-use Rattle.expressions.specs.Answer.{worst}
-use Rattle.expressions.specs.declared.Got.{Got}
-use Rattle.expressions.specs.declared.Got.the-variants.{Broken, Done}
+use Rattle.parts.specs.Answer.{worst}
+use Rattle.parts.specs.declared.Got.{Got}
+use Rattle.parts.specs.declared.Got.the-variants.{Broken, Done}
 
 -- the code of a statement that stands on line k; the jump of an `if` is over nothing until the part's end is known
 unfoldable pub codeLine : List Entry → List ℕ → ℕ → Line → List Instr

@@ -96,6 +96,13 @@ pub each-map : {A B : Type 0} (P : A → Type 0) (Q : B → Type 0) (f : A → B
 each-map P Q f g [] h = tt
 each-map P Q f g (x ∷ xs) h = (g x (h .0), each-map P Q f g xs (h .1))
 
+-- two tests that come out true together
+pub same-truth : (a b : Bool) → (a ≡ true → b ≡ true) → (b ≡ true → a ≡ true) → a ≡ b
+same-truth true true f g = refl
+same-truth true false f g = sym (f refl)
+same-truth false true f g = g refl
+same-truth false false f g = refl
+
 -- ---- a test of what is left of a list
 
 pub all-on : (p : ℕ → Bool) (s : List ℕ) (i : ℕ) → i < length s → p (getD s i 0) ≡ true → all p (drop i s) ≡ all p (drop (i + 1) s)

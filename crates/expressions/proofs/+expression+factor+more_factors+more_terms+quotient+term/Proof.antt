@@ -7,7 +7,7 @@ use native.Mathlib.Numerals.{add-one}
 use native.Mathlib.Omega.{arith}
 use lib.ListN.{length}
 use borrow.Author.Needs.{needs}
-use Rattle.expressions.proofs.Spans.{within-done, within-from, within-sealed, within-inside, ready-room, ready-next, ready-later}
+use Rattle.parts.proofs.Spans.{within-done, within-from, within-sealed, within-inside, ready-room, ready-next, ready-later}
 use Rattle.expressions.proofs.Shapes.{some-sign, begins-kind, begins-digits}
 use Rattle.expressions.proofs.Sums.{goes-on, goes-not, lead-long, lead-within, sign-within, expression-answers, term-answers, terms-none, terms-some, factors-none, factors-some}
 use Rattle.expressions.proofs.Factors.{passed, factor-literal, factor-name, factor-bracket, factor-rdiv, factor-element, factor-none, ends-on, ends-not, quotient-answers}
@@ -31,18 +31,18 @@ use Rattle.expressions.proofs.+expression+factor+more_factors+more_term
 use Rattle.expressions.proofs.term.Reads as term
 use Rattle.expressions.proofs.term.Kinds as term-kinds
 use Rattle.expressions.proofs.+expression+factor+more_factors+more_terms+quotient+term.Lts-term as term-lts
-use Rattle.expressions.proofs.begin.Reads as begin-reads
-use Rattle.expressions.proofs.constant.Reads as constant-reads
-use Rattle.expressions.proofs.expect.Reads as expect-reads
-use Rattle.expressions.proofs.factor_operation.Reads as factor-operation-reads
-use Rattle.expressions.proofs.join.Reads as join-reads
-use Rattle.expressions.proofs.named.Reads as named-reads
-use Rattle.expressions.proofs.opened.Reads as opened-reads
-use Rattle.expressions.proofs.term_operation.Reads as term-operation-reads
-use Rattle.expressions.proofs.then_emit.Reads as then-emit-reads
-use Rattle.expressions.proofs.then_negate.Reads as then-negate-reads
-use Rattle.expressions.proofs.then_read.Reads as then-read-reads
-use Rattle.expressions.proofs.variable.Reads as variable-reads
+use Rattle.parts.proofs.begin.Reads as begin-reads
+use Rattle.parts.proofs.constant.Reads as constant-reads
+use Rattle.parts.proofs.expect.Reads as expect-reads
+use Rattle.parts.proofs.factor_operation.Reads as factor-operation-reads
+use Rattle.parts.proofs.join.Reads as join-reads
+use Rattle.parts.proofs.named.Reads as named-reads
+use Rattle.parts.proofs.opened.Reads as opened-reads
+use Rattle.parts.proofs.term_operation.Reads as term-operation-reads
+use Rattle.parts.proofs.then_emit.Reads as then-emit-reads
+use Rattle.parts.proofs.then_negate.Reads as then-negate-reads
+use Rattle.parts.proofs.then_read.Reads as then-read-reads
+use Rattle.parts.proofs.variable.Reads as variable-reads
 use Rattle.expressions.proofs.+expression+factor+more_factors+more_terms+quotient+term.{
   statement,
 }

@@ -2,7 +2,7 @@
 use native.Mathlib.Omega.{arith}
 use mathlib.Core.Path.{refl}
 use borrow.Author.Needs.{needs}
-use Rattle.expressions.proofs.Spans.{within-inside, ready-later}
+use Rattle.parts.proofs.Spans.{within-inside, ready-later}
 use Rattle.expressions.proofs.Shapes.{begins-kind}
 use Rattle.expressions.proofs.Factors.{passed, reference-single, reference-element, reference-none}
 use Rattle.expressions.proofs.reference.Statement.{statement}

@@ -1,7 +1,7 @@
 -- `expressions::remainder` meets its contract: an expression without a lead.
 use native.Mathlib.Omega.{arith}
 use borrow.Author.Needs.{needs}
-use Rattle.expressions.proofs.Spans.{ready-next}
+use Rattle.parts.proofs.Spans.{ready-next}
 use Rattle.expressions.proofs.Sums.{goes-on, goes-not, remainder-answers}
 use Rattle.expressions.proofs.remainder.Statement.{statement}
 use Rattle.expressions.proofs.remainder.Tie as tie

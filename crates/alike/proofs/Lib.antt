@@ -1,0 +1,2 @@
+-- Tokens one by one.
+pub mod Tokens

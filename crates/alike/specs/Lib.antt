@@ -1,0 +1,2 @@
+-- When parts of a line have the same tokens.
+pub mod Alike

@@ -1,0 +1,104 @@
+-- `assignments::assignment` meets its contract.
+use mathlib.Core.Path.{refl, _∙_, subst}
+use native.Mathlib.Omega.{arith}
+use Rattle.syntax.specs.Bytes.{bytes}
+use borrow.Author.Needs.{needs}
+use Rattle.lexer.proofs.PlaceLaws.{pass-onward}
+use Rattle.parts.proofs.Spans.{within-done}
+use Rattle.assignments.specs.Assignment.{Past}
+use Rattle.assignments.proofs.Assignments.{assign-unread, assign-unset, assign-stores, assign-updates}
+use Rattle.assignments.proofs.assignment.Statement.{statement}
+use Rattle.assignments.proofs.assignment.Tie as tie
+
+target-of-requires : tie.Need-target-of-requires
+target-of-requires c κs = search needs
+
+assigned-rank-requires : tie.Need-assigned-rank-requires
+assigned-rank-requires c κs = search needs
+
+reference-requires : tie.Need-reference-requires
+reference-requires c κs = search needs
+
+enum-known-n : tie.Need-enum-known-n
+enum-known-n c = search needs
+
+slice-aggregate-pass : tie.Need-slice-aggregate-pass
+slice-aggregate-pass c = search needs
+
+pass-requires : tie.Need-pass-requires
+pass-requires c κs = search needs
+
+same-length : tie.Need-same-length
+same-length c = search needs
+
+returns : tie.Need-returns
+returns c = assign-unset _ _ _ _ _ _ _ _ _ _ (c .before .before .before .before .before .before .before .before .reference .ensures) _ _ _ (c .before .before .before .before .n .given .1) (c .before .pass .ensures) (omega arith) refl
+
+summand-requires : tie.Need-summand-requires
+summand-requires c κs = let w = within-done _ _ _ _ _ _ _ _ (c .before .before .before .before .before .before .before .before .before .reference .ensures .within) (c .before .before .before .before .before .n .given .1) in
+    let on = pass-onward (c .before .before .before .before .before .before .before .before .before .before .before .before .before .before .before .args .s .now) (bytes "=") _ _ (c .before .before .pass .ensures) (omega arith) (w .1) (omega arith) in
+    (record { inside = omega arith; shallow = omega arith; short = c .before .before .before .before .before .before .before .before .before .before .before .before .before .before .before .pre .0; room = omega (arith, c .before .before .before .before .before .before .before .before .before .before .before .before .before .before .before .pre .2, w .0, w .1, w .2, on, c .before .before .before .before .before .before .before .before .before .reference .kept .1 .1 .1 .1 .1 .0) }, (w .1, c .before .before .before .before .before .before .before .before .before .before .before .before .before .before .before .pre .1))
+
+enum-known-a : tie.Need-enum-known-a
+enum-known-a c = search needs
+
+updating-requires : tie.Need-updating-requires
+unfolding Past
+updating-requires c κs = let w = within-done _ _ _ _ _ _ _ _ (c .before .before .before .before .before .before .before .before .before .before .before .before .before .before .before .before .reference .ensures .within) (c .before .before .before .before .before .before .before .before .before .before .before .before .n .given .1) in
+    let on = pass-onward (c .before .before .before .before .before .before .before .before .before .before .before .before .before .before .before .before .before .before .before .before .before .before .args .s .now) (bytes "=") _ _ (c .before .before .before .before .before .before .before .before .before .pass .ensures) (omega arith) (w .1) (omega arith) in
+    let pa = subst (Past (c .before .before .before .before .before .before .before .before .before .before .before .before .before .before .before .before .before .before .before .before .before .before .args .s .now) _ _) (c .before .before .a .given .1) (c .before .before .before .before .before .before .summand .ensures .past) in
+    (record { inside = pa .1; shallow = omega arith; short = c .before .before .before .before .before .before .before .before .before .before .before .before .before .before .before .before .before .before .before .before .before .before .pre .0; room = omega (arith, c .before .before .before .before .before .before .before .before .before .before .before .before .before .before .before .before .before .before .before .before .before .before .pre .2, w .0, w .1, w .2, on, pa .0, pa .1, pa .2, c .before .before .before .before .before .before .before .before .before .before .before .before .before .before .before .before .reference .kept .1 .1 .1 .1 .1 .0, c .before .before .before .before .before .before .summand .kept .1 .1 .1 .1 .1 .1 .0) }, (c .before .before .before .before .before .before .before .before .before .before .before .before .before .before .before .before .before .before .before .before .before .before .pre .1, c .before .before .before .before .before .before .before .before .before .before .before .before .before .before .before .before .before .before .before .target-of .ensures))
+
+enum-told : tie.Need-enum-told
+enum-told c = search needs
+
+storing-requires : tie.Need-storing-requires
+storing-requires c κs = let w = within-done _ _ _ _ _ _ _ _ (c .before .before .before .before .before .before .before .before .before .before .before .before .before .before .before .reference .ensures .within) (c .before .before .before .before .before .before .before .before .before .before .before .n .given .1) in
+    let on = pass-onward (c .before .before .before .before .before .before .before .before .before .before .before .before .before .before .before .before .before .before .before .before .before .args .s .now) (bytes "=") _ _ (c .before .before .before .before .before .before .before .before .pass .ensures) (omega arith) (w .1) (omega arith) in
+    ((omega (arith, w .0, on), omega arith, c .before .before .before .before .before .before .before .before .before .before .before .before .before .before .before .before .before .before .before .before .before .pre .0, omega (arith, c .before .before .before .before .before .before .before .before .before .before .before .before .before .before .before .before .before .before .before .before .before .pre .2, c .before .before .before .before .before .before .before .before .before .before .before .before .before .before .before .reference .kept .1 .1 .1 .1 .1 .0, c .before .before .before .before .before .summand .kept .1 .1 .1 .1 .1 .1 .0)), (c .before .before .before .before .before .before .before .before .before .before .before .before .before .before .before .before .before .before .before .before .before .pre .1, c .before .before .before .before .before .before .before .before .before .before .before .before .before .before .before .before .before .before .target-of .ensures))
+
+enum-told-2 : tie.Need-enum-told-2
+enum-told-2 c = search needs
+
+same-length-2 : tie.Need-same-length-2
+same-length-2 c = search needs
+
+returns-2 : tie.Need-returns-2
+returns-2 c = assign-updates _ _ _ _ _ _ _ _ _ _ (c .before .before .before .before .before .before .before .before .before .before .before .before .before .before .before .before .before .before .before .reference .ensures) _ _ _ (c .before .before .before .before .before .before .before .before .before .before .before .before .before .before .before .n .given .1) (c .before .before .before .before .before .before .before .before .before .before .before .before .pass .ensures) (omega arith) _ (c .before .before .before .before .before .before .before .before .before .before .before .before .before .before .before .before .before .before .before .before .before .before .target-of .ensures) (c .before .before .before .before .before .before .before .before .before .before .before .before .before .before .before .before .before .before .before .before .before .assigned-rank .ensures) _ _ (c .before .before .before .before .before .before .before .before .before .summand .ensures) (c .before .before .before .before .before .before .before .before .before .before .before .before .before .before .before .before .before .before .before .before .before .before .before .before .before .pre .2) (c .before .before .before .before .before .before .before .before .before .summand .kept .1 .1 .1 .1 .1 .1 .0 ∙ c .before .before .before .before .before .before .before .before .before .before .before .before .before .before .before .before .before .before .before .reference .kept .1 .1 .1 .1 .1 .0) _ _ _ (c .before .before .before .before .before .a .given .1) (c .before .before .updating .ensures)
+
+same-length-3 : tie.Need-same-length-3
+same-length-3 c = search needs
+
+returns-3 : tie.Need-returns-3
+returns-3 c = assign-stores _ _ _ _ _ _ _ _ _ _ (c .before .before .before .before .before .before .before .before .before .before .before .before .before .before .before .before .before .before .reference .ensures) _ _ _ (c .before .before .before .before .before .before .before .before .before .before .before .before .before .before .n .given .1) (c .before .before .before .before .before .before .before .before .before .before .before .pass .ensures) (omega arith) _ (c .before .before .before .before .before .before .before .before .before .before .before .before .before .before .before .before .before .before .before .before .before .target-of .ensures) (c .before .before .before .before .before .before .before .before .before .before .before .before .before .before .before .before .before .before .before .before .assigned-rank .ensures) _ _ (c .before .before .before .before .before .before .before .before .summand .ensures) (c .before .before .before .before .before .before .before .before .before .before .before .before .before .before .before .before .before .before .before .before .before .before .before .before .pre .2) (c .before .before .before .before .before .before .before .before .summand .kept .1 .1 .1 .1 .1 .1 .0 ∙ c .before .before .before .before .before .before .before .before .before .before .before .before .before .before .before .before .before .before .reference .kept .1 .1 .1 .1 .1 .0) (c .before .before .before .before .enum-told .given .1) (c .before .before .storing .ensures)
+
+same-length-4 : tie.Need-same-length-4
+same-length-4 c = search needs
+
+returns-4 : tie.Need-returns-4
+returns-4 c = assign-unread _ _ _ _ _ _ _ _ _ _ (c .before .before .before .before .reference .ensures) (c .enum-told2 .given .1) refl
+
+pub assignment-spec : {M : Type 1} → statement M
+assignment-spec =
+    tie.close
+    (tie.spec
+    target-of-requires
+    assigned-rank-requires
+    reference-requires
+    enum-known-n
+    slice-aggregate-pass
+    pass-requires
+    same-length
+    returns
+    summand-requires
+    enum-known-a
+    updating-requires
+    enum-told
+    storing-requires
+    enum-told-2
+    same-length-2
+    returns-2
+    same-length-3
+    returns-3
+    same-length-4
+    returns-4)

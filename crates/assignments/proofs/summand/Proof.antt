@@ -1,0 +1,110 @@
+-- `assignments::summand` meets its contract: what is emitted lies after the place.
+use mathlib.Core.Path.{refl}
+use Prim.Native.Nat.{_-_, _*_, _≤_}
+use lib.ListN.{length}
+use native.Mathlib.Omega.{arith}
+use borrow.Author.Needs.{needs}
+use borrow.Author.Tests.{not-true, not-false}
+use borrow.Rule.Slice.PartMut.{take-put}
+use Rattle.parts.proofs.Spans.{within-done}
+use Rattle.assignments.proofs.Assigned.{summands-none, summands-unread, summands-unadded, summands-other, summands-found}
+use Rattle.assignments.proofs.summand.Statement.{statement}
+use Rattle.assignments.proofs.summand.Tie as tie
+
+returns : tie.Need-returns
+returns c = summands-none _ _ _ _ _ _ _ _ _ refl (not-true _ (c .if1 .taken))
+
+mul-i : tie.Need-mul-i
+mul-i c = search needs
+
+mul-reference : tie.Need-mul-reference
+mul-reference c = search needs
+
+sub-reference : tie.Need-sub-reference
+sub-reference c = search needs
+
+part-reference-start : tie.Need-part-reference-start
+part-reference-start c = search needs
+
+part-reference-end : tie.Need-part-reference-end
+part-reference-end c = search needs
+
+reference-requires : tie.Need-reference-requires
+reference-requires c κs = search needs
+
+enum-known-to : tie.Need-enum-known-to
+enum-known-to c = search needs
+
+slice-aggregate-pass : tie.Need-slice-aggregate-pass
+slice-aggregate-pass c = search needs
+
+pass-requires : tie.Need-pass-requires
+pass-requires c κs = search needs
+
+same-length : tie.Need-same-length
+same-length c = search needs
+
+returns-2 : tie.Need-returns-2
+returns-2 c =
+    let room : 2 * c .before .before .before .before .before .before .before .before .before .before .before .before .before .args .place ≤ length (c .before .before .before .before .before .before .before .before .before .before .before .before .before .args .code .now) = omega (arith, c .before .before .before .before .before .before .before .before .before .before .before .before .before .pre .0 .room) in
+    let w = within-done _ _ _ _ _ _ _ _ (c .before .before .before .before .before .before .before .before .reference .ensures .within) (c .before .before .before .before .to .given .1) in
+    summands-unadded _ _ _ _ _ _ _ _ _ (take-put (2 * c .before .before .before .before .before .before .before .before .before .before .before .before .before .args .place) (length (c .before .before .before .before .before .before .before .before .before .before .before .before .before .args .code .now) - 2 * c .before .before .before .before .before .before .before .before .before .before .before .before .before .args .place) (c .before .before .before .before .before .before .before .before .before .before .before .before .before .args .code .now) (c .before .before .before .before .before .before .before .before .reference .last .1 .1 .1 .1 .1 .0) room) _ _ _ _ (c .before .before .before .before .before .before .before .before .reference .ensures) _ _ _ (c .before .before .before .before .to .given .1) (c .before .pass .ensures) (w .1) (omega arith)
+
+alike-requires : tie.Need-alike-requires
+alike-requires c κs =
+    let w = within-done _ _ _ _ _ _ _ _ (c .before .before .before .before .before .before .before .before .reference .ensures .within) (c .before .before .before .before .to .given .1) in
+    (c .before .before .before .before .before .before .before .before .before .before .before .before .before .pre .1 .0, c .before .before .before .before .before .before .before .before .before .before .before .before .before .pre .0 .inside, w .1)
+
+same-length-2 : tie.Need-same-length-2
+same-length-2 c = search needs
+
+returns-3 : tie.Need-returns-3
+returns-3 c =
+    let room : 2 * c .before .before .before .before .before .before .before .before .before .before .before .before .before .before .before .args .place ≤ length (c .before .before .before .before .before .before .before .before .before .before .before .before .before .before .before .args .code .now) = omega (arith, c .before .before .before .before .before .before .before .before .before .before .before .before .before .before .before .pre .0 .room) in
+    let w = within-done _ _ _ _ _ _ _ _ (c .before .before .before .before .before .before .before .before .before .before .reference .ensures .within) (c .before .before .before .before .before .before .to .given .1) in
+    summands-other _ _ _ _ _ _ _ _ _ (take-put (2 * c .before .before .before .before .before .before .before .before .before .before .before .before .before .before .before .args .place) (length (c .before .before .before .before .before .before .before .before .before .before .before .before .before .before .before .args .code .now) - 2 * c .before .before .before .before .before .before .before .before .before .before .before .before .before .before .before .args .place) (c .before .before .before .before .before .before .before .before .before .before .before .before .before .before .before .args .code .now) (c .before .before .before .before .before .before .before .before .before .before .reference .last .1 .1 .1 .1 .1 .0) room) _ _ _ _ (c .before .before .before .before .before .before .before .before .before .before .reference .ensures) _ _ _ (c .before .before .before .before .before .before .to .given .1) (c .before .before .before .pass .ensures) (w .1) (c .before .alike .ensures) (not-true _ (c .if3 .taken))
+
+enum-told : tie.Need-enum-told
+enum-told c = search needs
+
+same-length-3 : tie.Need-same-length-3
+same-length-3 c = search needs
+
+returns-4 : tie.Need-returns-4
+returns-4 c =
+    let room : 2 * c .before .before .before .before .before .before .before .before .before .before .before .before .before .before .before .args .place ≤ length (c .before .before .before .before .before .before .before .before .before .before .before .before .before .before .before .args .code .now) = omega (arith, c .before .before .before .before .before .before .before .before .before .before .before .before .before .before .before .pre .0 .room) in
+    let w = within-done _ _ _ _ _ _ _ _ (c .before .before .before .before .before .before .before .before .before .before .reference .ensures .within) (c .before .before .before .before .before .before .to .given .1) in
+    summands-found _ _ _ _ _ _ _ _ _ (take-put (2 * c .before .before .before .before .before .before .before .before .before .before .before .before .before .before .before .args .place) (length (c .before .before .before .before .before .before .before .before .before .before .before .before .before .before .before .args .code .now) - 2 * c .before .before .before .before .before .before .before .before .before .before .before .before .before .before .before .args .place) (c .before .before .before .before .before .before .before .before .before .before .before .before .before .before .before .args .code .now) (c .before .before .before .before .before .before .before .before .before .before .reference .last .1 .1 .1 .1 .1 .0) room) _ _ _ _ (c .before .before .before .before .before .before .before .before .before .before .reference .ensures) _ _ _ (c .before .before .before .before .before .before .to .given .1) (c .before .before .before .pass .ensures) (w .1) (c .before .alike .ensures) (not-false _ (c .before .before .before .before .before .before .before .before .before .before .before .before .if1 .left)) (not-false _ (c .if3 .left)) (omega arith)
+
+same-length-4 : tie.Need-same-length-4
+same-length-4 c = search needs
+
+returns-5 : tie.Need-returns-5
+returns-5 c =
+    let room : 2 * c .before .before .before .before .before .before .before .before .before .args .place ≤ length (c .before .before .before .before .before .before .before .before .before .args .code .now) = omega (arith, c .before .before .before .before .before .before .before .before .before .pre .0 .room) in
+    summands-unread _ _ _ _ _ _ _ _ _ (take-put (2 * c .before .before .before .before .before .before .before .before .before .args .place) (length (c .before .before .before .before .before .before .before .before .before .args .code .now) - 2 * c .before .before .before .before .before .before .before .before .before .args .place) (c .before .before .before .before .before .before .before .before .before .args .code .now) (c .before .before .before .before .reference .last .1 .1 .1 .1 .1 .0) room) _ _ _ _ (c .before .before .before .before .reference .ensures) (c .enum-told .given .1)
+
+pub summand-spec : {M : Type 1} → statement M
+summand-spec =
+    tie.close
+    (tie.spec
+    returns
+    mul-i
+    mul-reference
+    sub-reference
+    part-reference-start
+    part-reference-end
+    reference-requires
+    enum-known-to
+    slice-aggregate-pass
+    pass-requires
+    same-length
+    returns-2
+    alike-requires
+    same-length-2
+    returns-3
+    enum-told
+    same-length-3
+    returns-4
+    same-length-4
+    returns-5)

@@ -1,0 +1,74 @@
+-- `assignments::target_of` meets its contract.
+use mathlib.Core.Path.{_∙_, ap}
+use native.Mathlib.Omega.{arith}
+use lib.ListN.{length, drop}
+use borrow.Author.Needs.{needs}
+use Rattle.lexer.proofs.Said.{name-short}
+use Rattle.assignments.proofs.Assigned.{targets-none, targets-some}
+use Rattle.assignments.proofs.target_of.Statement.{statement}
+use Rattle.assignments.proofs.target_of.Tie as tie
+
+token-requires : tie.Need-token-requires
+token-requires c κs = search needs
+
+token-requires-2 : tie.Need-token-requires-2
+token-requires-2 c κs = search needs
+
+slice-aggregate-reads : tie.Need-slice-aggregate-reads
+slice-aggregate-reads c = search needs
+
+reads-requires : tie.Need-reads-requires
+reads-requires c κs = search needs
+
+returns : tie.Need-returns
+returns c = targets-none _ _ (c .before .before .before .before .token .ensures) (c .before .before .before .token2 .ensures) (c .before .reads .ensures) (c .if1 .taken)
+
+sub-find : tie.Need-sub-find
+sub-find c = search needs
+
+part-find-start : tie.Need-part-find-start
+part-find-start c = search needs
+
+part-find-end : tie.Need-part-find-end
+part-find-end c = search needs
+
+find-requires : tie.Need-find-requires
+find-requires c κs = omega (arith, name-short (drop 0 (c .before .before .before .before .before .before .before .args .s .now)) (c .before .before .before .before .before .token .ensures .kinds ∙ c .before .if1 .left), ap length (c .before .before .before .before .before .token .ensures .bytes))
+
+sub-is-named : tie.Need-sub-is-named
+sub-is-named c = search needs
+
+part-is-named-start : tie.Need-part-is-named-start
+part-is-named-start c = search needs
+
+part-is-named-end : tie.Need-part-is-named-end
+part-is-named-end c = search needs
+
+is-named-requires : tie.Need-is-named-requires
+is-named-requires c κs = (omega arith, omega (arith, name-short (drop 0 (c .before .before .before .before .before .before .before .before .before .before .args .s .now)) (c .before .before .before .before .before .before .before .before .token .ensures .kinds ∙ c .before .before .before .before .if1 .left), ap length (c .before .before .before .before .before .before .before .before .token .ensures .bytes)))
+
+operand-of-requires : tie.Need-operand-of-requires
+operand-of-requires c κs = search needs
+
+returns-2 : tie.Need-returns-2
+returns-2 c = targets-some _ _ (c .before .before .before .before .before .before .before .before .before .before .token .ensures) (c .before .before .before .before .before .before .before .before .before .token2 .ensures) (c .before .before .before .before .before .before .before .reads .ensures) (c .before .before .before .before .find .result) _ _ (c .before .before .before .before .find .ensures .1) (c .before .is-named .ensures) (c .operand-of .ensures)
+
+pub target-of-spec : {M : Type 1} → statement M
+target-of-spec =
+    tie.close
+    (tie.spec
+    token-requires
+    token-requires-2
+    slice-aggregate-reads
+    reads-requires
+    returns
+    sub-find
+    part-find-start
+    part-find-end
+    find-requires
+    sub-is-named
+    part-is-named-start
+    part-is-named-end
+    is-named-requires
+    operand-of-requires
+    returns-2)

@@ -1,0 +1,2 @@
+-- The name that is assigned, updates and writes.
+pub mod Assignment

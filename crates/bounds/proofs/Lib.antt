@@ -1,0 +1,2 @@
+-- The `do` line.
+pub mod DoLines

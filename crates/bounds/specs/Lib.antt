@@ -1,0 +1,2 @@
+-- What the `do` line makes known.
+pub mod DoLine

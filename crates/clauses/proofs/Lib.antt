@@ -1,0 +1,2 @@
+-- Clauses and the directive.
+pub mod ClauseLines

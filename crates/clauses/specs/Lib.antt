@@ -1,0 +1,2 @@
+-- What the directive makes known.
+pub mod Directive

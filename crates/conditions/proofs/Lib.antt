@@ -1,0 +1,2 @@
+-- Relations, comparisons and conditions.
+pub mod Comparisons

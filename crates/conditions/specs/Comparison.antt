@@ -1,0 +1,50 @@
+-- A relation and the right side of a condition.
+use mathlib.Core.Path.{_≡_}
+use mathlib.Core.Bool.{true, false}
+use mathlib.Core.List.{List, [], _∷_, _++_}
+use mathlib.Core.Option.{Option, none, some}
+use Prim.Native.Nat.{ℕ, _≤_}
+use lib.ListN.{drop}
+use Rattle.int32.specs.declared.Relation.{Relation}
+use Rattle.syntax.specs.Grammar.{Expr}
+use Rattle.syntax.specs.Known.{Entry}
+use Rattle.syntax.specs.Conditions.{Mention, mentions}
+use Rattle.syntax.specs.Reader.{Reader, _>>=_, _>>_, yield, relOf, says, expects, wants, peek-in, skip-in, readRel, readExpr}
+use Rattle.code.specs.Instr.{Instr, jump-unless, relation-number}
+use Rattle.code.specs.Compile.{code}
+use Rattle.parts.specs.Parts.{Passes}
+use Rattle.parts.specs.declared.Got.{Got}
+use Rattle.parts.specs.declared.Got.the-variants.{Broken, Done}
+use Rattle.conditions.specs.declared.Compared.{Compared}
+
+-- the number of a relation; 6 where there is none
+abbrev pub numberOf : Option Relation → ℕ
+numberOf none = 6
+numberOf (some r) = relation-number r
+
+-- which relation stands at a place, and the place after it
+pub record Relates (s : List ℕ) (at : ℕ) (r : Compared) : Type 0 where
+  pub number : r .number ≡ numberOf (relOf (peek-in (drop at s)))
+  pub next : r .number ≤ 5 → Passes 1 s at (r .next)
+
+-- the word `then` after what was read
+pub data Then (s : List ℕ) : Got → Got → Type 0 where
+  unread : Then s Broken Broken
+  other : {n p d : ℕ} → says peek-in skip-in "then" (drop n s) ≡ false → Then s (Done n p d) Broken
+  ends : {n n′ p d : ℕ} → says peek-in skip-in "then" (drop n s) ≡ true → Passes 1 s n n′ → Then s (Done n p d) (Done n′ p d)
+
+-- what follows the left side of a condition
+abbrev pub readCompared : ℕ → Reader (List ℕ) (Relation × Expr)
+readCompared f = do
+  r ← readRel peek-in skip-in
+  b ← readExpr peek-in skip-in f
+  expects peek-in skip-in ")"
+  wants peek-in skip-in "then"
+  yield (r, b)
+
+-- its instructions, and what it mentions
+abbrev pub codeCompared : ℕ → List Entry → List ℕ → Relation × Expr → List Instr
+codeCompared line t v c = code t v line (c .1) ++ (jump-unless (c .0) 0 ∷ [])
+
+abbrev pub inCompared : Relation × Expr → List Mention
+inCompared c = mentions 0 (c .1)

@@ -1,0 +1,2 @@
+-- Relations and comparisons.
+pub mod Comparison

@@ -1,0 +1,2 @@
+-- `integer` lines.
+pub mod IntegerLines

@@ -1,0 +1,2 @@
+-- What an `integer` line makes known.
+pub mod Integer

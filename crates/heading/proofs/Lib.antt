@@ -1,0 +1,3 @@
+-- Lists of parts and ranks; literals.
+pub mod Lists
+pub mod Literals

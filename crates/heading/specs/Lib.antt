@@ -1,0 +1,2 @@
+-- Lists of parts, and ranks.
+pub mod Lists

@@ -1,0 +1,150 @@
+-- What the functions below the readers answer: tokens passed over, signs, how a factor begins, and instructions emitted after what was read.
+use mathlib.Core.Path.{_≡_}
+use mathlib.Core.Bool.{Bool, true, false, cond, _&&_, not}
+use mathlib.Core.List.{List, [], _∷_}
+use Prim.Native.Nat.{ℕ, zero, suc, _+_, _*_, _≤_, min, max}
+use lib.Dec.{leb, eqb}
+use lib.ListN.{length, drop}
+use lib.Seq.{sets}
+use Rattle.syntax.specs.Bytes.{letter, digit, same, sign}
+use Rattle.syntax.specs.Grammar.{number}
+use Rattle.syntax.specs.Known.{Entry, find}
+use Rattle.syntax.specs.Conditions.{refers, digits, small}
+use Rattle.syntax.specs.Reader.{done, is, kind, text, sees, says, isDigits, peek-in, skip-in}
+use Rattle.code.specs.Instr.{Instr, push, push-v, load, load-at, operation, argument}
+use Rattle.names.specs.Table.{variableOf, Tabled}
+use Rattle.parts.specs.Answer.{rank-of, Reads, Within}
+use Rattle.parts.specs.declared.Got.{Got}
+use Rattle.parts.specs.declared.Got.the-variants.{Broken, Done}
+use Rattle.parts.specs.declared.Seen.{Seen}
+use Rattle.parts.specs.declared.Words.{Words}
+
+-- ---- tokens
+
+-- the kind and the bytes of the token at a place
+abbrev pub kindAt : List ℕ → ℕ → ℕ
+kindAt s at = kind (peek-in (drop at s))
+
+abbrev pub textAt : List ℕ → ℕ → List ℕ
+textAt s at = text (peek-in (drop at s))
+
+-- what is left after k tokens
+abbrev pub skipped : ℕ → List ℕ → List ℕ
+skipped zero u = u
+skipped (suc k) u = skipped k (skip-in u)
+
+-- k tokens lie between two places
+pub record Passes (k : ℕ) (s : List ℕ) (at next : ℕ) : Type 0 where
+  pub left : drop next s ≡ skipped k (drop at s)
+  pub from : at + k ≤ next
+  pub within : next ≤ length s
+
+-- a byte that begins neither a word nor digits
+abbrev pub Sign : ℕ → Type 0
+Sign c = not (letter c) && not (digit c) ≡ true
+
+-- the sign c stands there
+abbrev pub stands : ℕ → List ℕ → Bool
+stands c u = is (sign (c ∷ [])) (peek-in u)
+
+-- 1 the first of two, 2 the second, 0 neither
+abbrev pub either : Bool → Bool → ℕ
+either p q = cond p 1 (cond q 2 0)
+
+-- which of two signs stands at a place; the place after it, or the place itself
+pub record Joins (a b : ℕ) (s : List ℕ) (at : ℕ) (r : Seen) : Type 0 where
+  pub what : r .what ≡ either (stands a (drop at s)) (stands b (drop at s))
+  pub next : Passes (min (r .what) 1) s at (r .next)
+
+-- how a factor begins: 1 a literal, 2 a bracket, 3 rdiv and a bracket, 4 a name, 5 a name and a bracket, 0 none of these
+abbrev pub begins : List ℕ → ℕ
+begins u =
+    cond (isDigits peek-in skip-in u) 1
+    (cond (sees peek-in skip-in "(" u) 2
+    (cond (says peek-in skip-in "rdiv" u)
+    (cond (sees peek-in skip-in "(" (skip-in u)) 3 0)
+    (cond (eqb (kind (peek-in u)) 1) (cond (sees peek-in skip-in "(" (skip-in u)) 5 4) 0)))
+
+-- with how many tokens
+abbrev pub begun : ℕ → ℕ
+begun zero = 0
+begun (suc zero) = 1
+begun (suc (suc zero)) = 1
+begun (suc (suc (suc zero))) = 2
+begun (suc (suc (suc (suc zero)))) = 1
+begun (suc (suc (suc (suc (suc n))))) = 2
+
+pub record Begins (s : List ℕ) (at : ℕ) (r : Seen) : Type 0 where
+  pub what : r .what ≡ begins (drop at s)
+  pub next : Passes (begun (r .what)) s at (r .next)
+
+-- the place after what was read lies in the line
+unfoldable pub Inside : List ℕ → Got → Type 0
+Inside s Broken = Unit {0}
+Inside s (Done n p d) = n ≤ length s
+
+-- the sign c after what was read
+pub data Sealed (c : ℕ) (s : List ℕ) : Got → Got → Type 0 where
+  unread : Sealed c s Broken Broken
+  other : {n p d : ℕ} → stands c (drop n s) ≡ false → Sealed c s (Done n p d) Broken
+  closes : {n n′ p d : ℕ} → stands c (drop n s) ≡ true → Passes 1 s n n′ → Sealed c s (Done n p d) (Done n′ p d)
+
+-- ---- names
+
+-- r is the rank of a name, with a subscript or without
+abbrev pub Ranks : List ℕ → List ℕ → Bool → ℕ → Type 0
+Ranks T w b r = (t : List Entry) → Tabled T t → r ≡ rank-of t (variableOf T) (refers w b)
+
+-- r is the highest rank with it
+abbrev pub Ranked : List ℕ → List ℕ → Bool → ℕ → ℕ → Type 0
+Ranked T w b most r = (t : List Entry) → Tabled T t → r ≡ max most (rank-of t (variableOf T) (refers w b))
+
+-- the instruction that reads the cell of a name, with a subscript or without
+abbrev pub readsOf : List Entry → List ℕ → ℕ → List ℕ → Bool → Instr
+readsOf t v line x b = cond b (load-at (find x t .first) (find x t .size) line) (cond (same x v) push-v (load (find x t .first)))
+
+-- w are the words of that instruction
+abbrev pub Worded : List ℕ → ℕ → List ℕ → Bool → Words → Type 0
+Worded T line x b w = (t : List Entry) → Tabled T t → (w .operation ≡ operation (readsOf t (variableOf T) line x b)) × (w .argument ≡ argument (readsOf t (variableOf T) line x b))
+
+-- a first cell and a length in one argument, where both are within the limits
+abbrev pub spanOf : ℕ → ℕ → ℕ
+spanOf first size = cond (leb first 4096 && leb size 4096) (first + 4096 * size) 0
+
+-- ---- instructions after what was read
+
+-- there is room for k instructions after what was read
+unfoldable pub Room : ℕ → Got → List ℕ → Type 0
+Room k Broken code = Unit {0}
+Room k (Done n p d) code = 2 * (p + k) ≤ length code
+
+-- k instructions with these words after what was read
+unfoldable pub Emits : ℕ → List ℕ → Got → List ℕ → List ℕ → Got → Type 0
+Emits k ws Broken before after r = r ≡ Broken
+Emits k ws (Done n p d) before after r = (r ≡ Done n (p + k) d) × (after ≡ sets before (2 * p) ws)
+
+-- the read of the name at a place, after what was read
+pub record Fetches (T s : List ℕ) (at line : ℕ) (b : Bool) (g : Got) (before after : List ℕ) (r : Got) : Type 0 where
+  pub words : Words
+  pub right : Worded T line (textAt s at) b words
+  pub emits : Emits 1 (words .operation ∷ words .argument ∷ []) g before after r
+
+-- ---- factors of one token
+
+-- the instruction of a literal, and its rank
+abbrev pub pushes : List ℕ → List Instr
+pushes d = push (min (number d) 2147483648) ∷ []
+
+abbrev pub literalRank : List ℕ → ℕ
+literalRank d = cond (small (digits d)) 0 1
+
+-- a literal at a place
+pub record Pushes (s : List ℕ) (at place most : ℕ) (before after : List ℕ) (r : Got) : Type 0 where
+  pub reads : Reads pushes literalRank s (done (textAt s at) (skip-in (drop at s))) place most before after r
+  pub within : Within s at place (suc at) r
+
+-- a name without a subscript at a place
+pub record Loads (T s : List ℕ) (at line place most : ℕ) (before after : List ℕ) (r : Got) : Type 0 where
+  pub reads : (t : List Entry) → Tabled T t
+      → Reads (λ x. readsOf t (variableOf T) line x false ∷ []) (λ x. rank-of t (variableOf T) (refers x false)) s (done (textAt s at) (skip-in (drop at s))) place most before after r
+  pub within : Within s at place (suc at) r

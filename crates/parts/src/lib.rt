@@ -1,0 +1,381 @@
+// The steps of the readers of expressions that call no reader: ranks, signs, the instructions that are emitted, and factors of one token.
+ghost use mathlib.Core.Path.{_≡_};
+ghost use mathlib.Core.List.{[], _∷_};
+ghost use mathlib.Core.Bool.{cond};
+ghost use Prim.Native.Nat.{suc, _≤_, _+_, _*_, max};
+ghost use lib.Dec.{eqb, leb};
+ghost use lib.ListN.{length, set};
+ghost use Rattle.syntax.specs.Bytes.{same};
+ghost use Rattle.code.specs.Instr.{add, subtract, multiply, divide, operation as operationOf, words};
+ghost use Rattle.code.specs.Compile.{codeLead};
+ghost use Rattle.lexer.specs.Lex.{part};
+ghost use Rattle.lexer.specs.Places.{leadOf};
+ghost use Rattle.parts.specs.Parts.{kindAt, textAt, Sign, Joins, Begins, Inside, Sealed, Ranks, Ranked, Worded, spanOf, Room, Emits, Fetches, Pushes, Loads};
+ghost use Rattle.names.specs.Table.{nameWords};
+use code::ADD;
+use code::DIVIDE;
+use code::LINE;
+use code::LOAD;
+use code::LOAD_AT;
+use code::MULTIPLY;
+use code::NEGATE;
+use code::PUSH;
+use code::PUSH_V;
+use code::SUBTRACT;
+use lexer::Tok;
+use lexer::literal;
+use lexer::reads;
+use lexer::token;
+use names::Table;
+use names::VARIABLE;
+use names::find;
+use names::is_named;
+
+// What a reader answers: the next place of the line and of the code, and the highest rank so far (0 in order, 1 over a limit, 2 a wrong name).
+pub enum Got {
+    Broken,
+    Done { at: usize, place: usize, rank: u32 },
+}
+
+// What stands at a place, by a number, and the place after it.
+pub struct Seen {
+    pub what: u32,
+    pub next: usize,
+}
+
+// The two words of an instruction.
+struct Words {
+    operation: u32,
+    argument: u32,
+}
+
+// ---- ranks
+
+fn larger(a: u32, b: u32) -> u32
+    ensures { λ r. ⌜ r ≡ max a b ⌝ }
+{
+    if a < b { b } else { a }
+}
+
+// The highest rank, once as many brackets are open together.
+pub fn opened(rank: u32, depth: usize) -> u32
+    ensures { λ r. ⌜ r ≡ max rank (cond (leb depth 8) 0 1) ⌝ }
+{
+    if depth <= 8 { rank } else { larger(rank, 1) }
+}
+
+// The rank of a literal.
+fn literal_rank(n: u32) -> u32
+    ensures { λ r. ⌜ r ≡ cond (leb n 2147483647) 0 1 ⌝ }
+{
+    if n <= 2147483647 { 0 } else { 1 }
+}
+
+// The rank of a name, with a subscript or without.
+fn name_rank(table: &Table, w: &[u8], subscript: bool) -> u32
+    requires { ⌜ length (now w) ≤ nameWords ⌝ }
+    ensures { λ r. ⌜ Ranks (now (table .entry)) (now (w .entry)) subscript r ⌝ }
+{
+    if is_named(table, VARIABLE, w) {
+        return if subscript { 2 } else { 0 };
+    }
+    let n = find(table, w);
+    if !n.known {
+        return 2;
+    }
+    if n.subscripted {
+        if subscript { 0 } else { 2 }
+    } else {
+        if subscript { 2 } else { 0 }
+    }
+}
+
+// The highest rank, with that of the name at a place.
+pub fn named(s: &[u8], at: usize, rank: u32, table: &Table, subscript: bool) -> u32
+    requires { ⌜ (at ≤ length (now s)) × (kindAt (now s) at ≡ 1) ⌝ }
+    ensures { λ r. ⌜ Ranked (now (table .entry)) (textAt (now (s .entry)) at) subscript rank r ⌝ }
+{
+    let t = token(s, at);
+    let a = t.start;
+    let e = t.stop;
+    larger(rank, name_rank(table, &s[a..e], subscript))
+}
+
+// ---- signs
+
+// Whether a token is this sign, of one byte.
+fn is_sign(s: &[u8], t: Tok, c: u8) -> bool
+    requires { ⌜ (t .start ≤ t .stop) × (t .stop ≤ length (now s)) ⌝ }
+    ensures { λ r. ⌜ r ≡ same (c ∷ []) (part (now (s .entry)) (t .start) (t .stop)) ⌝ }
+{
+    let a = t.start;
+    let e = t.stop;
+    if e - a != 1 {
+        return false;
+    }
+    c == s[a]
+}
+
+// Which of two signs stands at a place: 1 the first, 2 the second, 0 neither.
+pub fn join(s: &[u8], at: usize, a: u8, b: u8) -> Seen
+    requires { ⌜ (at ≤ length (now s)) × Sign a × Sign b ⌝ }
+    ensures { λ r. ⌜ Joins a b (now (s .entry)) at r ⌝ }
+{
+    let t = token(s, at);
+    let stop = t.stop;
+    if is_sign(s, t, a) {
+        return Seen {
+            what: 1,
+            next: stop,
+        };
+    }
+    if is_sign(s, t, b) {
+        return Seen {
+            what: 2,
+            next: stop,
+        };
+    }
+    Seen { what: 0, next: at }
+}
+
+// How a factor begins: 1 a literal, 2 a bracket, 3 rdiv and a bracket, 4 a name, 5 a name and a bracket, 0 none of these.
+pub fn begin(s: &[u8], at: usize) -> Seen
+    requires { ⌜ at ≤ length (now s) ⌝ }
+    ensures { λ r. ⌜ Begins (now (s .entry)) at r ⌝ }
+{
+    let t = token(s, at);
+    let k = t.kind;
+    let stop = t.stop;
+    if k == 3 {
+        return Seen {
+            what: 1,
+            next: stop,
+        };
+    }
+    if is_sign(s, t, b'(') {
+        return Seen {
+            what: 2,
+            next: stop,
+        };
+    }
+    let u = token(s, stop);
+    let past = u.stop;
+    let open = is_sign(s, u, b'(');
+    if reads(s, t, b"rdiv") {
+        if open {
+            return Seen {
+                what: 3,
+                next: past,
+            };
+        }
+        return Seen { what: 0, next: at };
+    }
+    if k == 1 {
+        if open {
+            return Seen {
+                what: 5,
+                next: past,
+            };
+        }
+        return Seen {
+            what: 4,
+            next: stop,
+        };
+    }
+    Seen { what: 0, next: at }
+}
+
+// Reads a sign after what was read.
+pub fn expect(s: &[u8], g: Got, c: u8) -> Got
+    requires { ⌜ Inside (now s) g × Sign c ⌝ }
+    ensures { λ r. ⌜ Sealed c (now (s .entry)) g r ⌝ }
+{
+    match g {
+        Got::Done { at, place, rank } => {
+            let t = token(s, at);
+            let stop = t.stop;
+            if is_sign(s, t, c) {
+                Got::Done {
+                    at: stop,
+                    place,
+                    rank,
+                }
+            } else {
+                Got::Broken
+            }
+        }
+        Got::Broken => Got::Broken,
+    }
+}
+
+// ---- instructions
+
+// Writes an instruction's two words.
+pub fn emit(code: &mut [u32], place: usize, operation: u32, argument: u32)
+    requires { ⌜ 2 * (place + 1) ≤ length (now code) ⌝ }
+    ensures { λ _. ⌜ now (code .exit) ≡ set (set (now (code .entry)) (2 * place) operation) (suc (2 * place)) argument ⌝ }
+{
+    let i = 2 * place;
+    code[i] = operation;
+    code[i + 1] = argument;
+}
+
+// Writes an instruction after what was read.
+pub fn then_emit(g: Got, code: &mut [u32], operation: u32, argument: u32) -> Got
+    requires { ⌜ Room 1 g (now code) ⌝ }
+    ensures { λ r. ⌜ Emits 1 (operation ∷ argument ∷ []) g (now (code .entry)) (now (code .exit)) r ⌝ }
+{
+    match g {
+        Got::Done { at, place, rank } => {
+            emit(code, place, operation, argument);
+            Got::Done {
+                at,
+                place: place + 1,
+                rank,
+            }
+        }
+        Got::Broken => Got::Broken,
+    }
+}
+
+// Writes the instruction of a leading minus (2) after what was read.
+pub fn then_negate(g: Got, code: &mut [u32], sign: u32) -> Got
+    requires { ⌜ Room (length (codeLead (leadOf sign))) g (now code) ⌝ }
+    ensures { λ r. ⌜ Emits (length (codeLead (leadOf sign))) (words (codeLead (leadOf sign))) g (now (code .entry)) (now (code .exit)) r ⌝ }
+{
+    if sign < 2 {
+        return g;
+    }
+    then_emit(g, code, NEGATE, 0)
+}
+
+// The operation of a further term, after + (1) or - (2).
+pub fn term_operation(sign: u32) -> u32
+    ensures { λ r. ⌜ r ≡ cond (eqb sign 1) (operationOf add) (operationOf subtract) ⌝ }
+{
+    if sign == 1 { ADD } else { SUBTRACT }
+}
+
+// The operation of a further factor, after * (1) or / (2).
+pub fn factor_operation(sign: u32, line: u32) -> u32
+    requires { ⌜ line ≤ 2049 ⌝ }
+    ensures { λ r. ⌜ r ≡ cond (eqb sign 1) (operationOf multiply) (operationOf (divide line)) ⌝ }
+{
+    let over = DIVIDE + LINE * line;
+    if sign == 1 { MULTIPLY } else { over }
+}
+
+// A first cell and a length in one argument. A table of names within the limits has no others.
+pub fn span(first: u32, size: u32) -> u32
+    ensures { λ r. ⌜ r ≡ spanOf first size ⌝ }
+{
+    if 4096 < first {
+        return 0;
+    }
+    if 4096 < size {
+        return 0;
+    }
+    first + 4096 * size
+}
+
+// The instruction that reads the cell of a name, with a subscript or without.
+fn read_of(table: &Table, w: &[u8], line: u32, subscript: bool) -> Words
+    requires { ⌜ (length (now w) ≤ nameWords) × (line ≤ 2049) ⌝ }
+    ensures { λ r. ⌜ Worded (now (table .entry)) line (now (w .entry)) subscript r ⌝ }
+{
+    let n = find(table, w);
+    let first = n.first;
+    let size = n.size;
+    if subscript {
+        return Words {
+            operation: LOAD_AT + LINE * line,
+            argument: span(first, size),
+        };
+    }
+    if is_named(table, VARIABLE, w) {
+        return Words {
+            operation: PUSH_V,
+            argument: 0,
+        };
+    }
+    Words {
+        operation: LOAD,
+        argument: first,
+    }
+}
+
+// Writes the read of the name at a place after what was read.
+pub fn then_read(
+    s: &[u8],
+    at: usize,
+    line: u32,
+    table: &Table,
+    code: &mut [u32],
+    g: Got,
+    subscript: bool,
+) -> Got
+    requires { ⌜ (at ≤ length (now s)) × (kindAt (now s) at ≡ 1) × (line ≤ 2049) × Room 1 g (now code) ⌝ }
+    ensures { λ r. ⌜ Fetches (now (table .entry)) (now (s .entry)) at line subscript g (now (code .entry)) (now (code .exit)) r ⌝ }
+{
+    let t = token(s, at);
+    let a = t.start;
+    let e = t.stop;
+    let i = read_of(table, &s[a..e], line, subscript);
+    let operation = i.operation;
+    let argument = i.argument;
+    then_emit(g, code, operation, argument)
+}
+
+// ---- factors of one token
+
+// A literal.
+pub fn constant(s: &[u8], at: usize, rank: u32, code: &mut [u32], place: usize) -> Got
+    requires { ⌜ (at ≤ length (now s)) × (kindAt (now s) at ≡ 3) × (2 * (place + 1) ≤ length (now code)) ⌝ }
+    ensures { λ r. ⌜ Pushes (now (s .entry)) at place rank (now (code .entry)) (now (code .exit)) r ⌝ }
+{
+    let t = token(s, at);
+    let stop = t.stop;
+    let n = literal(s, t);
+    let worse = larger(rank, literal_rank(n));
+    then_emit(
+        Got::Done {
+            at: stop,
+            place,
+            rank: worse,
+        },
+        code,
+        PUSH,
+        n,
+    )
+}
+
+// A name without a subscript.
+pub fn variable(
+    s: &[u8],
+    at: usize,
+    rank: u32,
+    line: u32,
+    table: &Table,
+    code: &mut [u32],
+    place: usize,
+) -> Got
+    requires { ⌜ (at ≤ length (now s)) × (kindAt (now s) at ≡ 1) × (line ≤ 2049) × (2 * (place + 1) ≤ length (now code)) ⌝ }
+    ensures { λ r. ⌜ Loads (now (table .entry)) (now (s .entry)) at line place rank (now (code .entry)) (now (code .exit)) r ⌝ }
+{
+    let t = token(s, at);
+    let stop = t.stop;
+    let worse = named(s, at, rank, table, false);
+    then_read(
+        s,
+        at,
+        line,
+        table,
+        code,
+        Got::Done {
+            at: stop,
+            place,
+            rank: worse,
+        },
+        false,
+    )
+}

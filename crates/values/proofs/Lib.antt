@@ -1,0 +1,2 @@
+-- `data` lines.
+pub mod DataLines

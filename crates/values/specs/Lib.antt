@@ -1,0 +1,2 @@
+-- What a `data` line makes known.
+pub mod Data
