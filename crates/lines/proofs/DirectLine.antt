@@ -28,7 +28,7 @@ use Rattle.clauses.specs.declared.Directed.{Directed}
 use Rattle.clauses.proofs.ClauseLines.{claim-names, claims-names, frees-known, frees-append}
 use Rattle.lines.specs.declared.Progress.{Progress}
 use Rattle.lines.specs.Progress.{Opened, Represents, numberOf, numbered, whole, Concludes, Numbers}
-use Rattle.lines.specs.Lines.{readOpening}
+use Rattle.kinds.specs.Directives.{readOpening}
 use Rattle.lines.proofs.Verdicts.{ending, concludes-lands, concludes-word, concludes-sign, number-by, numbered-zero, follows-most, good-order}
 use Rattle.lines.proofs.DeclareLine.{heading-code, implied}
 

@@ -23,7 +23,7 @@ use Rattle.code.proofs.Emitted.{emits-end-do, emits-close, Innermost, jump-at, 
 use Rattle.lexer.specs.Places.{Goes, Any, passes}
 use Rattle.lines.specs.declared.Progress.{Progress}
 use Rattle.lines.specs.Progress.{Opened, Represents, Underway, moved, numberOf, whole, Concludes, Numbers}
-use Rattle.lines.specs.Lines.{readClosing}
+use Rattle.kinds.specs.Directives.{readClosing}
 use Rattle.lines.proofs.Verdicts.{concludes-lands, concludes-word, concludes-sign}
 
 -- ---- what a line after `do` leaves

@@ -4,7 +4,7 @@ use Prim.Native.Nat.{ℕ}
 use Rattle.int32.specs.declared.Relation.{Relation}
 use Rattle.syntax.specs.Grammar.{Lead, Expr, Ref, Declared, Item, Clause, assign, when, Line, declare, give, direct, loop, inside}
 use Rattle.syntax.specs.Reader.{Parsed, broken, done, next, expects, wants, readName, readDigits, readRel, readLead, readExpr, readRef, readMore, readDeclared, readDeclare, readItem, readGive, readClauses, readLoop, readAssign, readWhen, peek-in, skip-in}
-use Rattle.lines.specs.Lines.{readOpening}
+use Rattle.kinds.specs.Directives.{readOpening}
 
 -- P holds of the line that is read
 abbrev pub Yields : (Line → Type 0) → Parsed (List ℕ) Line → Type 0

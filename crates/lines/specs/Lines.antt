@@ -7,8 +7,8 @@ use lib.ListN.{length, drop}
 use lib.IntN.{ℤ}
 use Rattle.syntax.specs.Known.{State, after}
 use Rattle.syntax.specs.Conditions.{follows}
-use Rattle.syntax.specs.Grammar.{Line, direct, close}
-use Rattle.syntax.specs.Reader.{Reader, done, _>>=_, _>>_, yield, expects, wants, readDigits, readClauses, peek-in, skip-in}
+use Rattle.syntax.specs.Grammar.{Line}
+use Rattle.syntax.specs.Reader.{Reader, done}
 use Rattle.syntax.proofs.Sane.{Sane}
 use Rattle.lines.specs.declared.Progress.{Progress}
 use Rattle.lines.specs.Progress.{Represents, numberOf, whole, Concludes}
@@ -18,28 +18,6 @@ abbrev pub Takes : (ℕ → Reader (List ℕ) Line) → ℕ → List ℕ → ℕ
 Takes read j s k p T I C O r T′ I′ C′ O′ =
     (st : State) → Represents p T I C O st → Sane st → follows (st .stage) j ≡ true → (f : ℕ) → 3 * length s + 4 ≤ f
     → Concludes (numberOf st) (λ l. Represents r T′ I′ C′ O′ (after k l st)) (whole (read f) s) (r .number)
-
--- the directive before the loop, and the one after it
-abbrev pub readOpening : ℕ → Reader (List ℕ) Line
-readOpening f = do
-  expects peek-in skip-in "!$omp"
-  wants peek-in skip-in "parallel"
-  wants peek-in skip-in "do"
-  a ← readClauses peek-in skip-in f
-  wants peek-in skip-in "num_threads"
-  expects peek-in skip-in "("
-  p ← readDigits peek-in skip-in
-  expects peek-in skip-in ")"
-  b ← readClauses peek-in skip-in f
-  yield (direct a p b)
-
-abbrev pub readClosing : ℕ → Reader (List ℕ) Line
-readClosing f = do
-  expects peek-in skip-in "!$omp"
-  wants peek-in skip-in "end"
-  wants peek-in skip-in "parallel"
-  wants peek-in skip-in "do"
-  yield close
 
 -- a line that is known by its first words, which end at a place
 abbrev pub reads : Line → ℕ → ℕ → Reader (List ℕ) Line

@@ -9,10 +9,11 @@ use Rattle.syntax.specs.Grammar.{otherwise, end-if, inside, end-do}
 use Rattle.syntax.specs.Reader.{readDeclare, readGive, readLoop, readAssign, readWhen, peek-in, skip-in}
 use Rattle.lines.specs.declared.Progress.{Progress}
 use Rattle.lines.specs.Progress.{Underway, Concludes}
-use Rattle.lines.specs.Lines.{Takes, readOpening, readClosing, reads}
-use Rattle.reader.specs.declared.Kind.{Kind}
-use Rattle.reader.specs.declared.Kind.the-variants.{Broken, Integer, Data, Opening, Loop, Assignment, If, Else, EndIf, EndDo, Closing}
-use Rattle.reader.specs.Kinds.{readBy, stageBy, Inside}
+use Rattle.lines.specs.Lines.{Takes, reads}
+use Rattle.kinds.specs.Directives.{readOpening, readClosing}
+use Rattle.kinds.specs.declared.Kind.{Kind}
+use Rattle.kinds.specs.declared.Kind.the-variants.{Broken, Integer, Data, Opening, Loop, Assignment, If, Else, EndIf, EndDo, Closing}
+use Rattle.kinds.specs.Kinds.{readBy, stageBy, Inside}
 use Rattle.reader.specs.Judged.{Lent}
 
 -- ---- the place after its first words

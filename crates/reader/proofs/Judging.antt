@@ -22,8 +22,8 @@ use Rattle.code.proofs.CodeLength.{line-length}
 use Rattle.lines.specs.declared.Progress.{Progress}
 use Rattle.lines.specs.Progress.{Represents, numberOf, whole, Concludes}
 use Rattle.lines.proofs.Yields.{Yields}
-use Rattle.reader.specs.declared.Kind.{Kind}
-use Rattle.reader.specs.Kinds.{readBy, stageBy, Kinds}
+use Rattle.kinds.specs.declared.Kind.{Kind}
+use Rattle.kinds.specs.Kinds.{readBy, stageBy, Kinds}
 use Rattle.reader.specs.Judged.{Judged}
 use Rattle.reader.proofs.Parses.{few-tokens, lineOf, parse-bytes, line-stage, line-by}
 

@@ -1,8 +1,5 @@
--- Whole lines, kinds, one line, and then all lines of a text.
-pub mod WholeLines
-pub mod Starts
+-- Each line by its kind, judged; the lines of a text; whole texts.
 pub mod Parses
-pub mod Order
 pub mod Dispatch
 pub mod Judging
 pub mod TextLines

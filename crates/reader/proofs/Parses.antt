@@ -14,11 +14,11 @@ use Rattle.syntax.specs.Reader.{Parsed, broken, done, next, finish, expects, wa
 use Rattle.syntax.proofs.Theorem.{line-exactly}
 use Rattle.syntax.proofs.Places.{bytes-sound, bytes-complete}
 use Rattle.lines.specs.Progress.{whole}
-use Rattle.lines.specs.Lines.{readClosing}
+use Rattle.kinds.specs.Directives.{readClosing}
 use Rattle.lines.proofs.Yields.{Yields, yields-declare, yields-give, yields-direct, yields-loop, yields-assign, yields-when}
-use Rattle.reader.specs.declared.Kind.{Kind}
-use Rattle.reader.specs.declared.Kind.the-variants.{Broken, Integer, Data, Opening, Loop, Assignment, If, Else, EndIf, EndDo, Closing}
-use Rattle.reader.specs.Kinds.{readBy, stageBy, Kinds}
+use Rattle.kinds.specs.declared.Kind.{Kind}
+use Rattle.kinds.specs.declared.Kind.the-variants.{Broken, Integer, Data, Opening, Loop, Assignment, If, Else, EndIf, EndDo, Closing}
+use Rattle.kinds.specs.Kinds.{readBy, stageBy, Kinds}
 
 -- ---- tokens and bytes
 

@@ -1,3 +1,2 @@
--- Kinds of lines, and the verdict on a line and on a text.
-pub mod Kinds
+-- A line judged, and a text read.
 pub mod Judged

@@ -11,10 +11,10 @@ use Rattle.syntax.specs.Reader.{broken, done, next, sees, says, wants, readDecl
 use Rattle.lexer.specs.declared.Tok.{Tok}
 use Rattle.lexer.specs.Lex.{part, Lexed}
 use Rattle.lexer.proofs.Said.{signed, lettered, sign-text, word-text}
-use Rattle.lines.specs.Lines.{readOpening, readClosing}
-use Rattle.reader.specs.declared.Kind.{Kind}
-use Rattle.reader.specs.declared.Kind.the-variants.{Broken, Integer, Data, Opening, Loop, Assignment, If, Else, EndIf, EndDo, Closing}
-use Rattle.reader.specs.Kinds.{readBy, Inside, Kinds}
+use Rattle.kinds.specs.Directives.{readOpening, readClosing}
+use Rattle.kinds.specs.declared.Kind.{Kind}
+use Rattle.kinds.specs.declared.Kind.the-variants.{Broken, Integer, Data, Opening, Loop, Assignment, If, Else, EndIf, EndDo, Closing}
+use Rattle.kinds.specs.Kinds.{readBy, Inside, Kinds}
 
 -- ---- the token at a place
 

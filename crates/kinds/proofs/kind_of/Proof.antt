@@ -1,10 +1,10 @@
--- `reader::kind_of` meets its contract.
+-- `kinds::kind_of` meets its contract.
 use mathlib.Core.Path.{refl, _∙_}
-use Rattle.reader.proofs.Starts.{said, seen, starts-integer, starts-data, starts-directive, starts-do, starts-if, starts-else, starts-end, starts-endif, starts-enddo, starts-other}
+use Rattle.kinds.proofs.Starts.{said, seen, starts-integer, starts-data, starts-directive, starts-do, starts-if, starts-else, starts-end, starts-endif, starts-enddo, starts-other}
 use Rattle.lexer.proofs.PlaceLaws.{taken-next, taken-within}
 use borrow.Author.Needs.{needs}
-use Rattle.reader.proofs.kind_of.Statement.{statement}
-use Rattle.reader.proofs.kind_of.Tie as tie
+use Rattle.kinds.proofs.kind_of.Statement.{statement}
+use Rattle.kinds.proofs.kind_of.Tie as tie
 
 take-requires : tie.Need-take-requires
 take-requires c κs = search needs

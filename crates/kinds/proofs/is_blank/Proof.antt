@@ -1,8 +1,8 @@
--- `reader::is_blank` meets its contract.
-use Rattle.reader.proofs.WholeLines.{blank-is}
+-- `kinds::is_blank` meets its contract.
+use Rattle.kinds.proofs.WholeLines.{blank-is}
 use borrow.Author.Needs.{needs}
-use Rattle.reader.proofs.is_blank.Statement.{statement}
-use Rattle.reader.proofs.is_blank.Tie as tie
+use Rattle.kinds.proofs.is_blank.Statement.{statement}
+use Rattle.kinds.proofs.is_blank.Tie as tie
 
 run-end-requires : tie.Need-run-end-requires
 run-end-requires c κs = search needs

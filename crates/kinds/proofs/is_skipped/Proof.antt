@@ -1,10 +1,10 @@
--- `reader::is_skipped` meets its contract.
+-- `kinds::is_skipped` meets its contract.
 use mathlib.Core.Path.{refl, sym, _∙_}
 use mathlib.Core.Bool.{true, false}
-use Rattle.reader.proofs.WholeLines.{skipped-by}
+use Rattle.kinds.proofs.WholeLines.{skipped-by}
 use borrow.Author.Needs.{needs}
-use Rattle.reader.proofs.is_skipped.Statement.{statement}
-use Rattle.reader.proofs.is_skipped.Tie as tie
+use Rattle.kinds.proofs.is_skipped.Statement.{statement}
+use Rattle.kinds.proofs.is_skipped.Tie as tie
 
 is-blank-requires : tie.Need-is-blank-requires
 is-blank-requires c κs = search needs

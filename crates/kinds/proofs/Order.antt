@@ -6,8 +6,8 @@ use native.Mathlib.Omega.{arith}
 use borrow.Author.Tests.{eq-eqb, ne-eqb}
 use lib.Dec.{eqb}
 use Rattle.syntax.specs.Conditions.{several, may-miss, follows}
-use Rattle.reader.specs.declared.Kind.{Kind}
-use Rattle.reader.specs.Kinds.{stageBy}
+use Rattle.kinds.specs.declared.Kind.{Kind}
+use Rattle.kinds.specs.Kinds.{stageBy}
 
 pub several-else : (k : ℕ) → (k ≡ 1 → ⊥) → (k ≡ 2 → ⊥) → eqb k 5 ≡ several k
 several-else k a b = sym (λ i. ne-eqb k 1 a i || (ne-eqb k 2 b i || eqb k 5))

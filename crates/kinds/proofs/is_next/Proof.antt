@@ -1,9 +1,9 @@
--- `reader::is_next` meets its contract.
+-- `kinds::is_next` meets its contract.
 use mathlib.Core.Path.{_∙_}
-use Rattle.reader.proofs.Order.{next-one, next-same, next-two, next-none}
+use Rattle.kinds.proofs.Order.{next-one, next-same, next-two, next-none}
 use borrow.Author.Needs.{needs}
-use Rattle.reader.proofs.is_next.Statement.{statement}
-use Rattle.reader.proofs.is_next.Tie as tie
+use Rattle.kinds.proofs.is_next.Statement.{statement}
+use Rattle.kinds.proofs.is_next.Tie as tie
 
 add-if1 : tie.Need-add-if1
 add-if1 c = search needs

@@ -1,9 +1,9 @@
--- `reader::end_kind` meets its contract.
+-- `kinds::end_kind` meets its contract.
 use mathlib.Core.Path.{refl, _∙_}
-use Rattle.reader.proofs.Starts.{said, end-of-if, end-of-do, end-of-none}
+use Rattle.kinds.proofs.Starts.{said, end-of-if, end-of-do, end-of-none}
 use borrow.Author.Needs.{needs}
-use Rattle.reader.proofs.end_kind.Statement.{statement}
-use Rattle.reader.proofs.end_kind.Tie as tie
+use Rattle.kinds.proofs.end_kind.Statement.{statement}
+use Rattle.kinds.proofs.end_kind.Tie as tie
 
 token-requires : tie.Need-token-requires
 token-requires c κs = search needs

@@ -5,9 +5,9 @@ use Prim.Native.Nat.{ℕ, _≤_}
 use lib.ListN.{length, drop}
 use Rattle.syntax.specs.Grammar.{Line, otherwise, end-if, inside, end-do}
 use Rattle.syntax.specs.Reader.{Parsed, broken, done, Reader, readDeclare, readGive, readLoop, readAssign, readWhen, peek-in, skip-in}
-use Rattle.lines.specs.Lines.{readOpening, readClosing}
-use Rattle.reader.specs.declared.Kind.{Kind}
-use Rattle.reader.specs.declared.Kind.the-variants.{Broken, Integer, Data, Opening, Loop, Assignment, If, Else, EndIf, EndDo, Closing}
+use Rattle.kinds.specs.Directives.{readOpening, readClosing}
+use Rattle.kinds.specs.declared.Kind.{Kind}
+use Rattle.kinds.specs.declared.Kind.the-variants.{Broken, Integer, Data, Opening, Loop, Assignment, If, Else, EndIf, EndDo, Closing}
 
 unfoldable pub readBy : Kind → ℕ → Reader (List ℕ) Line
 readBy Broken f s = broken

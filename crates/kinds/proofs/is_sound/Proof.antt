@@ -1,10 +1,10 @@
--- `reader::is_sound` meets its contract.
+-- `kinds::is_sound` meets its contract.
 use mathlib.Core.Path.{refl, sym, _∙_}
 use mathlib.Core.Bool.{true, false}
-use Rattle.reader.proofs.WholeLines.{sound-by}
+use Rattle.kinds.proofs.WholeLines.{sound-by}
 use borrow.Author.Needs.{needs}
-use Rattle.reader.proofs.is_sound.Statement.{statement}
-use Rattle.reader.proofs.is_sound.Tie as tie
+use Rattle.kinds.proofs.is_sound.Statement.{statement}
+use Rattle.kinds.proofs.is_sound.Tie as tie
 
 is-printable-requires : tie.Need-is-printable-requires
 is-printable-requires c κs = search needs

@@ -1,9 +1,9 @@
--- `reader::begins` meets its contract.
+-- `kinds::begins` meets its contract.
 use mathlib.Core.Path.{refl, _∙_}
-use Rattle.reader.proofs.WholeLines.{begins-at}
+use Rattle.kinds.proofs.WholeLines.{begins-at}
 use borrow.Author.Needs.{needs}
-use Rattle.reader.proofs.begins.Statement.{statement}
-use Rattle.reader.proofs.begins.Tie as tie
+use Rattle.kinds.proofs.begins.Statement.{statement}
+use Rattle.kinds.proofs.begins.Tie as tie
 
 run-end-requires : tie.Need-run-end-requires
 run-end-requires c κs = search needs

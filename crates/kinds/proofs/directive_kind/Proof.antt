@@ -1,9 +1,9 @@
--- `reader::directive_kind` meets its contract.
+-- `kinds::directive_kind` meets its contract.
 use mathlib.Core.Path.{refl, _∙_}
-use Rattle.reader.proofs.Starts.{said, directive-closing, directive-opening}
+use Rattle.kinds.proofs.Starts.{said, directive-closing, directive-opening}
 use borrow.Author.Needs.{needs}
-use Rattle.reader.proofs.directive_kind.Statement.{statement}
-use Rattle.reader.proofs.directive_kind.Tie as tie
+use Rattle.kinds.proofs.directive_kind.Statement.{statement}
+use Rattle.kinds.proofs.directive_kind.Tie as tie
 
 token-requires : tie.Need-token-requires
 token-requires c κs = search needs

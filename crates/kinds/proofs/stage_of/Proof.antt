@@ -1,10 +1,10 @@
--- `reader::stage_of` meets its contract.
+-- `kinds::stage_of` meets its contract.
 use mathlib.Core.Path.{refl}
 use native.Mathlib.Omega.{arith}
-use Rattle.reader.proofs.Order.{staged}
+use Rattle.kinds.proofs.Order.{staged}
 use borrow.Author.Needs.{needs}
-use Rattle.reader.proofs.stage_of.Statement.{statement}
-use Rattle.reader.proofs.stage_of.Tie as tie
+use Rattle.kinds.proofs.stage_of.Statement.{statement}
+use Rattle.kinds.proofs.stage_of.Tie as tie
 
 enum-told : tie.Need-enum-told
 enum-told c = search needs

@@ -1,9 +1,9 @@
--- `reader::is_several` meets its contract.
+-- `kinds::is_several` meets its contract.
 use mathlib.Core.Path.{sym, ap}
 use Rattle.syntax.specs.Conditions.{several}
-use Rattle.reader.proofs.Order.{several-else}
-use Rattle.reader.proofs.is_several.Statement.{statement}
-use Rattle.reader.proofs.is_several.Tie as tie
+use Rattle.kinds.proofs.Order.{several-else}
+use Rattle.kinds.proofs.is_several.Statement.{statement}
+use Rattle.kinds.proofs.is_several.Tie as tie
 
 returns : tie.Need-returns
 returns c = sym (ap several (c .if1 .taken))

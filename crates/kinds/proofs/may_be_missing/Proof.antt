@@ -1,9 +1,9 @@
--- `reader::may_be_missing` meets its contract.
+-- `kinds::may_be_missing` meets its contract.
 use mathlib.Core.Path.{sym, ap}
 use Rattle.syntax.specs.Conditions.{may-miss}
-use Rattle.reader.proofs.Order.{missing-else}
-use Rattle.reader.proofs.may_be_missing.Statement.{statement}
-use Rattle.reader.proofs.may_be_missing.Tie as tie
+use Rattle.kinds.proofs.Order.{missing-else}
+use Rattle.kinds.proofs.may_be_missing.Statement.{statement}
+use Rattle.kinds.proofs.may_be_missing.Tie as tie
 
 returns : tie.Need-returns
 returns c = sym (ap may-miss (c .if1 .taken))

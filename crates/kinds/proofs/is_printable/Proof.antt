@@ -1,13 +1,13 @@
--- `reader::is_printable` meets its contract.
+-- `kinds::is_printable` meets its contract.
 use mathlib.Core.Path.{_≡_, refl, sym, _∙_}
 use Prim.Native.Nat.{_≤_, _-_}
 use native.Mathlib.Omega.{arith}
 use lib.ListN.{length, drop}
 use Rattle.syntax.specs.Bytes.{all, printable}
 use Rattle.syntax.proofs.TestLaws.{all-on, all-off, all-out}
-use Rattle.reader.proofs.WholeLines.{printable-low, printable-high, printable-mid}
-use Rattle.reader.proofs.is_printable.Statement.{statement}
-use Rattle.reader.proofs.is_printable.Tie as tie
+use Rattle.kinds.proofs.WholeLines.{printable-low, printable-high, printable-mid}
+use Rattle.kinds.proofs.is_printable.Statement.{statement}
+use Rattle.kinds.proofs.is_printable.Tie as tie
 
 abbrev Inv-loop : tie.InvT-loop
 Inv-loop s i₀ i = (i ≤ length s) × (all printable s ≡ all printable (drop i s))
