@@ -231,7 +231,7 @@ fn fill(code: &mut [u32], jump: usize, distance: usize)
     ensures { λ _. ⌜ length (now (code .exit)) ≡ length (now (code .entry)) ⌝ }
 {
     let i = 2 * jump + 1;
-    code[i] = code[i] + 8 * distance as u32;
+    code[i] = code[i] + code::DISTANCE * distance as u32;
 }
 
 // Writes a jump over nothing.

@@ -269,13 +269,13 @@ pub fn factor_operation(sign: u32, line: u32) -> u32
 pub fn span(first: u32, size: u32) -> u32
     ensures { λ r. ⌜ r ≡ spanOf first size ⌝ }
 {
-    if 4096 < first {
+    if code::ELEMENT < first {
         return 0;
     }
-    if 4096 < size {
+    if code::ELEMENT < size {
         return 0;
     }
-    first + 4096 * size
+    first + code::ELEMENT * size
 }
 
 // The instruction that reads the cell of a name, with a subscript or without.
