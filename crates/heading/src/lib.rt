@@ -1,12 +1,10 @@
 // What the lines before the statements share: ranks (0 in order, 1 over a limit, 2 a wrong name), lists of parts, and literals with a sign.
 ghost use mathlib.Core.Path.{_≡_};
-ghost use mathlib.Core.Bool.{not, _&&_};
+ghost use mathlib.Core.Bool.{_&&_};
 ghost use lib.Dec.{leb};
 ghost use Prim.Native.Nat.{_<_, max};
 ghost use Rattle.int32.specs.Integers.{value};
-ghost use Rattle.syntax.specs.Grammar.{item};
 ghost use Rattle.syntax.specs.Meaning.{led};
-ghost use Rattle.syntax.specs.Conditions.{within};
 ghost use Rattle.lexer.specs.Places.{leadOf};
 ghost use Rattle.heading.specs.Lists.{order};
 use int32::negate;

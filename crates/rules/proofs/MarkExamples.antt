@@ -1,4 +1,4 @@
--- Marks of a cell after a few accesses, by computing. (The examples of document 01 are in crates/services/proofs/Examples.antt.)
+-- Marks of a cell after a few accesses, by computing. (The examples of document 01 are in crates/running/proofs/Examples.antt.)
 use mathlib.Core.Path.{_≡_, refl}
 use mathlib.Core.List.{List, [], _∷_, map}
 use Prim.Native.Nat.{ℕ}
