@@ -17,6 +17,7 @@ use Rattle.syntax.proofs.Places.{size-one}
 use Rattle.syntax.proofs.Spelling.{Spells, here, token}
 use Rattle.lexer.specs.declared.Tok.{Tok}
 use Rattle.lexer.specs.Lex.{part, Lexed}
+use Rattle.lexer.proofs.PlaceLaws.{trimmed-length}
 use Rattle.alike.specs.Alike.{sameToken, Alike}
 
 -- ---- leading zeros
@@ -68,15 +69,6 @@ same-aside (sign b) (digits d) = refl
 same-aside (sign b) (sign d) = refl
 
 -- ---- tokens and bytes
-
-trimmed-length : (u : List ℕ) → length (trimmed u) ≤ length u
-unfolding trimmed
-trimmed-length [] = omega arith
-trimmed-length (b ∷ u) = go (eqb b 32) (trimmed-length u)
-  where
-    go : (x : Bool) → length (trimmed u) ≤ length u → length (choose x (λ _. trimmed u) (λ _. b ∷ u)) ≤ length (b ∷ u)
-    go true h = omega (arith, h)
-    go false h = omega arith
 
 skip-shorter : (u : List ℕ) {x : Token} → peek-in u ≡ some x → length (skip-in u) < length u
 unfolding peek-in skip-in

@@ -92,6 +92,14 @@ reads-then c k s place most b a r K (ends {n′ = n′} e h) go stop = rw (e, �
 
 -- ---- the relation and the right side
 
+pub relation-small : (r : Relation) → relation-number r ≤ 5
+relation-small Equal = omega arith
+relation-small Unequal = omega arith
+relation-small Less = omega arith
+relation-small AtMost = omega arith
+relation-small Greater = omega arith
+relation-small AtLeast = omega arith
+
 module _ (T s : List ℕ) (at line place most : ℕ) (b a : List ℕ) (r : Got) (j : Compared) (re : Relates s at j) where
   pub compared-none : 5 < j .number → r ≡ Broken → Answers readCompared (codeCompared line) inCompared 2 (suc at) T s at place most b a r
   unfolding Reads
@@ -100,18 +108,10 @@ module _ (T s : List ℕ) (at line place most : ℕ) (b a : List ℕ) (r : Got) 
     within = subst (Within s at place (suc at)) (sym e) (within-broken s at place (suc at));
   }
     where
-      small : (q : Relation) → relation-number q ≤ 5
-      small Equal = omega arith
-      small Unequal = omega arith
-      small Less = omega arith
-      small AtMost = omega arith
-      small Greater = omega arith
-      small AtLeast = omega arith
-
       go : (t : List Entry) (f : ℕ) (o : Option Relation) → 5 < numberOf o
           → Reads (codeCompared line t (variableOf T)) (λ c. worst t (variableOf T) (inCompared c)) s (next (given peek-in skip-in o (drop at s)) (λ q w. next (readExpr peek-in skip-in f w) (λ y x. next (expects peek-in skip-in ")" x) (λ _ u. next (wants peek-in skip-in "then" u) (λ _ z. done (q, y) z))))) place most b a r
       go t f none lt = e
-      go t f (some q) lt = absurd (omega (arith, small q))
+      go t f (some q) lt = absurd (omega (arith, relation-small q))
 
   module _ (m : List ℕ) (g g′ h : Got) (small : j .number ≤ 5)
       (an : Answers (readExpr peek-in skip-in) (λ t v. code t v line) (mentions 0) 2 (suc (j .next)) T s (j .next) place most b m g)

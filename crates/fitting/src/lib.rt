@@ -6,7 +6,7 @@ ghost use lib.ListN.{length, take};
 ghost use Rattle.syntax.specs.Bytes.{all};
 ghost use Rattle.answers.specs.Answers.{needed, fitNumber};
 
-// The cells of a list, at the front of another.
+// The cells of a list, at the front of another. Free: the cells past them.
 pub fn copy_front(own: &mut [i32], from: &[i32])
     requires { ⌜ length (now from) ≤ length (now own) ⌝ }
     ensures { λ _. ⌜ take (length (now (from .entry))) (now (own .exit)) ≡ now (from .entry) ⌝ }

@@ -8,8 +8,9 @@ use borrow.Author.Tests.{le-leb, lt-leb, leb-true, leb-false, eq-eqb, ne-eqb}
 use lib.Dec.{leb, eqb}
 use lib.ListN.{length, take, drop, length-drop}
 use lib.Seq.{take-all}
-use Rattle.syntax.specs.Bytes.{choose, all, same, bytes, run, starts, printable, trimmed, skipped-line, sound-line}
+use Rattle.syntax.specs.Bytes.{all, same, bytes, run, starts, printable, trimmed, skipped-line, sound-line}
 use Rattle.lexer.specs.Lex.{goes}
+use Rattle.lexer.proofs.Tokens.{trimmed-run}
 
 -- ---- all bytes of a line
 
@@ -24,19 +25,10 @@ printable-mid b h k = (λ i. le-leb 32 b (omega arith) i && le-leb b 126 (omega 
 
 -- ---- blanks at the front
 
-pub trimmed-drop : (s : List ℕ) → trimmed s ≡ drop (run (goes 0) s) s
-unfolding trimmed run goes
-trimmed-drop [] = refl
-trimmed-drop (b ∷ s) = go (eqb b 32) (trimmed-drop s)
-  where
-    go : (x : Bool) → trimmed s ≡ drop (run (goes 0) s) s → choose x (λ _. trimmed s) (λ _. b ∷ s) ≡ drop (choose x (λ _. suc (run (goes 0) s)) (λ _. 0)) (b ∷ s)
-    go true h = h
-    go false h = refl
-
 pub begins-at : (w s : List ℕ) (a n : ℕ) → n ≡ length s → a ≡ 0 + run (goes 0) s → starts w (take (n - a) (drop a s)) ≡ starts w (trimmed s)
 begins-at w s a n en e =
     let z : a ≡ run (goes 0) s = omega (arith, e) in
-    ap (λ (u : List ℕ). starts w u) (take-all (n - a) (drop a s) (omega (arith, length-drop a s)) ∙ ap (λ (m : ℕ). drop m s) z ∙ sym (trimmed-drop s))
+    ap (λ (u : List ℕ). starts w u) (take-all (n - a) (drop a s) (omega (arith, length-drop a s)) ∙ ap (λ (m : ℕ). drop m s) z ∙ sym (trimmed-run s))
 
 drop-length : (n : ℕ) (s : List ℕ) → length s ≤ n → length (drop n s) ≡ 0
 drop-length zero [] h = refl
@@ -52,7 +44,7 @@ drop-some (suc n) (b ∷ s) h e = drop-some n s (omega arith) e
 
 module _ (s : List ℕ) (a : ℕ) (e : a ≡ 0 + run (goes 0) s) where
   same-end : trimmed s ≡ drop a s
-  same-end = let z : run (goes 0) s ≡ a = omega (arith, e) in trimmed-drop s ∙ ap (λ (n : ℕ). drop n s) z
+  same-end = let z : run (goes 0) s ≡ a = omega (arith, e) in trimmed-run s ∙ ap (λ (n : ℕ). drop n s) z
 
   pub blank-all : length s ≤ a → true ≡ eqb (length (trimmed s)) 0
   blank-all h = sym (eq-eqb _ 0 (ap length same-end ∙ drop-length a s h))

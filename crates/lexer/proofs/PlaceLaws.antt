@@ -107,7 +107,7 @@ module _ (s w : List ℕ) (at r : ℕ) (g : Goes Any s at (passes w) r) (b : at 
 
 -- ---- a token that is passed over has bytes
 
-trimmed-length : (u : List ℕ) → length (trimmed u) ≤ length u
+pub trimmed-length : (u : List ℕ) → length (trimmed u) ≤ length u
 unfolding trimmed
 trimmed-length [] = omega arith
 trimmed-length (b ∷ u) = go (eqb b 32) (trimmed-length u)

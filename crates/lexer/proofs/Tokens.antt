@@ -13,7 +13,7 @@ use Rattle.syntax.specs.Reader.{kind, text, peek-in, skip-in, token-in, after-i
 use Rattle.lexer.proofs.Laws.{part-none}
 use Rattle.lexer.specs.Lex.{goes, part, Lexed}
 
-trimmed-run : (l : List ℕ) → trimmed l ≡ drop (run (goes 0) l) l
+pub trimmed-run : (l : List ℕ) → trimmed l ≡ drop (run (goes 0) l) l
 unfolding trimmed run goes
 trimmed-run [] = refl
 trimmed-run (b ∷ l) = go (eqb b 32) (trimmed-run l)

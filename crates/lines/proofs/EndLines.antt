@@ -8,14 +8,12 @@ use native.Mathlib.Omega.{arith}
 use lib.ListN.{length, getD, set, take, drop, length-set, length-append}
 use lib.Seq.{take-set-lt, take-suc-set, getD-take, getD-set-same, getD-set-other}
 use lib.IntN.{ℤ}
-use Rattle.int32.specs.declared.Relation.{Relation}
-use Rattle.int32.specs.declared.Relation.the-variants.{Equal, Unequal, Less, AtMost, Greater, AtLeast}
 use Rattle.syntax.specs.Bytes.{bytes, choose}
 use Rattle.syntax.specs.Grammar.{Line, otherwise, end-if, inside, end-do, close}
 use Rattle.syntax.specs.Known.{Stmts, stop, Open, turned, closed, State, stating, otherwise-after, end-if-after, after}
 use Rattle.syntax.specs.Conditions.{inLine, isGiven, names, limits, fits, else-fits, none-open}
 use Rattle.syntax.specs.Reader.{Parsed, broken, done, next, finish, expects, wants, peek-in, skip-in}
-use Rattle.code.specs.Instr.{jump, relation-number, argument, words}
+use Rattle.code.specs.Instr.{jump, argument, words}
 use Rattle.code.specs.Compile.{codeStmts, codeOf, placesOf}
 use Rattle.code.proofs.Words.{words-append, words-length, words-getD}
 use Rattle.code.proofs.OpenJumps.{InstrAt, instr-length, instr-there, jumpOf, words-fill}
@@ -25,6 +23,8 @@ use Rattle.lines.specs.declared.Progress.{Progress}
 use Rattle.lines.specs.Progress.{Opened, Represents, Underway, moved, numberOf, whole, Concludes, Numbers}
 use Rattle.kinds.specs.Directives.{readClosing}
 use Rattle.lines.proofs.Verdicts.{concludes-lands, concludes-word, concludes-sign}
+use Rattle.conditions.proofs.Comparisons.{relation-small}
+use Rattle.assignments.proofs.Assigned.{test-few}
 
 -- ---- what a line after `do` leaves
 
@@ -55,9 +55,6 @@ carried p T I C O C′ O′ st rp n j place depth os b late len code opened shal
 pub concluded : (r r′ : Progress) → r ≡ r′ → (num : Line → ℕ) (k : ℕ) (T : List ℕ) (I : List ℤ) (C O : List ℕ) (st : State) (q : Parsed (List ℕ) Line)
     → Concludes num (λ l. Represents r′ T I C O (after k l st)) q (r′ .number) → Concludes num (λ l. Represents r T I C O (after k l st)) q (r .number)
 concluded r r′ e num k T I C O st q h = subst (λ (p : Progress). Concludes num (λ l. Represents p T I C O (after k l st)) q (p .number)) (sym e) h
-
-pub same-after : (l : List ℕ) (n i x y : ℕ) → length l ≡ n → length (set (set l i x) (i + 1) y) ≡ n
-same-after l n i x y e = length-set (set l i x) (i + 1) y ∙ length-set l i x ∙ e
 
 -- ---- numbers
 
@@ -117,14 +114,6 @@ opened-below O (suc d) i x [] qs b h = h
 opened-below O (suc d) i x (o ∷ os) [] b h = h
 opened-below O (suc d) i x (o ∷ os) (q ∷ qs) b h = (getD-set-other O i d x 0 (λ (e : d ≡ i). omega arith) ∙ h .0, opened-below O d i x os qs (omega arith) (h .1))
 
-relation-small : (r : Relation) → relation-number r ≤ 5
-relation-small Equal = omega arith
-relation-small Unequal = omega arith
-relation-small Less = omega arith
-relation-small AtMost = omega arith
-relation-small Greater = omega arith
-relation-small AtLeast = omega arith
-
 jump-small : (o : Open) (f : Option Stmts) → argument (jumpOf o f 0) ≤ 7
 jump-small o none = omega (arith, relation-small (o .relation))
 jump-small o (some p) = omega arith
@@ -180,13 +169,9 @@ pub record Jumps (p : Progress) (C O : List ℕ) : Type 0 where
   pub long : 2 * p .place ≤ length C
   pub word : getD O (p .depth - 1) 0 ≤ 2 * p .place
 
-bit-small : (b : Bool) → cond b 1 0 ≤ 1
-bit-small true = omega arith
-bit-small false = omega arith
-
 module _ (p : Progress) (T : List ℕ) (I : List ℤ) (C O : List ℕ) (st : State) (rp : Represents p T I C O st) (e : p .depth ≡ suc (p .depth - 1)) where
   pub jump-is : getD O (p .depth - 1) 0 / 2 ≡ top-of p T I C O st rp (p .depth - 1) e .at
-  jump-is = let t = top-of p T I C O st rp (p .depth - 1) e in omega (arith, word-there p T I C O st rp (p .depth - 1) e, bit-small (isGiven (t .innermost .branch .first)))
+  jump-is = let t = top-of p T I C O st rp (p .depth - 1) e in omega (arith, word-there p T I C O st rp (p .depth - 1) e, test-few (isGiven (t .innermost .branch .first)))
 
   jumps-of : Jumps p C O
   jumps-of =
@@ -195,7 +180,7 @@ module _ (p : Progress) (T : List ℕ) (I : List ℤ) (C O : List ℕ) (st : Sta
         before = omega (arith, jump-is, jump-within p T I C O st rp (p .depth - 1) e);
         small = subst (λ (m : ℕ). getD C (2 * m + 1) 0 ≤ 7) (sym jump-is) (argument-small p T I C O st rp (p .depth - 1) e);
         long = code-long p T I C O st rp (p .depth - 1) e;
-        word = omega (arith, word-there p T I C O st rp (p .depth - 1) e, bit-small (isGiven (t .innermost .branch .first)), jump-within p T I C O st rp (p .depth - 1) e);
+        word = omega (arith, word-there p T I C O st rp (p .depth - 1) e, test-few (isGiven (t .innermost .branch .first)), jump-within p T I C O st rp (p .depth - 1) e);
       }
 
 pub jumps : (p : Progress) (C O : List ℕ) → Underway p C O → (p .depth ≡ 0 → ⊥) → Jumps p C O

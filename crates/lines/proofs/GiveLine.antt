@@ -8,12 +8,12 @@ use native.Mathlib.Nat.{zero-add, suc-add}
 use native.Mathlib.Omega.{arith}
 use borrow.Author.Tests.{eqb-true, not-true}
 use lib.Dec.{ltb}
-use lib.ListN.{length, drop, set, replicate, length-append, length-map, length-replicate, length-set}
+use lib.ListN.{length, drop, set, replicate, length-map, length-set}
 use lib.IntN.{ℤ, pos}
 use lib.Seq.{sets, set-append-left}
 use Rattle.syntax.specs.Bytes.{bytes, choose, all, any, same}
 use Rattle.syntax.specs.Grammar.{number, Item, item, Line, give, close}
-use Rattle.syntax.specs.Known.{Entry, named, known, find, give-to, copies, copiesOf, signed, values, total, cells, State, after}
+use Rattle.syntax.specs.Known.{Entry, named, known, find, give-to, copies, values, total, cells, State, after}
 use Rattle.syntax.specs.Conditions.{concat, inItem, inLine, isGiven, different, rightly, small, names, limits, follows, singly}
 use Rattle.syntax.specs.Text.{initial, loaded}
 use Rattle.syntax.specs.Reader.{Parsed, broken, done, Reader, next, sees, finish, expects, wants, readName, readMore, readItem, readGive, peek-in, skip-in}
@@ -21,7 +21,7 @@ use Rattle.syntax.proofs.Spelling.{both-true, same-true}
 use Rattle.syntax.proofs.TestLaws.{Each, neither-holds}
 use Rattle.syntax.proofs.Table.{Laid, SaneEntry, find-ends}
 use Rattle.syntax.proofs.Loaded.{initial-length, loaded-length}
-use Rattle.syntax.proofs.TableLines.{give-cells}
+use Rattle.syntax.proofs.TableLines.{values-length, give-cells}
 use Rattle.syntax.proofs.Sane.{Sane}
 use Rattle.code.specs.Instr.{words}
 use Rattle.lexer.specs.Places.{Lands, Goes, Any, passes}
@@ -222,11 +222,6 @@ loaded-give x vs c (e ∷ t) l s d k n = go (named x e) refl (loaded-give x vs (
         (omega (arith, p), ap (λ (u : List ℤ). initial e (e .given) ++ u) q ∙ sym (sets-after (initial e (e .given)) (loaded t) vs (find x t .first - (c + e .size))) ∙ ap (λ (m : ℕ). sets (initial e (e .given) ++ loaded t) m vs) z)
 
 -- ---- what it adds
-
-values-length : (is : List Item) → length (values is) ≡ total copies is
-unfolding values
-values-length [] = refl
-values-length (item r l d ∷ is) = length-append (replicate (copiesOf r) (signed l (number d))) (values is) ∙ (λ i. length-replicate (copiesOf r) (signed l (number d)) i + values-length is i)
 
 -- values within the first part
 sets-front : (xs ys : List ℤ) (k : ℕ) (vs : List ℤ) → k + length vs ≤ length xs → sets (xs ++ ys) k vs ≡ sets xs k vs ++ ys

@@ -25,7 +25,7 @@ use Rattle.answers.specs.declared.Served.{Served}
 use Rattle.answers.specs.declared.Served.the-variants.{Finished, Faulted, Refused}
 use Rattle.answers.specs.Answers.{fitNumber, runNumber, taken}
 use Rattle.answers.specs.Numbers.{refusal, servedNumbers}
-use Rattle.serving.specs.Serial.{servedBy, ServesBy, SerialOf, numbersBy, serialNumbers}
+use Rattle.serving.specs.Serial.{servedBy, ServesBy, SerialOf, serialNumbers}
 use Rattle.preparing.proofs.Beginning.{Accepted, number-as, begins}
 use Rattle.fitting.proofs.Fits.{Fits, fit-zero}
 
@@ -57,18 +57,13 @@ module _ (l : Loop) where
 
 -- ---- the answer's numbers
 
-numbers-as : (s : State) (M : List ℤ) (o : Outcome) → servedNumbers (servedBy s M o) ≡ numbersBy s M o
-unfolding servedNumbers
-numbers-as s M finished = refl
-numbers-as s M (failed n t i) = refl
-
 pub with-numbers : (v : Verdict) (M : List ℤ) (W : List ℕ) (r : Served) (M′ : List ℤ) (W′ : List ℕ) → SerialOf v M W r M′ W′ → SerialOf v M W r M′ W′ × (servedNumbers r ≡ serialNumbers v M (length W))
 unfolding SerialOf serialNumbers servedNumbers
 with-numbers (refused n k) M W r M′ W′ h = (h, ap servedNumbers (h .0))
 with-numbers (good s) M W r M′ W′ h = (h, by-number (runNumber s (length M) (length W) []) h)
   where
-    by-number : (n : ℕ) → ServesBy s n M W r M′ W′ → servedNumbers r ≡ taken n (numbersBy s M (serial (loopOf s M) .outcome)) (refusal n 0)
-    by-number zero g = ap servedNumbers (g .answer) ∙ numbers-as s M (serial (loopOf s M) .outcome)
+    by-number : (n : ℕ) → ServesBy s n M W r M′ W′ → servedNumbers r ≡ taken n (servedNumbers (servedBy s M (serial (loopOf s M) .outcome))) (refusal n 0)
+    by-number zero g = ap servedNumbers (g .answer)
     by-number (suc n) g = ap servedNumbers (g .0)
 
 -- ---- by the verdict

@@ -14,7 +14,7 @@ use Rattle.trial.specs.Standing.{Kept}
 use Rattle.answers.specs.declared.Served.{Served}
 use Rattle.answers.specs.declared.Served.the-variants.{Finished, Faulted, Refused}
 use Rattle.answers.specs.Answers.{runNumber, taken}
-use Rattle.answers.specs.Numbers.{Returned, done, failure, refusal}
+use Rattle.answers.specs.Numbers.{Returned, refusal, servedNumbers}
 
 -- "its write counts are the different pairs of iteration and cell, and the different cells"; "The first fault ends the run and gives its number, the
 -- line ... and v"
@@ -38,12 +38,8 @@ SerialOf (refused n k) M W r M′ W′ = (r ≡ Refused n k) × (M′ ≡ M) × 
 SerialOf (good s) M W r M′ W′ = ServesBy s (runNumber s (length M) (length W) []) M W r M′ W′
 
 -- the answer's numbers: 1 to 6, or 0 with both write counts, or 9 or 10 with line and v
-abbrev pub numbersBy : State → List ℤ → Outcome → Returned
-numbersBy s M finished = done (pairs (loopOf s M) (serial (loopOf s M) .log)) (written-cells (loopOf s M) (serial (loopOf s M) .log))
-numbersBy s M (failed n t i) = failure n t (s .from +ℤ pos i)
-
 unfoldable pub serialNumbers : Verdict → List ℤ → ℕ → Returned
 serialNumbers (refused n k) M w = refusal n k
 serialNumbers (good s) M w =
     let n = runNumber s (length M) w [] in
-    taken n (numbersBy s M (serial (loopOf s M) .outcome)) (refusal n 0)
+    taken n (servedNumbers (servedBy s M (serial (loopOf s M) .outcome))) (refusal n 0)

@@ -154,7 +154,7 @@ give-cells x vs = cells-map (give-to x vs) (give-shape x vs)
 
 -- ---- data
 
-values-length : (is : List Item) → length (values is) ≡ total copies is
+pub values-length : (is : List Item) → length (values is) ≡ total copies is
 unfolding values
 values-length [] = refl
 values-length (item r l d ∷ is) = rw (length-append, length-replicate, values-length is)
