@@ -38,5 +38,6 @@ located-at line b n (pos (suc m)) k h l = rw (le-leb 1 (suc m) (omega arith), le
 located-at line b n (negsuc m) k h l = absurd (let z : _≡_ {A = ℕ} 0 1 = cc in omega arith)
 
 -- the cell that `locate` found for a subscript that was read
-pub located-found : (line b n : ℕ) (i : ℤ) (r q : Located) (k : ℕ → Act) → SFits w32 i → ((line : ℕ) (k : ℕ → Act) → located line b n (toZ w32 (ofZ w32 i)) k ≡ at-cell r line k) → r ≡ q → located line b n i k ≡ at-cell q line k
+pub located-found : (line b n : ℕ) (i : ℤ) (r q : Located) (k : ℕ → Act) → SFits w32 i
+    → ((line : ℕ) (k : ℕ → Act) → located line b n (toZ w32 (ofZ w32 i)) k ≡ at-cell r line k) → r ≡ q → located line b n i k ≡ at-cell q line k
 located-found line b n i r q k f l e = ap (λ (j : ℤ). located line b n j k) (sym (toZ-ofZ w32 i f)) ∙ l line k ∙ ap (λ (o : Located). at-cell o line k) e

@@ -10,13 +10,15 @@ use borrow.Author.Tests.{eq-eqb, ne-eqb}
 use lib.Dec.{eqb}
 use lib.ListN.{length, take, drop, getD, length-drop}
 use lib.Seq.{drop-cons}
-use Rattle.syntax.specs.Bytes.{choose, same, Token, kindOf, bytesOf, name, word, digits, sign, equal, token-size, trimmed}
+use Rattle.syntax.specs.Bytes.{choose, same, Token, kindOf, bytesOf, name, other-word, digits, sign, equal, token-size, trimmed}
 use Rattle.syntax.specs.Meaning.{no-zeros, zeros-aside, alike}
 use Rattle.syntax.specs.Reader.{kind, text, token-in, after-in, peek-in, skip-in}
+use Rattle.syntax.specs.Spelled.{Spells, here, token}
 use Rattle.syntax.proofs.Places.{size-one}
-use Rattle.syntax.proofs.Spelling.{Spells, here, token}
+use Rattle.lexer.specs.declared.Kind.{Kind}
+use Rattle.lexer.specs.declared.Kind.the-variants.{End}
 use Rattle.lexer.specs.declared.Tok.{Tok}
-use Rattle.lexer.specs.Lex.{part, Lexed}
+use Rattle.lexer.specs.Lex.{kind-number, part, Lexed}
 use Rattle.lexer.proofs.PlaceLaws.{trimmed-length}
 use Rattle.alike.specs.Alike.{sameToken, Alike}
 
@@ -30,11 +32,16 @@ part-cons s i e h k =
 module _ (s : List ℕ) (i e : ℕ) (h : i < e) (k : e ≤ length s) where
   pub zeros-on : getD s i 0 ≡ 48 → no-zeros (part s i e) ≡ no-zeros (part s (i + 1) e)
   unfolding no-zeros
-  zeros-on z = ap no-zeros (part-cons s i e h k) ∙ ap (λ (b : Bool). choose b (λ _. no-zeros (part s (i + 1) e)) (λ _. getD s i 0 ∷ part s (i + 1) e)) (eq-eqb (getD s i 0) 48 z)
+  zeros-on z =
+      ap no-zeros (part-cons s i e h k)
+      ∙ ap (λ (b : Bool). choose b (λ _. no-zeros (part s (i + 1) e)) (λ _. getD s i 0 ∷ part s (i + 1) e)) (eq-eqb (getD s i 0) 48 z)
 
   pub zeros-off : (getD s i 0 ≡ 48 → ⊥) → no-zeros (part s i e) ≡ part s i e
   unfolding no-zeros
-  zeros-off z = ap no-zeros (part-cons s i e h k) ∙ ap (λ (b : Bool). choose b (λ _. no-zeros (part s (i + 1) e)) (λ _. getD s i 0 ∷ part s (i + 1) e)) (ne-eqb (getD s i 0) 48 z) ∙ sym (part-cons s i e h k)
+  zeros-off z =
+      ap no-zeros (part-cons s i e h k)
+      ∙ ap (λ (b : Bool). choose b (λ _. no-zeros (part s (i + 1) e)) (λ _. getD s i 0 ∷ part s (i + 1) e)) (ne-eqb (getD s i 0) 48 z)
+      ∙ sym (part-cons s i e h k)
 
 pub zeros-out : (s : List ℕ) (i e : ℕ) → e ≤ i → no-zeros (part s i e) ≡ part s i e
 unfolding no-zeros
@@ -44,27 +51,31 @@ zeros-out s i e h = let n : e - i ≡ 0 = omega arith in rw n
 
 -- by the tests of the code
 module _ (k j : ℕ) (x y : List ℕ) where
-  pub same-by : {a b c : Bool} → eqb k 0 ≡ a → eqb k j ≡ b → eqb k 3 ≡ c → not a && (b && cond c (same (no-zeros x) (no-zeros y)) (same x y)) ≡ sameToken k x j y
+  pub same-by : {a b c : Bool} → eqb k 0 ≡ a → eqb k j ≡ b → eqb k 3 ≡ c
+      → not a && (b && cond c (same (no-zeros x) (no-zeros y)) (same x y)) ≡ sameToken k x j y
   same-by ea eb ec = λ i. not (sym ea i) && (sym eb i && cond (sym ec i) (same (no-zeros x) (no-zeros y)) (same x y))
 
-pub same-some : (k j : ℕ) (x y : List ℕ) {r : Bool} → r ≡ sameToken k x j y → r ≡ true → k ≡ 0 → ⊥
-same-some k j x y er e z = let q : _≡_ {A = Bool} false true = ap (λ (i : ℕ). sameToken i x j y) (sym z) ∙ sym er ∙ e in let z : _≡_ {A = ℕ} 0 1 = cc in omega arith
+pub same-some : (k : Kind) (j : ℕ) (x y : List ℕ) {r : Bool} → r ≡ sameToken (kind-number k) x j y → r ≡ true → k ≡ End → ⊥
+same-some k j x y er e z =
+    let q : _≡_ {A = Bool} false true = ap (λ (i : Kind). sameToken (kind-number i) x j y) (sym z) ∙ sym er ∙ e in
+    let z : _≡_ {A = ℕ} 0 1 = cc in
+    omega arith
 
 same-aside : (x y : Token) → sameToken (kindOf x) (bytesOf x) (kindOf y) (bytesOf y) ≡ equal (zeros-aside x) (zeros-aside y)
 same-aside (name b) (name d) = refl
-same-aside (name b) (word d) = refl
+same-aside (name b) (other-word d) = refl
 same-aside (name b) (digits d) = refl
 same-aside (name b) (sign d) = refl
-same-aside (word b) (name d) = refl
-same-aside (word b) (word d) = refl
-same-aside (word b) (digits d) = refl
-same-aside (word b) (sign d) = refl
+same-aside (other-word b) (name d) = refl
+same-aside (other-word b) (other-word d) = refl
+same-aside (other-word b) (digits d) = refl
+same-aside (other-word b) (sign d) = refl
 same-aside (digits b) (name d) = refl
-same-aside (digits b) (word d) = refl
+same-aside (digits b) (other-word d) = refl
 same-aside (digits b) (digits d) = refl
 same-aside (digits b) (sign d) = refl
 same-aside (sign b) (name d) = refl
-same-aside (sign b) (word d) = refl
+same-aside (sign b) (other-word d) = refl
 same-aside (sign b) (digits d) = refl
 same-aside (sign b) (sign d) = refl
 
@@ -110,7 +121,9 @@ pub record Left (s : List ℕ) (n to i j : ℕ) (b : Bool) : Type 0 where
   pub alike : b ≡ alike ts us
 
 abbrev pub Walked : List ℕ → ℕ → ℕ → ℕ → ℕ → ℕ → Type 0
-Walked s n from to i j = (ts us : List Token) → Spells peek-in skip-in s ts (drop n s) → Spells peek-in skip-in (drop from s) us (drop to s) → Left s n to i j (alike ts us)
+Walked s n from to i j =
+    (ts us : List Token) → Spells peek-in skip-in s ts (drop n s) → Spells peek-in skip-in (drop from s) us (drop to s)
+    → Left s n to i j (alike ts us)
 
 pub walk-starts : (s : List ℕ) (n from to : ℕ) → Walked s n from to 0 from
 walk-starts s n from to ts us h k = record { ts = ts; us = us; left = h; right = k; alike = refl }
@@ -121,9 +134,10 @@ record Stepped (s : List ℕ) (n to : ℕ) (t u : Tok) (b : Bool) : Type 0 where
   ys : List Token
   left : Spells peek-in skip-in (drop (t .stop) s) xs (drop n s)
   right : Spells peek-in skip-in (drop (u .stop) s) ys (drop to s)
-  alike : b ≡ sameToken (t .kind) (part s (t .start) (t .stop)) (u .kind) (part s (u .start) (u .stop)) && alike xs ys
+  alike : b ≡ sameToken (kind-number (t .kind)) (part s (t .start) (t .stop)) (kind-number (u .kind)) (part s (u .start) (u .stop)) && alike xs ys
 
-stepped : {s : List ℕ} {n to i j : ℕ} {t u : Tok} → Lexed s i t → Lexed s j u → {b : Bool} {ts us : List Token} → b ≡ alike ts us → First (drop i s) (drop n s) ts → First (drop j s) (drop to s) us → Stepped s n to t u b
+stepped : {s : List ℕ} {n to i j : ℕ} {t u : Tok} → Lexed s i t → Lexed s j u → {b : Bool} {ts us : List Token} → b ≡ alike ts us → First (drop i s)
+    (drop n s) ts → First (drop j s) (drop to s) us → Stepped s n to t u b
 unfolding alike
 stepped {s} {n} {to} lt lu e x y = record {
   xs = x .rest;
@@ -132,17 +146,20 @@ stepped {s} {n} {to} lt lu e x y = record {
   right = subst (λ (w : List ℕ). Spells peek-in skip-in w (y .rest) (drop to s)) (lu .next) (y .spells);
   alike =
       e ∙ (λ k. alike (x .tokens k) (y .tokens k)) ∙ ap (λ (q : Bool). q && alike (x .rest) (y .rest))
-      (sym (same-aside (x .first) (y .first)) ∙ (λ k. sameToken (kind (sym (x .peeks) k)) (text (sym (x .peeks) k)) (kind (sym (y .peeks) k)) (text (sym (y .peeks) k)))
+      (sym (same-aside (x .first) (y .first))
+      ∙ (λ k. sameToken (kind (sym (x .peeks) k)) (text (sym (x .peeks) k)) (kind (sym (y .peeks) k)) (text (sym (y .peeks) k)))
       ∙ (λ k. sameToken (lt .kinds k) (lt .bytes k) (lu .kinds k) (lu .bytes k)));
 }
 
-step : {s : List ℕ} {n to i j : ℕ} {t u : Tok} → Lexed s i t → Lexed s j u → i < n → n ≤ length s → j < to → to ≤ length s → {b : Bool} → Left s n to i j b → Stepped s n to t u b
+step : {s : List ℕ} {n to i j : ℕ} {t u : Tok} → Lexed s i t → Lexed s j u → i < n → n ≤ length s → j < to → to ≤ length s → {b : Bool}
+    → Left s n to i j b → Stepped s n to t u b
 step {s} {n} {to} {i} {j} lt lu hi hn hj ht l =
-    stepped lt lu (l .alike) (begun (l .left) (omega (arith, length-drop i s, length-drop n s))) (begun (l .right) (omega (arith, length-drop j s, length-drop to s)))
+    stepped lt lu (l .alike) (begun (l .left) (omega (arith, length-drop i s, length-drop n s)))
+    (begun (l .right) (omega (arith, length-drop j s, length-drop to s)))
 
 module _ (s : List ℕ) (n from to i j : ℕ) (hn : n ≤ length s) (ht : to ≤ length s) (walked : Walked s n from to i j) where
   module _ {t u : Tok} (lt : Lexed s i t) (lu : Lexed s j u) (hi : i < n) (hj : j < to) {r : Bool}
-      (er : r ≡ sameToken (t .kind) (part s (t .start) (t .stop)) (u .kind) (part s (u .start) (u .stop))) where
+      (er : r ≡ sameToken (kind-number (t .kind)) (part s (t .start) (t .stop)) (kind-number (u .kind)) (part s (u .start) (u .stop))) where
     -- the two tokens are the same
     pub walk-on : r ≡ true → Walked s n from to (t .stop) (u .stop)
     walk-on e ts us h k =

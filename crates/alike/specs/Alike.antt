@@ -8,7 +8,7 @@ use lib.ListN.{drop}
 use Rattle.syntax.specs.Bytes.{same, Token}
 use Rattle.syntax.specs.Meaning.{no-zeros, alike}
 use Rattle.syntax.specs.Reader.{peek-in, skip-in}
-use Rattle.syntax.proofs.Spelling.{Spells}
+use Rattle.syntax.specs.Spelled.{Spells}
 use Rattle.lexer.specs.Lex.{part}
 
 -- digits from a to e go on at r after their leading zeros

@@ -2,10 +2,12 @@
 ghost use mathlib.Core.Path.{_≡_};
 ghost use Prim.Native.Nat.{_≤_, _<_};
 ghost use lib.ListN.{length};
-ghost use Rattle.lexer.specs.Lex.{part};
+ghost use Rattle.lexer.specs.Lex.{part, kind-number};
 ghost use Rattle.alike.specs.Alike.{Zeros, sameToken, Alike};
+use lexer::Kind;
 use lexer::Tok;
 use lexer::equal;
+use lexer::same_kind;
 use lexer::token;
 
 // Where digits that lie between two places go on after their leading zeros.
@@ -26,23 +28,24 @@ fn past_zeros(s: &[u8], a: usize, e: usize) -> usize
 // Whether two tokens are the same, leading zeros aside.
 fn same_token(s: &[u8], t: Tok, u: Tok) -> bool
     requires { ⌜ (t .start ≤ t .stop) × (t .stop ≤ length (now s)) × (u .start ≤ u .stop) × (u .stop ≤ length (now s)) ⌝ }
-    ensures { λ r. ⌜ r ≡ sameToken (t .kind) (part (now (s .entry)) (t .start) (t .stop)) (u .kind) (part (now (s .entry)) (u .start) (u .stop)) ⌝ }
+    ensures { λ r. ⌜ r ≡ sameToken (kind-number (t .kind)) (part (now (s .entry)) (t .start) (t .stop)) (kind-number (u .kind)) (part (now (s .entry)) (u .start) (u .stop)) ⌝ }
 {
     let k = t.kind;
+    let j = u.kind;
     let a = t.start;
     let e = t.stop;
     let b = u.start;
     let z = u.stop;
-    if k == 0 {
+    if same_kind(k, Kind::End) {
         return false;
     }
-    if k != u.kind {
+    if !same_kind(k, j) {
         return false;
     }
-    if k == 3 {
-        let i = past_zeros(s, a, e);
-        let j = past_zeros(s, b, z);
-        return equal(&s[i..e], &s[j..z]);
+    if same_kind(k, Kind::Digits) {
+        let m = past_zeros(s, a, e);
+        let n = past_zeros(s, b, z);
+        return equal(&s[m..e], &s[n..z]);
     }
     equal(&s[a..e], &s[b..z])
 }

@@ -2,26 +2,27 @@
 use mathlib.Core.Path.{_≡_, refl, sym, _∙_, ap, subst}
 use mathlib.Core.Bool.{Bool, true, false, cond, _&&_}
 use mathlib.Core.List.{List, [], _∷_}
-use Prim.Native.Nat.{ℕ, zero, suc, _+_, _-_, _*_, _≤_, _<_, max}
+use Prim.Native.Nat.{ℕ, suc, _+_, _-_, _*_, _≤_, _<_, max}
 use native.Mathlib.Omega.{arith}
-use borrow.Author.Tests.{le-leb}
-use lib.Dec.{leb}
+use lib.Dec.{eqb}
 use lib.ListN.{length, take, drop, set}
 use lib.Seq.{sets}
 use Rattle.syntax.specs.Bytes.{bytes, same}
 use Rattle.syntax.specs.Grammar.{Expr, Ref, single, element, showRef}
+use Rattle.rules.specs.Loop.{Class, shared, lastprivate, reduction}
+use Rattle.rules.specs.Numbers.{class-number}
 use Rattle.syntax.specs.Known.{Entry, find}
 use Rattle.syntax.specs.Meaning.{alike, is-reduction}
 use Rattle.syntax.specs.Conditions.{refName, mentions, inRef}
 use Rattle.syntax.specs.Reader.{Parsed, broken, done, next, kind, peek-in, skip-in, readExpr, readRef}
-use Rattle.syntax.proofs.Spelling.{Spells}
-use Rattle.syntax.proofs.Sound.{sounds}
+use Rattle.syntax.specs.Spelled.{Spells}
+use Rattle.syntax.proofs.SoundExpr.{sounds}
 use Rattle.code.specs.Instr.{words}
 use Rattle.code.specs.Compile.{code, codeRef, stores, checks, updates}
 use Rattle.names.specs.declared.Named as names
-use Rattle.names.specs.Table.{variableOf, classOf, Tabled, Knows}
+use Rattle.names.specs.Table.{variableOf, Tabled, Knows}
 use Rattle.lexer.specs.declared.Tok.{Tok}
-use Rattle.lexer.specs.Lex.{part, Lexed}
+use Rattle.lexer.specs.Lex.{part, kind-number, Lexed}
 use Rattle.lexer.specs.Places.{Goes, Any, passes}
 use Rattle.lexer.proofs.Said.{sees-said, sign-text}
 use Rattle.lexer.proofs.PlaceLaws.{pass-there, pass-not, pass-onward}
@@ -42,7 +43,8 @@ use Rattle.assignments.proofs.Readings.{indexed, ref-read}
 -- ---- small parts
 
 module _ {b : Bool} {line operand place : ℕ} {before after : List ℕ} where
-  pub tests-some : b ≡ true → after ≡ set (set before (2 * place) (12 + 32 * line)) (suc (2 * place)) operand → Tests b line operand place before after (place + 1)
+  pub tests-some : b ≡ true → after ≡ set (set before (2 * place) (12 + 32 * line)) (suc (2 * place)) operand
+      → Tests b line operand place before after (place + 1)
   tests-some e h = record {
     next = ap (λ (c : Bool). place + cond c 1 0) (sym e);
     written = h ∙ ap (λ (c : Bool). sets before (2 * place) (testWords c line operand)) (sym e);
@@ -68,28 +70,29 @@ back-unread n g e = subst (λ (x : Got). Back n x Broken) (sym e) refl
 
 -- ---- the name
 
-class-reduction : (n : ℕ) → leb 3 n ≡ is-reduction (classOf n)
-class-reduction zero = refl
-class-reduction (suc zero) = refl
-class-reduction (suc (suc zero)) = refl
-class-reduction (suc (suc (suc n))) = le-leb 3 (suc (suc (suc n))) (omega arith)
+class-reduction : (c : Class) → eqb (class-number c) 2 ≡ is-reduction c
+class-reduction shared = refl
+class-reduction lastprivate = refl
+class-reduction reduction = refl
 
 module _ (T s : List ℕ) {t u : Tok} (lt : Lexed s 0 t) (lu : Lexed s (t .stop) u) {b : Bool} (eb : b ≡ same (40 ∷ []) (part s (u .start) (u .stop))) where
   bracket : b ≡ stands 40 (skip-in s)
   bracket = eb ∙ sym (ap (stands 40) (lt .next) ∙ sees-said lu (40 ∷ []) refl)
 
-  pub targets-none : (t .kind ≡ 1 → ⊥) → Targets T s (record { subscripted = b; reduction = false; variable = false; operand = 0 })
+  pub targets-none : (kind-number (t .kind) ≡ 1 → ⊥) → Targets T s (record { subscripted = b; reduction = false; variable = false; operand = 0 })
   targets-none n = record { subscripted = bracket; named = λ h. absurd (n (sym (lt .kinds) ∙ h)) }
 
-  pub targets-some : (n : names.Named) (v : Bool) (o : ℕ) → ((t′ : List Entry) → Tabled T t′ → Knows t′ (part s (t .start) (t .stop)) n) → v ≡ same (part s (t .start) (t .stop)) (variableOf T)
-      → o ≡ cond b (spanOf (n .first) (n .size)) (n .first) → Targets T s (record { subscripted = b; reduction = leb 3 (n .clause); variable = v; operand = o })
+  pub targets-some : (n : names.Named) (v : Bool) (o : ℕ) → ((t′ : List Entry) → Tabled T t′ → Knows t′ (part s (t .start) (t .stop)) n)
+      → v ≡ same (part s (t .start) (t .stop)) (variableOf T)
+      → o ≡ cond b (spanOf (n .first) (n .size)) (n .first) → Targets T s (record { subscripted = b; reduction = eqb (n .class) 2; variable = v; operand = o })
   targets-some n v o k ev eo = record {
     subscripted = bracket;
     named = λ h t′ d.
         let w = part s (t .start) (t .stop) in
-        subst (λ (x : List ℕ). Named t′ (variableOf T) x (record { subscripted = b; reduction = leb 3 (n .clause); variable = v; operand = o })) (sym (lt .bytes))
+        subst (λ (x : List ℕ). Named t′ (variableOf T) x (record { subscripted = b; reduction = eqb (n .class) 2; variable = v; operand = o }))
+        (sym (lt .bytes))
         (record {
-          reduction = class-reduction (n .clause) ∙ ap is-reduction (k t′ d .class);
+          reduction = ap (λ (m : ℕ). eqb m 2) (k t′ d .class) ∙ class-reduction (find w t′ .class);
           variable = ev;
           operand = eo ∙ (λ i. cond b (span-found T t′ w n d (k t′ d) i) (k t′ d .first i));
         });
@@ -97,7 +100,8 @@ module _ (T s : List ℕ) {t u : Tok} (lt : Lexed s 0 t) (lu : Lexed s (t .stop)
 
 -- ---- the words of its accesses
 
-module _ (t : List Entry) (v : List ℕ) (line : ℕ) (x : Ref) {b : Bool} (eb : b ≡ indexed x) {o : ℕ} (eo : o ≡ operandOf b (find (refName x) t .first) (find (refName x) t .size)) where
+module _ (t : List Entry) (v : List ℕ) (line : ℕ) (x : Ref) {b : Bool} (eb : b ≡ indexed x) {o : ℕ}
+    (eo : o ≡ operandOf b (find (refName x) t .first) (find (refName x) t .size)) where
   operand-is : o ≡ operandOf (indexed x) (find (refName x) t .first) (find (refName x) t .size)
   operand-is = eo ∙ ap (λ (c : Bool). operandOf c (find (refName x) t .first) (find (refName x) t .size)) eb
 
@@ -105,7 +109,9 @@ module _ (t : List Entry) (v : List ℕ) (line : ℕ) (x : Ref) {b : Bool} (eb :
   unfolding words
   store-words e = (λ i. (e ∙ ap (λ (c : Bool). cond c (11 + 32 * line) 10) eb) i ∷ operand-is i ∷ []) ∙ go x
     where
-      go : (x : Ref) → cond (indexed x) (11 + 32 * line) 10 ∷ operandOf (indexed x) (find (refName x) t .first) (find (refName x) t .size) ∷ [] ≡ words (stores t v line x ∷ [])
+      go : (x : Ref)
+          → cond (indexed x) (11 + 32 * line) 10 ∷ operandOf (indexed x) (find (refName x) t .first) (find (refName x) t .size) ∷ []
+          ≡ words (stores t v line x ∷ [])
       go (single y) = refl
       go (element y a) = refl
 
@@ -113,7 +119,9 @@ module _ (t : List Entry) (v : List ℕ) (line : ℕ) (x : Ref) {b : Bool} (eb :
   unfolding words
   update-words e = (λ i. (e ∙ ap (λ (c : Bool). cond c (14 + 32 * line) 13) eb) i ∷ operand-is i ∷ []) ∙ go x
     where
-      go : (x : Ref) → cond (indexed x) (14 + 32 * line) 13 ∷ operandOf (indexed x) (find (refName x) t .first) (find (refName x) t .size) ∷ [] ≡ words (updates t v line x ∷ [])
+      go : (x : Ref)
+          → cond (indexed x) (14 + 32 * line) 13 ∷ operandOf (indexed x) (find (refName x) t .first) (find (refName x) t .size) ∷ []
+          ≡ words (updates t v line x ∷ [])
       go (single y) = refl
       go (element y a) = refl
 
@@ -139,7 +147,8 @@ pub record Meant (T : List ℕ) (r : Target) (t : List Entry) (x : Ref) : Type 0
   pub variable : r .variable ≡ same (refName x) (variableOf T)
   pub operand : r .operand ≡ operandOf (r .subscripted) (find (refName x) t .first) (find (refName x) t .size)
 
-pub meant : {T s : List ℕ} {r : Target} → Targets T s r → (t : List Entry) → Tabled T t → (f : ℕ) (x : Ref) (u : List ℕ) → readRef peek-in skip-in f s ≡ done x u → Meant T r t x
+pub meant : {T s : List ℕ} {r : Target} → Targets T s r → (t : List Entry) → Tabled T t → (f : ℕ) (x : Ref) (u : List ℕ)
+    → readRef peek-in skip-in f s ≡ done x u → Meant T r t x
 meant {T} {s} {r} ta t d f x u h =
     let q = ref-read f s u x h in
     let n = subst (λ (y : List ℕ). Named t (variableOf T) y r) (sym (q .text)) (ta .named (q .name) t d) in
@@ -147,7 +156,8 @@ meant {T} {s} {r} ta t d f x u h =
 
 -- ---- room
 
-pub room-after : (s : List ℕ) (at place lo : ℕ) (g : Got) (m : List ℕ) → Within s at place lo g → at ≤ length s → 2 * (place + 1 + (length s - at)) ≤ length m → Room 1 g m
+pub room-after : (s : List ℕ) (at place lo : ℕ) (g : Got) (m : List ℕ) → Within s at place lo g → at ≤ length s
+    → 2 * (place + 1 + (length s - at)) ≤ length m → Room 1 g m
 unfolding Within Room
 room-after s at place lo Broken m w l h = tt
 room-after s at place lo (Done n p q) m w l h = omega (arith, w .1, w .2)
@@ -171,10 +181,12 @@ back-done n g r m p d h e = subst (λ (x : Got). Back n x r) e h
 unfoldable pub Closes : ℕ → List ℕ → List ℕ → List ℕ → List ℕ → ℕ → ℕ → Got → Got → Type 0
 Closes line T s m a op o Broken r = r ≡ Broken
 Closes line T s m a op o (Done n p q) r =
-    (m′ : List ℕ) × (h : Got) × (h′ : Got) × Answers (readRef peek-in skip-in) (λ t v. codeRef t v line) (inRef 0) 0 1 T s 0 p q m m′ h × Back n h h′ × Emits 1 (op ∷ o ∷ []) h′ m′ a r
+    (m′ : List ℕ) × (h : Got) × (h′ : Got) × Answers (readRef peek-in skip-in) (λ t v. codeRef t v line) (inRef 0) 0 1 T s 0 p q m m′ h × Back n h h′
+    × Emits 1 (op ∷ o ∷ []) h′ m′ a r
 
 module _ (line : ℕ) (T s m a : List ℕ) (op o : ℕ) (g : Got) where
-  pub closes-on : (n p q : ℕ) (m′ : List ℕ) (h h′ r : Got) → g ≡ Done n p q → Answers (readRef peek-in skip-in) (λ t v. codeRef t v line) (inRef 0) 0 1 T s 0 p q m m′ h → Back n h h′ → Emits 1 (op ∷ o ∷ []) h′ m′ a r
+  pub closes-on : (n p q : ℕ) (m′ : List ℕ) (h h′ r : Got) → g ≡ Done n p q → Answers (readRef peek-in skip-in) (λ t v. codeRef t v line)
+      (inRef 0) 0 1 T s 0 p q m m′ h → Back n h h′ → Emits 1 (op ∷ o ∷ []) h′ m′ a r
       → Closes line T s m a op o g r
   unfolding Closes
   closes-on n p q m′ h h′ r e an ba em = subst (λ (x : Got). Closes line T s m a op o x r) (sym e) (m′, h, h′, an, ba, em)
@@ -183,13 +195,16 @@ module _ (line : ℕ) (T s m a : List ℕ) (op o : ℕ) (g : Got) where
   unfolding Closes
   closes-not e = subst (λ (x : Got). Closes line T s m a op o x Broken) (sym e) refl
 
-module _ (T s : List ℕ) (at line place most : ℕ) (b m a : List ℕ) (g r : Got) (tg : Target) (ta : Targets T s tg) (op : ℕ) (eop : op ≡ cond (tg .subscripted) (11 + 32 * line) 10) (far : 2 ≤ at)
-    (an : Answers (readExpr peek-in skip-in) (λ t v. code t v line) (mentions 0) 2 (suc at) T s at place most b m g) (co : Closes line T s m a op (tg .operand) g r) where
+module _ (T s : List ℕ) (at line place most : ℕ) (b m a : List ℕ) (g r : Got) (tg : Target) (ta : Targets T s tg) (op : ℕ)
+    (eop : op ≡ cond (tg .subscripted) (11 + 32 * line) 10) (far : 2 ≤ at)
+    (an : Answers (readExpr peek-in skip-in) (λ t v. code t v line) (mentions 0) 2 (suc at) T s at place most b m g)
+    (co : Closes line T s m a op (tg .operand) g r) where
   stores-bounded : Bounded s place r
   unfolding Within Bounded Closes Back Emits
   stores-bounded = by-right g (an .within) co
     where
-      by-emit : (n p : ℕ) → n ≤ length s → p + at ≤ place + n → (m′ : List ℕ) (h h′ : Got) → Within s 0 p 1 h → Back n h h′ → Emits 1 (op ∷ tg .operand ∷ []) h′ m′ a r → Bounded s place r
+      by-emit : (n p : ℕ) → n ≤ length s → p + at ≤ place + n → (m′ : List ℕ) (h h′ : Got) → Within s 0 p 1 h → Back n h h′
+          → Emits 1 (op ∷ tg .operand ∷ []) h′ m′ a r → Bounded s place r
       by-emit n p l k m′ Broken h′ w ba em = subst (Bounded s place) (sym (emits-broken 1 (op ∷ tg .operand ∷ []) h′ m′ a r em ba)) tt
       by-emit n p l k m′ (Done n₁ p₁ q₁) h′ w ba em =
           subst (Bounded s place) (sym (done-emits 1 (op ∷ tg .operand ∷ []) h′ m′ a r n p₁ q₁ em ba .0)) (l, omega (arith, w .1, w .2))
@@ -199,7 +214,8 @@ module _ (T s : List ℕ) (at line place most : ℕ) (b m a : List ℕ) (g r : G
       by-right (Done n p q) w (m′, h, h′, an₂, ba, em) = by-emit n p (w .1) (w .2) m′ h h′ (an₂ .within) ba em
 
   stores-reads : (t : List Entry) → Tabled T t → (f : ℕ) → 3 * length s + 2 < f → (x : Ref) (u : List ℕ) → readRef peek-in skip-in f s ≡ done x u
-      → Reads (codeStore t (variableOf T) line x) (λ e. max (worst t (variableOf T) (mentions 0 e)) (worst t (variableOf T) (inRef 0 x))) s (readExpr peek-in skip-in f (drop at s)) place most b a r
+      → Reads (codeStore t (variableOf T) line x) (λ e. max (worst t (variableOf T) (mentions 0 e)) (worst t (variableOf T) (inRef 0 x))) s
+      (readExpr peek-in skip-in f (drop at s)) place most b a r
   unfolding Closes Reads
   stores-reads t d f lt x u hx =
       let v = variableOf T in
@@ -208,13 +224,15 @@ module _ (T s : List ℕ) (at line place most : ℕ) (b m a : List ℕ) (g r : G
       let c = codeStore t v line x in
       let k : Expr → ℕ = λ e. max (worst t v (mentions 0 e)) (worst t v (inRef 0 x)) in
       subst (λ (P : Parsed (List ℕ) Expr). Reads c k s P place most b a r) (next-done (readExpr peek-in skip-in f (drop at s)))
-      (reads-next c k s place most b a r (code t v line) (λ e. worst t v (mentions 0 e)) (readExpr peek-in skip-in f (drop at s)) (λ y w. done y w) m g (since-none place most b) (an .reads t d f (omega arith))
+      (reads-next c k s place most b a r (code t v line) (λ e. worst t v (mentions 0 e)) (readExpr peek-in skip-in f (drop at s))
+      (λ y w. done y w) m g (since-none place most b) (an .reads t d f (omega arith))
       (λ y n p q le e so.
       let (m′, h, h′, an₂, ba, em) = subst (λ (i : Got). Closes line T s m a op (tg .operand) i r) e co in
       let z = subst (λ (P : Parsed (List ℕ) Ref). Reads (codeRef t v line) (λ z. worst t v (inRef 0 z)) s P p q m m′ h) hx (an₂ .reads t d f (omega arith)) in
       let w = done-emits 1 (op ∷ tg .operand ∷ []) h′ m′ a r n _ _ em (back-done n h h′ _ _ _ ba (z .1)) in
       reads-done c k s place most b a r y le
-      (since-emit (since-rank (since-emit so (codeRef t v line x) (z .2)) (worst t v (inRef 0 x)) refl) (stores t v line x ∷ []) (w .1 ∙ ap (sets m′ (2 * (p + length (codeRef t v line x)))) ws))
+      (since-emit (since-rank (since-emit so (codeRef t v line x) (z .2)) (worst t v (inRef 0 x)) refl) (stores t v line x ∷ [])
+      (w .1 ∙ ap (sets m′ (2 * (p + length (codeRef t v line x)))) ws))
       refl (omega arith) (w .0))
       (λ e. subst (λ (i : Got). Closes line T s m a op (tg .operand) i r) e co))
 
@@ -223,10 +241,12 @@ module _ (T s : List ℕ) (at line place most : ℕ) (b m a : List ℕ) (g r : G
 
 -- ---- an update
 
-module _ (T s : List ℕ) (at line place most : ℕ) (b m m′ a : List ℕ) (p : ℕ) (g r : Got) (tg : Target) (ta : Targets T s tg) (op : ℕ) (eop : op ≡ cond (tg .subscripted) (14 + 32 * line) 13)
+module _ (T s : List ℕ) (at line place most : ℕ) (b m m′ a : List ℕ) (p : ℕ) (g r : Got) (tg : Target) (ta : Targets T s tg) (op : ℕ)
+    (eop : op ≡ cond (tg .subscripted) (14 + 32 * line) 13)
     (te : Tests (tg .subscripted) line (tg .operand) place b m p)
     (an : Answers readRemainder (λ t v. code t v line) (mentions 0) 1 (suc at) T s at p most m m′ g) (em : Emits 1 (op ∷ tg .operand ∷ []) g m′ a r) where
-  updates-reads : (t : List Entry) → Tabled T t → (f : ℕ) → 3 * (length s - at) + 1 < f → (j : ℕ) (x : Ref) (u : List ℕ) → readRef peek-in skip-in j s ≡ done x u
+  updates-reads : (t : List Entry) → Tabled T t → (f : ℕ) → 3 * (length s - at) + 1 < f → (j : ℕ) (x : Ref) (u : List ℕ)
+      → readRef peek-in skip-in j s ≡ done x u
       → Reads (codeUpdate t (variableOf T) line x) (λ e. worst t (variableOf T) (mentions 0 e)) s (readRemainder f (drop at s)) place most b a r
   updates-reads t d f lt j x u hx =
       let v = variableOf T in
@@ -236,7 +256,8 @@ module _ (T s : List ℕ) (at line place most : ℕ) (b m m′ a : List ℕ) (p 
       let k : Expr → ℕ = λ e. worst t v (mentions 0 e) in
       let ep : place + length (checks t v line x) ≡ p = omega (arith, te .next, check-length t v line x (me .subscripted) (me .operand)) in
       let so : Since place most b (checks t v line x) 0 p most m =
-      subst (λ (i : ℕ). Since place most b (checks t v line x) 0 i most m) ep (since-emit (since-none place most b) (checks t v line x) (te .written ∙ ap (sets b (2 * place)) (check-words t v line x (me .subscripted) (me .operand)))) in
+      subst (λ (i : ℕ). Since place most b (checks t v line x) 0 i most m) ep (since-emit (since-none place most b) (checks t v line x)
+      (te .written ∙ ap (sets b (2 * place)) (check-words t v line x (me .subscripted) (me .operand)))) in
       subst (λ (P : Parsed (List ℕ) Expr). Reads c k s P place most b a r) (next-done (readRemainder f (drop at s)))
       (reads-next c k s place most b a r (code t v line) k (readRemainder f (drop at s)) (λ y w. done y w) m′ g so (an .reads t d f lt)
       (λ y n p′ q le e so′.
@@ -262,15 +283,20 @@ module _ (b : Bool) (T s : List ℕ) (n from place most : ℕ) (before after : L
     where
       go : (t : List Entry) (x : Ref) (P : Parsed (List ℕ) Ref) → Begun b t (variableOf T) s x P place most Broken
       go t x broken = refl
-      go t x (done y u) = subst (λ (c : Bool). Adds (c && (stands 43 u && alike (showRef x) (showRef y))) s u place (max most (worst t (variableOf T) (inRef 0 y))) Broken) (sym e) refl
+      go t x (done y u) = subst
+          (λ (c : Bool). Adds (c && (stands 43 u && alike (showRef x) (showRef y))) s u place (max most (worst t (variableOf T) (inRef 0 y))) Broken)
+          (sym e) refl
 
-  module _ (line : ℕ) (m m′ : List ℕ) (g : Got) (an : Answers (readRef peek-in skip-in) (λ t v. codeRef t v line) (inRef 0) 0 (suc from) T s from 0 most m m′ g) where
+  module _ (line : ℕ) (m m′ : List ℕ) (g : Got)
+      (an : Answers (readRef peek-in skip-in) (λ t v. codeRef t v line) (inRef 0) 0 (suc from) T s from 0 most m m′ g) where
     pub summands-unread : g ≡ Broken → Summands b T s n from place most before after Broken
     unfolding Begun Past
     summands-unread e = record {
       begun = λ t d f lt x sp.
           subst (λ (P : Parsed (List ℕ) Ref). Begun b t (variableOf T) s x P place most Broken)
-          (sym (read-broken (codeRef t (variableOf T) line) (λ y. worst t (variableOf T) (inRef 0 y)) s 0 most m m′ g (readRef peek-in skip-in f (drop from s)) (an .reads t d f (omega arith)) e)) refl;
+          (sym (read-broken (codeRef t (variableOf T) line)
+          (λ y. worst t (variableOf T) (inRef 0 y)) s 0 most m m′ g (readRef peek-in skip-in f (drop from s))
+          (an .reads t d f (omega arith)) e)) refl;
       kept = kept;
       past = tt;
     }
@@ -278,15 +304,18 @@ module _ (b : Bool) (T s : List ℕ) (n from place most : ℕ) (before after : L
     module _ (to p z : ℕ) (e : g ≡ Done to p z) where
       -- what follows the reference y
       by-reference : (r : Got) → Past s from place r
-          → ((t : List Entry) (x y : Ref) → Spells peek-in skip-in s (showRef x) (drop n s) → Spells peek-in skip-in (drop from s) (showRef y) (drop to s) → z ≡ max most (worst t (variableOf T) (inRef 0 y))
+          → ((t : List Entry) (x y : Ref) → Spells peek-in skip-in s (showRef x) (drop n s) → Spells peek-in skip-in (drop from s) (showRef y)
+          (drop to s) → z ≡ max most (worst t (variableOf T) (inRef 0 y))
           → Adds (b && (stands 43 (drop to s) && alike (showRef x) (showRef y))) s (drop to s) place (max most (worst t (variableOf T) (inRef 0 y))) r)
           → Summands b T s n from place most before after r
       unfolding Begun
       by-reference r pa h = record {
         begun = λ t d f lt x sp.
             let v = variableOf T in
-            let (y, hy, so) = read-done (codeRef t v line) (λ y. worst t v (inRef 0 y)) s 0 most m m′ g (readRef peek-in skip-in f (drop from s)) to p z (an .reads t d f (omega arith)) e in
-            subst (λ (P : Parsed (List ℕ) Ref). Begun b t v s x P place most r) (sym hy) (h t x y sp (sounds peek-in skip-in f .ref (drop from s) (drop to s) y hy) (so .rank-is));
+            let (y, hy, so) = read-done (codeRef t v line) (λ y. worst t v (inRef 0 y)) s 0 most m m′ g (readRef peek-in skip-in f (drop from s)) to p
+            z (an .reads t d f (omega arith)) e in
+            subst (λ (P : Parsed (List ℕ) Ref). Begun b t v s x P place most r) (sym hy)
+            (h t x y sp (sounds peek-in skip-in f .ref (drop from s) (drop to s) y hy) (so .rank-is));
         kept = kept;
         past = pa;
       }
@@ -315,7 +344,9 @@ module _ (b : Bool) (T s : List ℕ) (n from place most : ℕ) (before after : L
           unfolding Past Adds
           summands-other ea = by-reference Broken tt (λ t x y sx sy ez.
               subst (λ (c : Bool). Adds c s (drop to s) place (max most (worst t (variableOf T) (inRef 0 y))) Broken)
-              (sym (ap (λ (c : Bool). b && (stands 43 (drop to s) && c)) (sym (ha (showRef x) (showRef y) sx sy) ∙ ea) ∙ and-none b (stands 43 (drop to s)))) refl)
+              (sym (ap (λ (c : Bool). b && (stands 43 (drop to s) && c)) (sym (ha (showRef x) (showRef y) sx sy) ∙ ea)
+              ∙ and-none b (stands 43 (drop to s))))
+              refl)
 
           pub summands-found : b ≡ true → al ≡ true → past ≤ length s → Summands b T s n from place most before after (Done past place z)
           unfolding Past Adds

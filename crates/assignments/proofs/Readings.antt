@@ -20,7 +20,7 @@ use Rattle.parts.specs.Answer.{worst}
 use Rattle.expressions.specs.Readers.{readRemainder}
 use Rattle.parts.specs.Parts.{stands}
 use Rattle.parts.proofs.Laws.{worst-append}
-use Rattle.statements.proofs.Passing.{next-assoc, next-same}
+use Rattle.syntax.proofs.ReaderLaws.{next-assoc, next-same}
 
 -- ---- a reference
 
@@ -41,7 +41,12 @@ ref-read zero u w x h = absurd (not-done h)
 ref-read (suc f) u w x h =
     bound (readName peek-in skip-in u) _ h λ n m h1 k1.
     let (p, q) = conded (eqb (kind (peek-in u)) 1) (done (text (peek-in u)) (skip-in u)) h1 in
-    same-done (λ n m. choose (stands 40 m) (λ _. next (readExpr peek-in skip-in f (skip-in m)) (λ e v. next (expects peek-in skip-in ")" v) (λ _ w. done (element n e) w))) (λ _. done (single n) m) ≡ done x w → Referred u x) q
+    same-done (λ n m. choose (stands 40 m)
+    (λ _. next (readExpr peek-in skip-in f (skip-in m)) (λ e v. next (expects peek-in skip-in ")" v) (λ _ w. done (element n e) w)))
+    (λ _. done (single n) m)
+    ≡ done x w
+    → Referred u x)
+    q
     (λ k. elim (chosen (stands 40 (skip-in u)) _ _ k) [
       | inl c ↦
           bound (readExpr peek-in skip-in f (skip-in (skip-in u))) _ (c .1) λ e m2 h2 k2.
@@ -87,7 +92,8 @@ module _ (f : ℕ) (u w : List ℕ) (y : Ref) (h : readRef peek-in skip-in f u �
   unfolding readTerm
   term-is = rw (factor-is, factors-none)
 
-  terms-are : readTerms peek-in skip-in (suc (suc f)) w ≡ next (readTerm peek-in skip-in (suc f) (skip-in w)) (λ t v. next (readTerms peek-in skip-in (suc f) v) (λ ts z. done (terms false t ts) z))
+  terms-are : readTerms peek-in skip-in (suc (suc f)) w
+      ≡ next (readTerm peek-in skip-in (suc f) (skip-in w)) (λ t v. next (readTerms peek-in skip-in (suc f) v) (λ ts z. done (terms false t ts) z))
   unfolding readTerms
   terms-are = rw (p, plus-no w (45 ∷ []) p refl)
 
@@ -95,18 +101,26 @@ module _ (f : ℕ) (u w : List ℕ) (y : Ref) (h : readRef peek-in skip-in f u �
   unfolding readExpr joined
   joined-read =
       rw (lead-none, term-is, terms-are)
-      (next-assoc (readTerm peek-in skip-in (suc f) (skip-in w)) (λ t v. next (readTerms peek-in skip-in (suc f) v) (λ ts z. done (terms false t ts) z)) (λ ts z. done (expr bare (term (cell y) no-factors) ts) z)
-      ∙ next-same (readTerm peek-in skip-in (suc f) (skip-in w)) _ _ (λ t v. next-assoc (readTerms peek-in skip-in (suc f) v) (λ ts z. done (terms false t ts) z) (λ ts z. done (expr bare (term (cell y) no-factors) ts) z)
+      (next-assoc (readTerm peek-in skip-in (suc f) (skip-in w))
+      (λ t v. next (readTerms peek-in skip-in (suc f) v) (λ ts z. done (terms false t ts) z))
+      (λ ts z. done (expr bare (term (cell y) no-factors) ts) z)
+      ∙ next-same (readTerm peek-in skip-in (suc f) (skip-in w)) _ _
+      (λ t v. next-assoc (readTerms peek-in skip-in (suc f) v) (λ ts z. done (terms false t ts) z)
+      (λ ts z. done (expr bare (term (cell y) no-factors) ts) z)
       ∙ sym (next-assoc (readTerms peek-in skip-in (suc f) v) (λ ts z. done (expr bare t ts) z) (λ e z. done (joined y e) z)))
-      ∙ sym (next-assoc (readTerm peek-in skip-in (suc f) (skip-in w)) (λ t v. next (readTerms peek-in skip-in (suc f) v) (λ ts z. done (expr bare t ts) z)) (λ e z. done (joined y e) z)))
+      ∙ sym (next-assoc (readTerm peek-in skip-in (suc f) (skip-in w))
+      (λ t v. next (readTerms peek-in skip-in (suc f) v) (λ ts z. done (expr bare t ts) z)) (λ e z. done (joined y e) z)))
 
 pub joined-summand : (y : Ref) (e : Expr) → summand (joined y e) ≡ some y
 unfolding joined summand
 joined-summand y (expr l t ts) = refl
 
-pub joined-rank : (t : List Entry) (v : List ℕ) (y : Ref) (e : Expr) → worst t v (mentions 0 (joined y e)) ≡ max (worst t v (inRef 0 y)) (worst t v (mentions 0 e))
+pub joined-rank : (t : List Entry) (v : List ℕ) (y : Ref) (e : Expr)
+    → worst t v (mentions 0 (joined y e)) ≡ max (worst t v (inRef 0 y)) (worst t v (mentions 0 e))
 unfolding joined mentions
-joined-rank t v y (expr l a as′) = worst-append t v (inRef 0 y ++ []) (inTerm 0 a ++ inTerms 0 as′) ∙ ap (λ (ms : List _). max (worst t v ms) (worst t v (inTerm 0 a ++ inTerms 0 as′))) (append-nil (inRef 0 y))
+joined-rank t v y (expr l a as′) =
+    worst-append t v (inRef 0 y ++ []) (inTerm 0 a ++ inTerms 0 as′)
+    ∙ ap (λ (ms : List _). max (worst t v ms) (worst t v (inTerm 0 a ++ inTerms 0 as′))) (append-nil (inRef 0 y))
 
 -- what is read as a remainder has no lead
 pub joined-remainder : (f : ℕ) (u w : List ℕ) (y : Ref) (e : Expr) → readRemainder f u ≡ done e w → remainder (joined y e) ≡ e
@@ -143,7 +157,8 @@ bare-read u m l e h = go (stands 43 u) (stands 45 u) h
     go false true h = absurd (let z : _≡_ {A = ℕ} 0 1 = cc in omega arith)
     go false false h = cc
 
-factor-read : (f : ℕ) (u m : List ℕ) (x : Factor) (y : Ref) → x ≡ cell y → readFactor peek-in skip-in (suc f) u ≡ done x m → readRef peek-in skip-in f u ≡ done y m
+factor-read : (f : ℕ) (u m : List ℕ) (x : Factor) (y : Ref) → x ≡ cell y → readFactor peek-in skip-in (suc f) u ≡ done x m
+    → readRef peek-in skip-in f u ≡ done y m
 unfolding readFactor
 factor-read f u m x y e h = elim (chosen (isDigits peek-in skip-in u) _ _ h) [
   | inl c ↦
@@ -179,7 +194,8 @@ factors-read f u m xs e h = elim (chosen (sees peek-in skip-in "*" u || sees pee
   | inr c ↦ let k = c .1 in cc
 ]
 
-term-read : (f : ℕ) (u m : List ℕ) (t : Term) (y : Ref) → t ≡ term (cell y) no-factors → readTerm peek-in skip-in (suc (suc f)) u ≡ done t m → readRef peek-in skip-in f u ≡ done y m
+term-read : (f : ℕ) (u m : List ℕ) (t : Term) (y : Ref) → t ≡ term (cell y) no-factors → readTerm peek-in skip-in (suc (suc f)) u ≡ done t m
+    → readRef peek-in skip-in f u ≡ done y m
 unfolding readTerm
 term-read f u m t y e h =
     bound (readFactor peek-in skip-in (suc f) u) _ h λ x m1 h1 k1.

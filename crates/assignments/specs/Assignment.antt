@@ -12,7 +12,7 @@ use Rattle.syntax.specs.Known.{Entry, find}
 use Rattle.syntax.specs.Meaning.{alike, is-reduction}
 use Rattle.syntax.specs.Conditions.{mentions, inRef}
 use Rattle.syntax.specs.Reader.{Parsed, broken, done, peek-in, skip-in, readExpr, readRef}
-use Rattle.syntax.proofs.Spelling.{Spells}
+use Rattle.syntax.specs.Spelled.{Spells}
 use Rattle.code.specs.Instr.{Instr}
 use Rattle.code.specs.Compile.{code, codeRef, stores, checks, updates}
 use Rattle.names.specs.Table.{variableOf, Tabled}
@@ -96,5 +96,6 @@ pub record Updates (T s : List ℕ) (at line place most : ℕ) (before after : L
 -- the right side at a place, where x is the left side
 pub record Stores (T s : List ℕ) (at line place most : ℕ) (before after : List ℕ) (r : Got) : Type 0 where
   pub reads : (t : List Entry) → Tabled T t → (f : ℕ) → 3 * length s + 2 < f → (x : Ref) (u : List ℕ) → readRef peek-in skip-in f s ≡ done x u
-      → Reads (codeStore t (variableOf T) line x) (λ e. max (worst t (variableOf T) (mentions 0 e)) (worst t (variableOf T) (inRef 0 x))) s (readExpr peek-in skip-in f (drop at s)) place most before after r
+      → Reads (codeStore t (variableOf T) line x) (λ e. max (worst t (variableOf T) (mentions 0 e)) (worst t (variableOf T) (inRef 0 x))) s
+      (readExpr peek-in skip-in f (drop at s)) place most before after r
   pub within : Bounded s place r

@@ -18,8 +18,10 @@ use code::UPDATE_AT;
 use expressions::expression;
 use expressions::reference;
 use expressions::remainder;
+use lexer::Kind;
 use lexer::pass;
 use lexer::reads;
+use lexer::same_kind;
 use lexer::token;
 use names::Table;
 use names::VARIABLE;
@@ -60,7 +62,7 @@ fn target_of(s: &[u8], table: &Table) -> Target
     let e = t.stop;
     let u = token(s, e);
     let subscripted = reads(s, u, b"(");
-    if k != 1 {
+    if !same_kind(k, Kind::Name) {
         return Target {
             subscripted,
             reduction: false,
@@ -71,7 +73,7 @@ fn target_of(s: &[u8], table: &Table) -> Target
     let n = find(table, &s[a..e]);
     Target {
         subscripted,
-        reduction: 3 <= n.clause,
+        reduction: n.class == rules::REDUCTION,
         variable: is_named(table, VARIABLE, &s[a..e]),
         operand: operand_of(subscripted, n.first, n.size),
     }

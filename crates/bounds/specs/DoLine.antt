@@ -8,7 +8,7 @@ use lib.ListN.{length}
 use lib.IntN.{ℤ, pos, negsuc}
 use Rattle.syntax.specs.Grammar.{number, Lead}
 use Rattle.syntax.specs.Known.{Entry, known, signed, iterations}
-use Rattle.syntax.specs.Reader.{Reader, _>>=_, _>>_, yield, expects, readName, readLead, readDigits, peek-in, skip-in}
+use Rattle.syntax.specs.Reader.{Reader, readBounds, peek-in, skip-in}
 use Rattle.lexer.specs.Lex.{part}
 use Rattle.lexer.specs.Places.{Goes, leadOf}
 use Rattle.names.specs.Table.{variableOf, Tabled, lengthAt, variableEntry, nameWords}
@@ -24,16 +24,8 @@ pub record Ends : Type 0 where
   pub last-lead : Lead
   pub last : List ℕ
 
-abbrev pub readBounds : Reader (List ℕ) Ends
-readBounds = do
-  v ← readName peek-in skip-in
-  expects peek-in skip-in "="
-  l ← readLead peek-in skip-in
-  m ← readDigits peek-in skip-in
-  expects peek-in skip-in ","
-  k ← readLead peek-in skip-in
-  n ← readDigits peek-in skip-in
-  yield (record { name = v; lead = l; first = m; last-lead = k; last = n })
+abbrev pub readEnds : Reader (List ℕ) Ends
+readEnds = readBounds peek-in skip-in (λ v l m k n. record { name = v; lead = l; first = m; last-lead = k; last = n })
 
 -- the code found these
 pub record Found (s : List ℕ) (r : Bounds) (e : Ends) : Type 0 where
@@ -67,4 +59,4 @@ pub record Looping (t : List Entry) (T′ : List ℕ) (r : Looped) (e : Ends) : 
   pub short : lengthAt T′ variableEntry ≤ nameWords
 
 abbrev pub Do : List ℕ → List ℕ → ℕ → List ℕ → Looped → Type 0
-Do T s at T′ r = (t : List Entry) → Tabled T t → Goes (Looping t T′ r) s at readBounds (r .next)
+Do T s at T′ r = (t : List Entry) → Tabled T t → Goes (Looping t T′ r) s at readEnds (r .next)

@@ -5,10 +5,11 @@ ghost use Prim.Native.Nat.{_≤_, _<_, _+_, _-_};
 ghost use lib.ListN.{length};
 ghost use Rattle.syntax.specs.Known.{signed};
 ghost use Rattle.lexer.specs.Places.{Goes, leadOf};
-ghost use Rattle.bounds.specs.DoLine.{Found, readBounds, raise, Do};
+ghost use Rattle.bounds.specs.DoLine.{Found, readEnds, raise, Do};
 use heading::item_value;
 use heading::limited;
 use heading::ranked;
+use lexer::Leading;
 use lexer::digits;
 use lexer::lead;
 use lexer::name;
@@ -23,15 +24,15 @@ pub struct Bounds {
     pub next: usize,
     pub start: usize,
     pub stop: usize,
-    pub lead: u32,
+    pub lead: Leading,
     pub first: u32,
-    pub tail: u32,
+    pub tail: Leading,
     pub last: u32,
 }
 
 fn bounds_at(s: &[u8], at: usize) -> Bounds
     requires { ⌜ length (now s) ≤ 2048 ⌝ }
-    ensures { λ r. ⌜ Goes (Found (now (s .entry)) r) (now (s .entry)) at readBounds (r .next) ⌝ }
+    ensures { λ r. ⌜ Goes (Found (now (s .entry)) r) (now (s .entry)) at readEnds (r .next) ⌝ }
 {
     let v = name(s, at);
     let a = pass(s, v.next, b"=");
@@ -40,26 +41,28 @@ fn bounds_at(s: &[u8], at: usize) -> Bounds
     let b = pass(s, m.next, b",");
     let k = lead(s, b);
     let n = digits(s, k.next);
+    let lead = l.sign;
+    let tail = k.sign;
     Bounds {
         next: n.next,
         start: v.start,
         stop: v.next,
-        lead: l.sign,
+        lead,
         first: m.number,
-        tail: k.sign,
+        tail,
         last: n.number,
     }
 }
 
 // A bound and 2^31.
-fn raised(sign: u32, size: u32) -> u64
+fn raised(sign: Leading, size: u32) -> u64
     requires { ⌜ size ≤ 2147483648 ⌝ }
     ensures { λ r. ⌜ r ≡ raise (signed (leadOf sign) size) ⌝ }
 {
-    if sign < 2 {
-        2147483648 + size as u64
-    } else {
-        2147483648 - size as u64
+    match sign {
+        Leading::Bare => 2147483648 + size as u64,
+        Leading::Plus => 2147483648 + size as u64,
+        Leading::Minus => 2147483648 - size as u64,
     }
 }
 
@@ -99,10 +102,12 @@ pub fn do_line(s: &[u8], at: usize, table: &mut Table) -> Looped
     }
     let a = b.start;
     let e = b.stop;
-    let count = count_from(raised(b.lead, b.first), raised(b.tail, b.last));
+    let lead = b.lead;
+    let tail = b.tail;
+    let count = count_from(raised(lead, b.first), raised(tail, b.last));
     let v = find(table, &s[a..e]);
     let rank = ranked(0, !v.known, limited(b.first, b.last));
-    let from = item_value(b.lead, b.first);
+    let from = item_value(lead, b.first);
     put_name(table, VARIABLE, &s[a..e]);
     Looped {
         next,

@@ -38,30 +38,47 @@ module _ (text : List ℕ) (r : Reading) (T : List ℕ) (I : List ℤ) (C : List
     unfolding loadOf cellsLoaded
     load-bad b = (sym (ap (λ (v : Verdict). loadOf v (length M)) (b .verdict)), sym (ap (λ (v : Verdict). cellsLoaded v M) (b .verdict)))
 
-    pub load-other : Fine text r T I C h → (length M ≡ r .progress .cells → ⊥) → (Rejected 5 0 ≡ loadOf (read text) (length M)) × (M ≡ cellsLoaded (read text) M)
+    pub load-other : Fine text r T I C h → (length M ≡ r .progress .cells → ⊥)
+        → (Rejected 5 0 ≡ loadOf (read text) (length M)) × (M ≡ cellsLoaded (read text) M)
     unfolding loadOf cellsLoaded
     load-other f n =
-        let e = ne-eqb (length M) (cells (f .state .table)) (λ (z : length M ≡ cells (f .state .table)). n (z ∙ sym (f .represents .cells-so-far))) in
-        (sym (ap (λ (v : Verdict). loadOf v (length M)) (f .verdict) ∙ ap (λ (b : Bool). completed (cond b 0 5)) e), sym (ap (λ (v : Verdict). cellsLoaded v M) (f .verdict) ∙ ap (λ (b : Bool). taken (cond b 0 5) (loaded (f .state .table)) M) e))
+        let e = ne-eqb (length M) (cells (f .state .table)) (λ (z : length M ≡ cells (f .state .table)). n (z ∙ sym (f .represents .cells-so-far))) in (
+          sym (ap (λ (v : Verdict). loadOf v (length M)) (f .verdict) ∙ ap (λ (b : Bool). completed (cond b 0 5)) e),
+          sym (ap (λ (v : Verdict). cellsLoaded v M) (f .verdict) ∙ ap (λ (b : Bool). taken (cond b 0 5) (loaded (f .state .table)) M) e),
+        )
 
     first-cells : (f : Fine text r T I C h) → length M ≡ r .progress .cells → take (length M) I ≡ loaded (f .state .table)
     first-cells f e =
         let sane = accepted-sane text (f .state) (f .verdict) in
-        ap (take (length M)) (f .represents .filled) ∙ take-at (loaded (f .state .table)) (replicate (4096 - cells (f .state .table)) (pos 0)) (length M) (loaded-length (f .state .table) (sane .table) ∙ sym (e ∙ f .represents .cells-so-far))
+        ap (take (length M)) (f .represents .filled)
+        ∙ take-at (loaded (f .state .table)) (replicate (4096 - cells (f .state .table)) (pos 0)) (length M)
+        (loaded-length (f .state .table) (sane .table) ∙ sym (e ∙ f .represents .cells-so-far))
 
-    pub load-fine : (f : Fine text r T I C h) → length M ≡ r .progress .cells → (Done ≡ loadOf (read text) (length M)) × (take (length M) I ≡ cellsLoaded (read text) M)
+    pub load-fine : (f : Fine text r T I C h) → length M ≡ r .progress .cells
+        → (Done ≡ loadOf (read text) (length M)) × (take (length M) I ≡ cellsLoaded (read text) M)
     unfolding loadOf cellsLoaded
     load-fine f e =
-        let q = eq-eqb (length M) (cells (f .state .table)) (e ∙ f .represents .cells-so-far) in
-        (sym (ap (λ (v : Verdict). loadOf v (length M)) (f .verdict) ∙ ap (λ (b : Bool). completed (cond b 0 5)) q), first-cells f e ∙ sym (ap (λ (v : Verdict). cellsLoaded v M) (f .verdict) ∙ ap (λ (b : Bool). taken (cond b 0 5) (loaded (f .state .table)) M) q))
+        let q = eq-eqb (length M) (cells (f .state .table)) (e ∙ f .represents .cells-so-far) in (
+          sym (ap (λ (v : Verdict). loadOf v (length M)) (f .verdict) ∙ ap (λ (b : Bool). completed (cond b 0 5)) q),
+          first-cells f e
+              ∙ sym (ap (λ (v : Verdict). cellsLoaded v M) (f .verdict) ∙ ap (λ (b : Bool). taken (cond b 0 5) (loaded (f .state .table)) M) q),
+        )
 
     pub load-long : Fine text r T I C h → length M ≡ r .progress .cells → length M ≤ length I
     load-long f e =
         let sane = accepted-sane text (f .state) (f .verdict) in
-        omega (arith, ap length (f .represents .filled), length-append (loaded (f .state .table)) (replicate (4096 - cells (f .state .table)) (pos 0)), loaded-length (f .state .table) (sane .table), e, f .represents .cells-so-far)
+        omega (
+          arith,
+          ap length (f .represents .filled),
+          length-append (loaded (f .state .table)) (replicate (4096 - cells (f .state .table)) (pos 0)),
+          loaded-length (f .state .table) (sane .table),
+          e,
+          f .represents .cells-so-far,
+        )
 
     -- the cells after a copy of the first
-    pub load-copied : (U : List ℤ) → length U ≡ length M → length M ≤ length I → take (length (take (length M - 0) (drop 0 I))) U ≡ take (length M - 0) (drop 0 I) → U ≡ take (length M) I
+    pub load-copied : (U : List ℤ) → length U ≡ length M → length M ≤ length I
+        → take (length (take (length M - 0) (drop 0 I))) U ≡ take (length M - 0) (drop 0 I) → U ≡ take (length M) I
     load-copied U e b q =
         let z : length M - 0 ≡ length M = omega arith in
         copied-whole U (take (length M - 0) (drop 0 I)) (e ∙ sym (simp length-take (omega arith))) q ∙ ap (λ (n : ℕ). take n I) z

@@ -1,2 +1,4 @@
--- Clauses and the directive.
-pub mod ClauseLines
+-- Names in clauses, clauses one after the other, and what they come to.
+pub mod NamesClaimed
+pub mod ClausesRead
+pub mod ClassesGiven

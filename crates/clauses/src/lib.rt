@@ -1,30 +1,45 @@
 // The directive (document 01, The loop text, 3), after its first words.
 ghost use mathlib.Core.Path.{_≡_};
-ghost use mathlib.Core.Bool.{true, _||_};
-ghost use lib.Dec.{eqb};
-ghost use Prim.Native.Nat.{_≤_, _<_, _+_};
-ghost use lib.ListN.{length, drop};
-ghost use Rattle.syntax.specs.Conditions.{within};
-ghost use Rattle.syntax.specs.Reader.{kind, says, peek-in, skip-in};
+ghost use Prim.Native.Nat.{_≤_, _<_, _+_, min};
+ghost use lib.ListN.{length};
+ghost use Rattle.syntax.specs.Bytes.{between};
+ghost use Rattle.rules.specs.Numbers.{class-number};
+ghost use Rattle.syntax.specs.Grammar.{number};
+ghost use Rattle.syntax.specs.Known.{class-by};
+ghost use Rattle.syntax.specs.Reader.{readKind, readThreads, peek-in, skip-in};
 ghost use Rattle.lexer.specs.Places.{Goes};
-ghost use Rattle.names.specs.Table.{classOf, nameWords};
+ghost use Rattle.names.specs.Table.{nameWords};
 ghost use Rattle.heading.specs.Lists.{Keeps, Standing};
-ghost use Rattle.clauses.specs.Directive.{Claim, ClaimAt, Claims, readClass, ClauseAt, Clauses, Directive};
+ghost use Rattle.clauses.specs.Directive.{Claim, ClaimAt, Claims, NamesAt, ClauseAt, Clauses, Directive};
 use heading::Headed;
 use heading::ranked;
+use lexer::Number;
 use lexer::digits;
+use lexer::is_end;
 use lexer::name;
 use lexer::pass;
-use lexer::reads;
-use lexer::token;
 use names::Table;
 use names::classify;
 use names::find;
+use syntax::ClauseKind;
+
+// ---- names
+
+// The number of the class that a clause gives its names: here a clause becomes a class.
+fn class_of(kind: ClauseKind) -> u32
+    ensures { λ r. ⌜ (r ≡ class-number (class-by kind)) × (r ≤ 2) ⌝ }
+{
+    match kind {
+        ClauseKind::Shared => rules::SHARED,
+        ClauseKind::Lastprivate => rules::LASTPRIVATE,
+        ClauseKind::Reduction => rules::REDUCTION,
+    }
+}
 
 // A name in a clause: the rank with that of the name, which is declared and stands in no clause before.
-fn claim(table: &mut Table, w: &[u8], clause: u32, rank: u32) -> u32
-    requires { ⌜ (length (now w) ≤ nameWords) × (1 ≤ clause) × (clause ≤ 3) × Standing (now table) ⌝ }
-    ensures { λ r. ⌜ Claim (now (table .entry)) (now (w .entry)) clause rank (now (table .exit)) r ⌝ }
+fn claim(table: &mut Table, w: &[u8], kind: ClauseKind, rank: u32) -> u32
+    requires { ⌜ (length (now w) ≤ nameWords) × Standing (now table) ⌝ }
+    ensures { λ r. ⌜ Claim (now (table .entry)) (now (w .entry)) kind rank (now (table .exit)) r ⌝ }
     ensures { λ _. ⌜ Keeps (now (table .entry)) (now (table .exit)) × Standing (now (table .exit)) ⌝ }
 {
     let n = find(table, w);
@@ -32,17 +47,17 @@ fn claim(table: &mut Table, w: &[u8], clause: u32, rank: u32) -> u32
     if !n.known {
         return ranked(rank, false, true);
     }
-    if n.clause != 0 {
+    if n.claimed {
         return ranked(rank, false, true);
     }
-    classify(table, index, clause);
+    classify(table, index, class_of(kind));
     rank
 }
 
 // The name at a place, in a clause.
-fn claim_at(s: &[u8], at: usize, table: &mut Table, clause: u32, rank: u32) -> Headed
-    requires { ⌜ (length (now s) ≤ 2048) × (1 ≤ clause) × (clause ≤ 3) × Standing (now table) ⌝ }
-    ensures { λ r. ⌜ ClaimAt (now (table .entry)) (now (s .entry)) at clause rank (now (table .exit)) r ⌝ }
+fn claim_at(s: &[u8], at: usize, table: &mut Table, kind: ClauseKind, rank: u32) -> Headed
+    requires { ⌜ (length (now s) ≤ 2048) × Standing (now table) ⌝ }
+    ensures { λ r. ⌜ ClaimAt (now (table .entry)) (now (s .entry)) at kind rank (now (table .exit)) r ⌝ }
     ensures { λ _. ⌜ Keeps (now (table .entry)) (now (table .exit)) × Standing (now (table .exit)) ⌝ }
 {
     let x = name(s, at);
@@ -53,66 +68,70 @@ fn claim_at(s: &[u8], at: usize, table: &mut Table, clause: u32, rank: u32) -> H
     }
     Headed {
         next: e,
-        rank: claim(table, &s[a..e], clause, rank),
+        rank: claim(table, &s[a..e], kind, rank),
     }
 }
 
 // The names of a clause.
-fn claims(s: &[u8], at: usize, table: &mut Table, clause: u32, rank: u32) -> Headed
-    requires { ⌜ (length (now s) ≤ 2048) × (1 ≤ clause) × (clause ≤ 3) × Standing (now table) ⌝ }
-    ensures { λ r. ⌜ Claims (now (table .entry)) (now (s .entry)) at clause rank (now (table .exit)) r ⌝ }
+fn claims(s: &[u8], at: usize, table: &mut Table, kind: ClauseKind, rank: u32) -> Headed
+    requires { ⌜ (length (now s) ≤ 2048) × Standing (now table) ⌝ }
+    ensures { λ r. ⌜ Claims (now (table .entry)) (now (s .entry)) at kind rank (now (table .exit)) r ⌝ }
     ensures { λ _. ⌜ Keeps (now (table .entry)) (now (table .exit)) × Standing (now (table .exit)) ⌝ }
 {
-    let c = claim_at(s, at, table, clause, rank);
+    let c = claim_at(s, at, table, kind, rank);
     let comma = pass(s, c.next, b",");
     if s.len() < comma {
         return c;
     }
-    claims(s, comma, table, clause, c.rank)
+    claims(s, comma, table, kind, c.rank)
 }
 
-// The words and signs before the names of a clause: 1 shared, 2 lastprivate, 3 reduction.
-pub struct Class {
+// ---- clauses
+
+// What the words and signs before the names of a clause say, and the place after them.
+pub struct Opened {
     pub next: usize,
-    pub clause: u32,
+    pub kind: ClauseKind,
 }
 
-fn class_at(s: &[u8], at: usize) -> Class
+fn kind_at(s: &[u8], at: usize) -> Opened
     requires { ⌜ length (now s) ≤ 2048 ⌝ }
-    ensures { λ r. ⌜ Goes (λ c. classOf (r .clause) ≡ c) (now (s .entry)) at readClass (r .next) × (1 ≤ r .clause) × (r .clause ≤ 3) × (at ≤ length (now (s .entry)) → at < r .next) ⌝ }
+    ensures { λ r. ⌜ Goes (λ k. r .kind ≡ k) (now (s .entry)) at (readKind peek-in skip-in) (r .next) ⌝ }
+    ensures { λ r. ⌜ (at ≤ length (now (s .entry)) → at < r .next) ⌝ }
 {
     let a = pass(s, at, b"shared");
     if a <= s.len() {
-        return Class {
+        return Opened {
             next: pass(s, a, b"("),
-            clause: 1,
+            kind: ClauseKind::Shared,
         };
     }
     let b = pass(s, at, b"lastprivate");
     if b <= s.len() {
-        return Class {
+        return Opened {
             next: pass(s, b, b"("),
-            clause: 2,
+            kind: ClauseKind::Lastprivate,
         };
     }
     let c = pass(s, at, b"reduction");
     let d = pass(s, c, b"(");
     let e = pass(s, d, b"+");
-    Class {
+    Opened {
         next: pass(s, e, b":"),
-        clause: 3,
+        kind: ClauseKind::Reduction,
     }
 }
 
-// A clause.
-fn clause_at(s: &[u8], at: usize, table: &mut Table, rank: u32) -> Headed
+// A clause with names.
+fn names_at(s: &[u8], at: usize, table: &mut Table, rank: u32) -> Headed
     requires { ⌜ (length (now s) ≤ 2048) × Standing (now table) ⌝ }
-    ensures { λ r. ⌜ ClauseAt (now (table .entry)) (now (s .entry)) at rank (now (table .exit)) r ⌝ }
+    ensures { λ r. ⌜ NamesAt (now (table .entry)) (now (s .entry)) at rank (now (table .exit)) r ⌝ }
     ensures { λ _. ⌜ Keeps (now (table .entry)) (now (table .exit)) × Standing (now (table .exit)) ⌝ }
     ensures { λ r. ⌜ (at ≤ length (now (s .entry)) → at < r .next) ⌝ }
 {
-    let k = class_at(s, at);
-    let c = claims(s, k.next, table, k.clause, rank);
+    let k = kind_at(s, at);
+    let kind = k.kind;
+    let c = claims(s, k.next, table, kind, rank);
     let rank = c.rank;
     Headed {
         next: pass(s, c.next, b")"),
@@ -120,51 +139,22 @@ fn clause_at(s: &[u8], at: usize, table: &mut Table, rank: u32) -> Headed
     }
 }
 
-// Whether clauses end at a place: at `num_threads` or the line's end.
-fn clauses_end(s: &[u8], at: usize) -> bool
-    requires { ⌜ at ≤ length (now s) ⌝ }
-    ensures { λ r. ⌜ r ≡ says peek-in skip-in "num_threads" (drop at (now (s .entry))) || eqb (kind (peek-in (drop at (now (s .entry))))) 0 ⌝ }
+// What follows `num_threads`: its number, up to 2^31.
+fn threads_at(s: &[u8], at: usize) -> Number
+    requires { ⌜ length (now s) ≤ 2048 ⌝ }
+    ensures { λ r. ⌜ Goes (λ p. r .number ≡ min (number p) 2147483648) (now (s .entry)) at (readThreads peek-in skip-in) (r .next) ⌝ }
 {
-    let t = token(s, at);
-    let k = t.kind;
-    if reads(s, t, b"num_threads") {
-        return true;
+    let open = pass(s, at, b"(");
+    let d = digits(s, open);
+    Number {
+        next: pass(s, d.next, b")"),
+        number: d.number,
     }
-    k == 0
-}
-
-// Clauses up to `num_threads` or the line's end.
-fn clauses(s: &[u8], at: usize, table: &mut Table, rank: u32) -> Headed
-    requires { ⌜ (length (now s) ≤ 2048) × Standing (now table) ⌝ }
-    ensures { λ r. ⌜ Clauses (now (table .entry)) (now (s .entry)) at rank (now (table .exit)) r ⌝ }
-    ensures { λ _. ⌜ Keeps (now (table .entry)) (now (table .exit)) × Standing (now (table .exit)) ⌝ }
-{
-    if s.len() < at {
-        return Headed {
-            next: s.len() + 1,
-            rank,
-        };
-    }
-    if clauses_end(s, at) {
-        return Headed { next: at, rank };
-    }
-    let c = clause_at(s, at, table, rank);
-    if s.len() < c.next {
-        return c;
-    }
-    clauses(s, c.next, table, c.rank)
-}
-
-// What the directive comes to: with the number of processors, up to 2^31.
-pub struct Directed {
-    pub next: usize,
-    pub processors: u32,
-    pub rank: u32,
 }
 
 // Whether there are 1 to 8 processors.
 fn few(processors: u32) -> bool
-    ensures { λ r. ⌜ r ≡ within 1 8 processors ⌝ }
+    ensures { λ r. ⌜ r ≡ between 1 8 processors ⌝ }
 {
     if processors < 1 {
         return false;
@@ -172,21 +162,89 @@ fn few(processors: u32) -> bool
     processors <= 8
 }
 
+// One more, up to 2.
+fn again(threads: u32) -> u32
+    ensures { λ r. ⌜ r ≡ min (threads + 1) 2 ⌝ }
+{
+    if threads < 1 { 1 } else { 2 }
+}
+
+// What clauses come to: the place after them, the highest rank, how often `num_threads` stands, up to 2, and the number that it gives last, up to 2^31.
+pub struct Directed {
+    pub next: usize,
+    pub rank: u32,
+    pub threads: u32,
+    pub processors: u32,
+}
+
+// A clause after others.
+fn clause_at(s: &[u8], table: &mut Table, before: Directed) -> Directed
+    requires { ⌜ (length (now s) ≤ 2048) × Standing (now table) ⌝ }
+    ensures { λ r. ⌜ ClauseAt (now (table .entry)) (now (s .entry)) before (now (table .exit)) r ⌝ }
+    ensures { λ _. ⌜ Keeps (now (table .entry)) (now (table .exit)) × Standing (now (table .exit)) ⌝ }
+    ensures { λ r. ⌜ (before .next ≤ length (now (s .entry)) → before .next < r .next) ⌝ }
+{
+    let at = before.next;
+    let rank = before.rank;
+    let threads = before.threads;
+    let processors = before.processors;
+    let word = pass(s, at, b"num_threads");
+    if word <= s.len() {
+        let n = threads_at(s, word);
+        return Directed {
+            next: n.next,
+            rank: ranked(rank, true, few(n.number)),
+            threads: again(threads),
+            processors: n.number,
+        };
+    }
+    let c = names_at(s, at, table, rank);
+    Directed {
+        next: c.next,
+        rank: c.rank,
+        threads,
+        processors,
+    }
+}
+
+// Clauses up to the line's end, after others.
+fn clauses(s: &[u8], table: &mut Table, before: Directed) -> Directed
+    requires { ⌜ (length (now s) ≤ 2048) × Standing (now table) ⌝ }
+    ensures { λ r. ⌜ Clauses (now (table .entry)) (now (s .entry)) before (now (table .exit)) r ⌝ }
+    ensures { λ _. ⌜ Keeps (now (table .entry)) (now (table .exit)) × Standing (now (table .exit)) ⌝ }
+{
+    let at = before.next;
+    if s.len() < at {
+        return Directed {
+            next: s.len() + 1,
+            rank: before.rank,
+            threads: before.threads,
+            processors: before.processors,
+        };
+    }
+    if is_end(s, at) {
+        return before;
+    }
+    let c = clause_at(s, table, before);
+    if s.len() < c.next {
+        return c;
+    }
+    clauses(s, table, c)
+}
+
+// ---- the directive
+
 // The directive, after `parallel do`.
 pub fn directive(s: &[u8], at: usize, table: &mut Table) -> Directed
     requires { ⌜ (length (now s) ≤ 2048) × Standing (now table) ⌝ }
     ensures { λ r. ⌜ Directive (now (table .entry)) (now (s .entry)) at (now (table .exit)) r ⌝ }
     ensures { λ _. ⌜ Keeps (now (table .entry)) (now (table .exit)) ⌝ }
 {
-    let a = clauses(s, at, table, 0);
-    let n = pass(s, a.next, b"num_threads");
-    let o = pass(s, n, b"(");
-    let d = digits(s, o);
-    let c = pass(s, d.next, b")");
-    let b = clauses(s, c, table, a.rank);
-    Directed {
-        next: b.next,
-        processors: d.number,
-        rank: ranked(b.rank, true, few(d.number)),
-    }
+    let none = Directed {
+        next: at,
+        rank: 0,
+        threads: 0,
+        processors: 0,
+    };
+    clauses(s, table, none)
 }

@@ -47,7 +47,8 @@ module _ (t : List Entry) (v : List ℕ) (line : ℕ) where
 
     factors-length : (fs : Factors) → length (codeFactors t v line fs) ≤ length (showFactors fs)
     factors-length no-factors = omega arith
-    factors-length (factors o f fs) = simp length-append (omega (arith, sign-length o (sign (bytes "/")) (sign (bytes "*")), factor-length f, factors-length fs))
+    factors-length (factors o f fs) = simp length-append
+        (omega (arith, sign-length o (sign (bytes "/")) (sign (bytes "*")), factor-length f, factors-length fs))
 
     factor-length : (f : Factor) → length (codeFactor t v line f) ≤ length (showFactor f)
     factor-length (literal d) = omega arith
@@ -103,7 +104,7 @@ pub line-length : (k : ℕ) (l : Line) (s : State) → stands s l ≡ true → l
 unfolding after codeOf codeLines codeOpens codeStmts
 line-length k (declare d ds) s h = omega arith
 line-length k (give x i is) s h = omega arith
-line-length k (direct a p b) s h = omega arith
+line-length k (direct cs) s h = omega arith
 line-length k (loop v l m j n) s h = omega arith
 line-length k (inside c) s h = statement-length k c s h
 line-length k (end-do j) s h = omega arith

@@ -17,10 +17,11 @@ use Rattle.syntax.specs.Known.{Entry, find, State, Stmts, stop, set, if-then, i
 use Rattle.syntax.specs.Conditions.{opens, mentions, inTerms, inTerm, inRef, small, finished}
 use Rattle.syntax.specs.Meaning.{is-update, remainder, located, eval, place, assigned, exec}
 use Rattle.syntax.specs.Text.{read, good}
+use Rattle.syntax.specs.Sane.{SaneStmts, Sane}
 use Rattle.syntax.proofs.Spelling.{both-true}
 use Rattle.syntax.proofs.TestLaws.{all-parts}
-use Rattle.syntax.proofs.Statements.{SaneStmts, assign-small, when-small}
-use Rattle.syntax.proofs.Sane.{Sane, accepted-sane, accepted-finished}
+use Rattle.syntax.proofs.Statements.{assign-small, when-small}
+use Rattle.syntax.proofs.Sane.{accepted-sane, accepted-finished}
 use Rattle.code.specs.Instr.{Instr, jump-unless, jump, with1, with2, perform, resume}
 use Rattle.code.specs.Compile.{code, codeRef, stores, checks, updates, codeAssign, codeIf, codeStmts, codeOpens, codeLines, codeOf}
 use Rattle.code.proofs.CompiledExpr.{resume-assoc, resume-assoc₂, resume-expr}

@@ -105,7 +105,8 @@ module _ (t : List Entry) (v : List ℕ) (x : ℤ) (line : ℕ) where
         let (p, q) = all-parts small (inFactor n f) (inFactors n fs) h in
         resume-assoc₂ (codeFactor t v line f) (cond o (divide line) multiply ∷ []) (codeFactors t v line fs) rest (y ∷ s) x
         ∙ resume-factor n f _ (y ∷ s) b p (omega arith)
-        ∙ ap (evalFactor t v x line f) (fun-ext (λ z. resume-product x (codeFactors t v line fs ++ rest) s line o y z _ (λ w. resume-factors n fs rest w s b q d)))
+        ∙ ap (evalFactor t v x line f)
+        (fun-ext (λ z. resume-product x (codeFactors t v line fs ++ rest) s line o y z _ (λ w. resume-factors n fs rest w s b q d)))
 
     resume-factor : (n : ℕ) (f : Factor) (rest : List Instr) (s : List ℤ) → n ≤ 8 → all small (inFactor n f) ≡ true → length s ≤ 7 + 3 * n
         → resume (codeFactor t v line f ++ rest) 0 s x ≡ evalFactor t v x line f (λ y. resume rest 0 (y ∷ s) x)

@@ -10,7 +10,7 @@ use lib.ListN.{length, set, length-append, length-set}
 use Rattle.int32.specs.declared.Relation.{Relation}
 use Rattle.syntax.specs.Grammar.{Lead, Expr, Ref, assign, when, otherwise, end-if, loop, inside, end-do, close}
 use Rattle.syntax.specs.Known.{Entry, Stmts, stop, Open, turned, opened, State, otherwise-after, end-if-after, after}
-use Rattle.syntax.specs.Conditions.{isGiven, follows, else-fits, none-open, stands}
+use Rattle.syntax.specs.Conditions.{isGiven, may-follow, else-fits, none-open, stands}
 use Rattle.syntax.proofs.Spelling.{both-true}
 use Rattle.code.specs.Instr.{Instr, jump}
 use Rattle.code.specs.Compile.{codeAssign, codeIf, codeStmts, codeOpens, codeLines, places, codeOf, placesOf}
@@ -62,7 +62,7 @@ pub record Innermost (s : State) : Type 0 where
 -- lines that need one
 pub end-if-innermost : (s : State) (j : Bool) → stands s (inside (end-if j)) ≡ true → Innermost s
 unfolding stands
-end-if-innermost s j h = go (s .opens) refl (both-true (follows (s .stage) 5) (not (none-open (s .opens))) h .1)
+end-if-innermost s j h = go (s .opens) refl (both-true (may-follow (s .stage) 5) (not (none-open (s .opens))) h .1)
   where
     go : (os : List Open) → s .opens ≡ os → not (none-open os) ≡ true → Innermost s
     go [] e k = let z : _≡_ {A = ℕ} 0 1 = cc in absurd (omega arith)
@@ -70,7 +70,7 @@ end-if-innermost s j h = go (s .opens) refl (both-true (follows (s .stage) 5) (n
 
 pub otherwise-innermost : (s : State) → stands s (inside otherwise) ≡ true → (i : Innermost s) × (i .branch .first ≡ none)
 unfolding stands
-otherwise-innermost s h = go (s .opens) refl (both-true (follows (s .stage) 5) (else-fits (s .opens)) h .1)
+otherwise-innermost s h = go (s .opens) refl (both-true (may-follow (s .stage) 5) (else-fits (s .opens)) h .1)
   where
     unmet : (f : Option Stmts) → not (isGiven f) ≡ true → f ≡ none
     unmet none k = refl

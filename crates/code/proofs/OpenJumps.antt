@@ -12,7 +12,7 @@ use Rattle.syntax.specs.Grammar.{Expr, Ref}
 use Rattle.syntax.specs.Known.{Entry, Stmts, stop, set as assignment, if-then, if-else, then-do, Open, turned, branched, closed, opened}
 use Rattle.code.specs.Instr.{Instr, jump-unless, jump, end, operation, argument, words}
 use Rattle.code.proofs.Words.{words-getD, words-set}
-use Rattle.code.specs.Compile.{code, codeAssign, codeIf, codeStmts, codeOpen, codeOpens, codeLines, places}
+use Rattle.code.specs.Compile.{code, codeAssign, codeIf, codeStmts, codeOpen, codeOpens, codeLines}
 
 -- ---- an instruction at place p of code c, with the code after it
 
@@ -85,7 +85,9 @@ module _ (t : List Entry) (v : List ℕ) where
   codeStmts-then (assignment k r e a) b = append-then (codeAssign t v k r e) _ _ (codeStmts-then a b)
   codeStmts-then (if-then k x rel y p a) b = append-then (codeIf t v k x rel y (length (codeStmts t v p)) ++ codeStmts t v p) _ _ (codeStmts-then a b)
   codeStmts-then (if-else k x rel y p q a) b =
-      append-then (((codeIf t v k x rel y (suc (length (codeStmts t v p))) ++ codeStmts t v p) ++ (jump (length (codeStmts t v q)) ∷ [])) ++ codeStmts t v q) _ _
+      append-then
+      (((codeIf t v k x rel y (suc (length (codeStmts t v p))) ++ codeStmts t v p) ++ (jump (length (codeStmts t v q)) ∷ [])) ++ codeStmts t v q)
+      _ _
       (codeStmts-then a b)
 
   -- ---- what each line adds
@@ -147,4 +149,5 @@ module _ (t : List Entry) (v : List ℕ) where
     lines-end-if =
         let n : length so-far - (at-jump + 1) ≡ length (codeStmts t v inner) = omega (arith, instr-length (innermost o os inner)) in
         ap (_++_ (codeOpens t v os)) (codeStmts-then (o .before) (branched o (o .first) inner) ∙ branched-parts o (o .first) inner)
-        ∙ sym (ap (λ (m : ℕ). set so-far at-jump (jumpOf o (o .first) m)) n ∙ jump-set (o .first) refl _ ∙ append-assoc (codeOpens t v os) (upTo o (o .first)) _)
+        ∙ sym (ap (λ (m : ℕ). set so-far at-jump (jumpOf o (o .first) m)) n ∙ jump-set (o .first) refl _
+        ∙ append-assoc (codeOpens t v os) (upTo o (o .first)) _)

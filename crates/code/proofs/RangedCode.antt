@@ -10,9 +10,9 @@ use Rattle.syntax.specs.Bytes.{same}
 use Rattle.syntax.specs.Grammar.{number, Lead, bare, plus, minus, Expr, expr, Terms, no-terms, terms, Term, term, Factors, no-factors, factors, Factor, literal, cell, rdiv, brackets, Ref, single, element}
 use Rattle.syntax.specs.Known.{Entry, find, cells, Stmts, stop, set, if-then, if-else, Open, State}
 use Rattle.syntax.specs.Meaning.{is-update, remainder}
-use Rattle.syntax.proofs.TestLaws.{Each, each-append, cond-each}
-use Rattle.syntax.proofs.Table.{SaneTable, find-first}
-use Rattle.syntax.proofs.Sane.{Sane}
+use Rattle.syntax.specs.Sane.{Each, SaneTable, Sane}
+use Rattle.syntax.proofs.TestLaws.{each-append, cond-each}
+use Rattle.syntax.proofs.Table.{find-first}
 use Rattle.code.specs.Instr.{Instr, push, add, subtract, multiply, negate, divide, round, jump-unless, jump}
 use Rattle.code.specs.Compile.{codeLead, reads, code, codeTerms, codeTerm, codeFactors, codeFactor, codeRef, stores, checks, updates, codeAssign, codeIf, codeStmts, codeOpen, codeOpens, codeLines, codeOf}
 use Rattle.code.proofs.Words.{Ranged}
@@ -56,7 +56,8 @@ module _ (t : List Entry) (v : List ℕ) (low : (x : List ℕ) → find x t .fir
 
     factors-readable : (line : ℕ) (fs : Factors) → Readable (codeFactors t v line fs)
     factors-readable line no-factors = nil
-    factors-readable line (factors o f fs) = (factor-readable line f ▸ one (cond o (divide line) multiply) (cond-each Ranged o tt tt)) ▸ factors-readable line fs
+    factors-readable line (factors o f fs) =
+        (factor-readable line f ▸ one (cond o (divide line) multiply) (cond-each Ranged o tt tt)) ▸ factors-readable line fs
 
     factor-readable : (line : ℕ) (f : Factor) → Readable (codeFactor t v line f)
     factor-readable line (literal d) = one (push (min (number d) 2147483648)) tt

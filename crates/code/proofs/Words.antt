@@ -6,7 +6,7 @@ use native.Mathlib.Omega.{arith}
 use lib.ListN.{length, getD, set}
 use Rattle.int32.specs.declared.Relation.{Relation}
 use Rattle.int32.specs.declared.Relation.the-variants.{Equal, Unequal, Less, AtMost, Greater, AtLeast}
-use Rattle.syntax.proofs.TestLaws.{Each}
+use Rattle.syntax.specs.Sane.{Each}
 use Rattle.code.specs.Instr.{Instr, push, push-v, load, load-at, add, subtract, multiply, negate, divide, round, store, store-at, check, update, update-at, jump-unless, jump, end, relation-number, relation-of, operation, argument, words, numbered, decode, instructions}
 
 -- an array's first cell leaves room for its length in the argument

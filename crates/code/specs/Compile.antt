@@ -82,7 +82,8 @@ module _ (t : List Entry) (v : List ℕ) where
   -- an open `if` with what stood before it: its jump, or that of its `else`, is over nothing until the part's end is known
   abbrev pub codeOpen : Open → Option Stmts → List Instr
   codeOpen o none = codeStmts (o .before) ++ codeIf (o .line) (o .left) (o .relation) (o .right) 0
-  codeOpen o (some p) = ((codeStmts (o .before) ++ codeIf (o .line) (o .left) (o .relation) (o .right) (suc (length (codeStmts p)))) ++ codeStmts p) ++ (jump 0 ∷ [])
+  codeOpen o (some p) =
+      ((codeStmts (o .before) ++ codeIf (o .line) (o .left) (o .relation) (o .right) (suc (length (codeStmts p)))) ++ codeStmts p) ++ (jump 0 ∷ [])
 
   -- the open ifs, the innermost first
   unfoldable pub codeOpens : List Open → List Instr

@@ -13,13 +13,13 @@ use Rattle.syntax.specs.Bytes.{bytes, same, sign}
 use Rattle.syntax.specs.Grammar.{Expr, when, Line, inside}
 use Rattle.syntax.specs.Known.{Entry}
 use Rattle.syntax.specs.Conditions.{mentions, inLine}
-use Rattle.syntax.specs.Reader.{Parsed, broken, done, next, kind, is, relOf, given, expects, wants, peek-in, skip-in, readExpr, readRel, readWhen}
+use Rattle.syntax.specs.Reader.{Parsed, broken, done, Reader, next, kind, is, relOf, given, expects, wants, peek-in, skip-in, readExpr, readRel, readWhen}
 use Rattle.syntax.proofs.Spelling.{is-true}
 use Rattle.code.specs.Instr.{Instr, jump-unless, relation-number, words}
 use Rattle.code.specs.Compile.{code}
 use Rattle.names.specs.Table.{variableOf, Tabled}
 use Rattle.lexer.specs.declared.Tok.{Tok}
-use Rattle.lexer.specs.Lex.{part, Lexed}
+use Rattle.lexer.specs.Lex.{part, kind-number, Lexed}
 use Rattle.lexer.specs.Places.{Goes, Any, passes}
 use Rattle.lexer.proofs.Said.{signed, sees-said, word-text}
 use Rattle.lexer.proofs.PlaceLaws.{goes-some, pass-there, pass-not}
@@ -31,9 +31,11 @@ use Rattle.parts.proofs.Laws.{worst-append, since-none, since-emit, reads-done,
 use Rattle.parts.proofs.Signs.{passes-token}
 use Rattle.parts.proofs.Spans.{within-broken, within-from, within-emits, within-sealed}
 use Rattle.conditions.specs.declared.Compared.{Compared}
+use Rattle.conditions.specs.declared.Compared.the-variants.{By, Nothing}
 use Rattle.statements.specs.Statement.{codeLine, assignedRank, rankLine, Writes, Bounded, Compiles}
-use Rattle.conditions.specs.Comparison.{numberOf, Relates, Then, unread, other, ends, readCompared, codeCompared, inCompared}
-use Rattle.statements.proofs.Passing.{next-assoc, next-same, pass-passes, wants-there, wants-not, expects-there, expects-not}
+use Rattle.conditions.specs.Comparison.{Relates, Then, unread, other, ends, readRight, codeCompared, inCompared}
+use Rattle.syntax.proofs.ReaderLaws.{next-assoc, next-same}
+use Rattle.statements.proofs.Passing.{pass-passes, wants-there, wants-not, expects-there, expects-not}
 use Rattle.statements.proofs.Written.{reads-writes}
 
 -- ---- the relation
@@ -45,25 +47,38 @@ module _ {s : List ℕ} {at : ℕ} {t : Tok} (l : Lexed s at t) where
 
   pub passes-said : (x : List ℕ) → is (sign x) (peek-in (drop at s)) ≡ true → Passes 1 s at (t .stop)
   passes-said x e =
-      let k : 4 ≡ t .kind = sym (ap kind (is-true (sign x) (peek-in (drop at s)) e)) ∙ l .kinds in
+      let k : 4 ≡ kind-number (t .kind) = sym (ap kind (is-true (sign x) (peek-in (drop at s)) e)) ∙ l .kinds in
       passes-token l (λ z. omega arith)
 
   -- by the tests of the definition
-  pub relates : (n : ℕ) {a b c d e g : Bool}
+  pub relation-is : {a b c d e g : Bool}
       → is (sign (bytes "==")) (peek-in (drop at s)) ≡ a → is (sign (bytes "/=")) (peek-in (drop at s)) ≡ b → is (sign (bytes "<")) (peek-in (drop at s)) ≡ c
       → is (sign (bytes "<=")) (peek-in (drop at s)) ≡ d → is (sign (bytes ">")) (peek-in (drop at s)) ≡ e → is (sign (bytes ">=")) (peek-in (drop at s)) ≡ g
-      → n ≡ numberOf (cond a (some Equal) (cond b (some Unequal) (cond c (some Less) (cond d (some AtMost) (cond e (some Greater) (cond g (some AtLeast) none))))))
-      → (n ≤ 5 → Passes 1 s at (t .stop)) → Relates s at (record { number = n; next = t .stop })
-  relates n ea eb ec ed ee eg h p = record {
-    number = h ∙ (λ i. numberOf (cond (sym ea i) (some Equal) (cond (sym eb i) (some Unequal) (cond (sym ec i) (some Less) (cond (sym ed i) (some AtMost) (cond (sym ee i) (some Greater) (cond (sym eg i) (some AtLeast) none)))))));
-    next = p;
-  }
+      → relOf (peek-in (drop at s))
+      ≡ cond a (some Equal) (cond b (some Unequal) (cond c (some Less) (cond d (some AtMost) (cond e (some Greater) (cond g (some AtLeast) none)))))
+  relation-is ea eb ec ed ee eg =
+      λ i. cond (ea i) (some Equal)
+      (cond (eb i) (some Unequal)
+      (cond (ec i) (some Less) (cond (ed i) (some AtMost) (cond (ee i) (some Greater) (cond (eg i) (some AtLeast) none)))))
+
+-- what an answer tells
+module _ (s : List ℕ) (at : ℕ) (r : Compared) (h : Relates s at r) where
+  pub related-by : (q : Relation) (n : ℕ) → r ≡ By q n → (relOf (peek-in (drop at s)) ≡ some q) × Passes 1 s at n
+  unfolding Relates
+  related-by q n e = subst (Relates s at) e h
+
+  pub related-not : r ≡ Nothing → relOf (peek-in (drop at s)) ≡ none
+  unfolding Relates
+  related-not e = subst (Relates s at) e h
 
 -- ---- `then`
 
 module _ {s : List ℕ} {n p d : ℕ} {g : Got} (e : g ≡ Done n p d) {r : ℕ} (o : Goes Any s n (passes (bytes "then")) r) (b : n ≤ length s) where
   pub then-ends : r ≤ length s → Then s g (Done r p d)
-  then-ends h = subst (λ (x : Got). Then s x (Done r p d)) (sym e) (ends (word-text (bytes "then") refl (drop n s) ∙ pass-there s (bytes "then") n r o b h .0) (pass-passes (bytes "then") o (omega arith) b h))
+  then-ends h =
+      subst (λ (x : Got). Then s x (Done r p d)) (sym e)
+      (ends (word-text (bytes "then") refl (drop n s) ∙ pass-there s (bytes "then") n r o b h .0)
+      (pass-passes (bytes "then") o (omega arith) b h))
 
   pub then-other : length s < r → Then s g Broken
   then-other h = subst (λ (x : Got). Then s x Broken) (sym e) (other (word-text (bytes "then") refl (drop n s) ∙ pass-not s (bytes "then") n r o b h))
@@ -83,7 +98,9 @@ within-word at place lo (other e) h = tt
 within-word at place lo (ends e k) h = (omega (arith, k .from), k .within, omega (arith, k .from))
 
 -- `then`, and what comes after it
-reads-then : {C : Type 0} (c : C → List Instr) (k : C → ℕ) (s : List ℕ) (place most : ℕ) (b a : List ℕ) (r : Got) {n p q : ℕ} {g : Got} (K : List ℕ → Parsed (List ℕ) C) → Then s (Done n p q) g
+reads-then : {C : Type 0} (c : C → List Instr) (k : C → ℕ) (s : List ℕ) (place most : ℕ) (b a : List ℕ) (r : Got) {n p q : ℕ} {g : Got}
+    (K : List ℕ → Parsed (List ℕ) C)
+    → Then s (Done n p q) g
     → ((n′ : ℕ) → n′ ≤ length s → g ≡ Done n′ p q → Reads c k s (K (drop n′ s)) place most b a r)
     → (g ≡ Broken → r ≡ Broken) → Reads c k s (next (wants peek-in skip-in "then" (drop n s)) (λ _. K)) place most b a r
 unfolding Reads
@@ -100,70 +117,70 @@ relation-small AtMost = omega arith
 relation-small Greater = omega arith
 relation-small AtLeast = omega arith
 
-module _ (T s : List ℕ) (at line place most : ℕ) (b a : List ℕ) (r : Got) (j : Compared) (re : Relates s at j) where
-  pub compared-none : 5 < j .number → r ≡ Broken → Answers readCompared (codeCompared line) inCompared 2 (suc at) T s at place most b a r
+-- what follows a relation
+abbrev side : ℕ → Relation → Reader (List ℕ) (Relation × Expr)
+side f q w = next (readExpr peek-in skip-in f w) (λ y x. next (expects peek-in skip-in ")" x) (λ _ u. next (wants peek-in skip-in "then" u)
+    (λ _ z. done (q, y) z)))
+
+module _ (T s : List ℕ) (at line place most : ℕ) (b a : List ℕ) (r : Got) where
+  abbrev Reads-compared : List Entry → Parsed (List ℕ) (Relation × Expr) → Type 0
+  Reads-compared t P = Reads (codeCompared line t (variableOf T)) (λ c. worst t (variableOf T) (inCompared c)) s P place most b a r
+
+  pub compared-none : relOf (peek-in (drop at s)) ≡ none → r ≡ Broken → Answers readRight (codeCompared line) inCompared 2 (suc at) T s at place most b a r
   unfolding Reads
   compared-none h e = record {
-    reads = λ t d f lt. go t f (relOf (peek-in (drop at s))) (omega (arith, re .number));
+    reads = λ t d f lt. subst (λ (o : Option Relation). Reads-compared t (next (given peek-in skip-in o (drop at s)) (side f))) (sym h) e;
     within = subst (Within s at place (suc at)) (sym e) (within-broken s at place (suc at));
   }
-    where
-      go : (t : List Entry) (f : ℕ) (o : Option Relation) → 5 < numberOf o
-          → Reads (codeCompared line t (variableOf T)) (λ c. worst t (variableOf T) (inCompared c)) s (next (given peek-in skip-in o (drop at s)) (λ q w. next (readExpr peek-in skip-in f w) (λ y x. next (expects peek-in skip-in ")" x) (λ _ u. next (wants peek-in skip-in "then" u) (λ _ z. done (q, y) z))))) place most b a r
-      go t f none lt = e
-      go t f (some q) lt = absurd (omega (arith, relation-small q))
 
-  module _ (m : List ℕ) (g g′ h : Got) (small : j .number ≤ 5)
-      (an : Answers (readExpr peek-in skip-in) (λ t v. code t v line) (mentions 0) 2 (suc (j .next)) T s (j .next) place most b m g)
-      (se : Sealed 41 s g g′) (th : Then s g′ h) (em : Emits 1 (15 ∷ j .number ∷ []) h m a r) where
+  -- with the relation q, its number k, and the place n after it
+  module _ (q : Relation) (n : ℕ) (re : relOf (peek-in (drop at s)) ≡ some q) (pa : Passes 1 s at n) (k : ℕ) (ek : k ≡ relation-number q) (m : List ℕ)
+      (g g′ h : Got)
+      (an : Answers (readExpr peek-in skip-in) (λ t v. code t v line) (mentions 0) 2 (suc n) T s n place most b m g)
+      (se : Sealed 41 s g g′) (th : Then s g′ h) (em : Emits 1 (15 ∷ k ∷ []) h m a r) where
     compared-within : Within s at place (suc at) r
     compared-within =
-        let fr = re .next small .from in
-        within-from s (j .next + 1 + 1) (place + 1) (suc (j .next)) at place (suc at) r (omega arith) (omega arith)
-        (within-emits 1 (15 ∷ j .number ∷ []) h m a r s (j .next + 1 + 1) place (suc (j .next)) em (within-word (j .next + 1) place (suc (j .next)) th (within-sealed (j .next) place (suc (j .next)) se (an .within))))
+        let fr = pa .from in
+        within-from s (n + 1 + 1) (place + 1) (suc n) at place (suc at) r (omega arith) (omega arith)
+        (within-emits 1 (15 ∷ k ∷ []) h m a r s (n + 1 + 1) place (suc n) em
+        (within-word (n + 1) place (suc n) th (within-sealed n place (suc n) se (an .within))))
 
-    -- with the relation q
-    compared-by : (t : List Entry) → Tabled T t → (f : ℕ) → 3 * (length s - at) + 2 < f → (q : Relation) → j .number ≡ relation-number q
-        → Reads (codeCompared line t (variableOf T)) (λ c. worst t (variableOf T) (inCompared c)) s (next (readExpr peek-in skip-in f (drop (j .next) s)) (λ y x. next (expects peek-in skip-in ")" x) (λ _ u. next (wants peek-in skip-in "then" u) (λ _ z. done (q, y) z)))) place most b a r
+    compared-by : (t : List Entry) → Tabled T t → (f : ℕ) → 3 * (length s - at) + 2 < f → Reads-compared t (side f q (drop n s))
     unfolding words
-    compared-by t d f lt q eq =
+    compared-by t d f lt =
         let v = variableOf T in
         let c = codeCompared line t v in
-        let k : Relation × Expr → ℕ = λ c. worst t v (inCompared c) in
-        let fr = re .next small .from in
-        let em′ : Emits 1 (words (jump-unless q 0 ∷ [])) h m a r = subst (λ (n : ℕ). Emits 1 (15 ∷ n ∷ []) h m a r) (omega (arith, eq)) em in
-        reads-sealed c k s place most b a r (code t v line) (λ e. worst t v (mentions 0 e)) (readExpr peek-in skip-in f (drop (j .next) s))
+        let rank : Relation × Expr → ℕ = λ c. worst t v (inCompared c) in
+        let fr = pa .from in
+        let em′ : Emits 1 (words (jump-unless q 0 ∷ [])) h m a r = subst (λ (i : ℕ). Emits 1 (15 ∷ i ∷ []) h m a r) (omega (arith, ek)) em in
+        reads-sealed c rank s place most b a r (code t v line) (λ e. worst t v (mentions 0 e)) (readExpr peek-in skip-in f (drop n s))
         (λ y u. next (wants peek-in skip-in "then" u) (λ _ z. done (q, y) z)) m g (since-none place most b) (an .reads t d f (omega arith)) se
         (λ y n p′ q′ le e so.
-        reads-then c k s place most b a r (λ z. done (q, y) z) (subst (λ (i : Got). Then s i h) e th)
+        reads-then c rank s place most b a r (λ z. done (q, y) z) (subst (λ (i : Got). Then s i h) e th)
         (λ n′ le′ e′.
         let w = done-emits 1 (words (jump-unless q 0 ∷ [])) h m a r n′ p′ q′ em′ e′ in
-        reads-done c k s place most b a r (q, y) le′ (since-emit so (jump-unless q 0 ∷ []) (w .1)) refl (omega arith) (w .0))
+        reads-done c rank s place most b a r (q, y) le′ (since-emit so (jump-unless q 0 ∷ []) (w .1)) refl (omega arith) (w .0))
         (emits-broken 1 (words (jump-unless q 0 ∷ [])) h m a r em′))
         (λ e. emits-broken 1 (words (jump-unless q 0 ∷ [])) h m a r em′ (then-broken th e))
 
-    pub compared-answers : Answers readCompared (codeCompared line) inCompared 2 (suc at) T s at place most b a r
+    pub compared-answers : Answers readRight (codeCompared line) inCompared 2 (suc at) T s at place most b a r
     compared-answers = record {
-      reads = λ t d f lt. go t d f lt (relOf (peek-in (drop at s))) refl;
+      reads = λ t d f lt.
+          subst (λ (o : Option Relation). Reads-compared t (next (given peek-in skip-in o (drop at s)) (side f))) (sym re)
+          (subst (λ (w : List ℕ). Reads-compared t (side f q w)) (pa .left) (compared-by t d f lt));
       within = compared-within;
     }
-      where
-        go : (t : List Entry) → Tabled T t → (f : ℕ) → 3 * (length s - at) + 2 < f → (o : Option Relation) → relOf (peek-in (drop at s)) ≡ o
-            → Reads (codeCompared line t (variableOf T)) (λ c. worst t (variableOf T) (inCompared c)) s (next (given peek-in skip-in o (drop at s)) (λ q w. next (readExpr peek-in skip-in f w) (λ y x. next (expects peek-in skip-in ")" x) (λ _ u. next (wants peek-in skip-in "then" u) (λ _ z. done (q, y) z))))) place most b a r
-        go t d f lt none e = absurd (omega (arith, re .number ∙ ap numberOf e))
-        go t d f lt (some q) e =
-            subst (λ (w : List ℕ). Reads (codeCompared line t (variableOf T)) (λ c. worst t (variableOf T) (inCompared c)) s (next (readExpr peek-in skip-in f w) (λ y x. next (expects peek-in skip-in ")" x) (λ _ u. next (wants peek-in skip-in "then" u) (λ _ z. done (q, y) z)))) place most b a r)
-            (re .next small .left) (compared-by t d f lt q (re .number ∙ ap numberOf e))
 
 -- ---- the condition
 
 -- what comes after the left side: the relation and the right side, or nothing
 unfoldable pub Compares : ℕ → List ℕ → List ℕ → List ℕ → List ℕ → Got → Got → Type 0
 Compares line T s m a Broken r = r ≡ Broken
-Compares line T s m a (Done n p q) r = Answers readCompared (codeCompared line) inCompared 2 (suc n) T s n p q m a r
+Compares line T s m a (Done n p q) r = Answers readRight (codeCompared line) inCompared 2 (suc n) T s n p q m a r
 
 module _ (line : ℕ) (T s m a : List ℕ) (g : Got) where
-  pub compares-on : (n p q : ℕ) (r : Got) → g ≡ Done n p q → Answers readCompared (codeCompared line) inCompared 2 (suc n) T s n p q m a r → Compares line T s m a g r
+  pub compares-on : (n p q : ℕ) (r : Got) → g ≡ Done n p q → Answers readRight (codeCompared line) inCompared 2 (suc n) T s n p q m a r
+      → Compares line T s m a g r
   unfolding Compares
   compares-on n p q r e h = subst (λ (x : Got). Compares line T s m a x r) (sym e) h
 
@@ -176,17 +193,26 @@ abbrev sides : Expr → Relation × Expr → Line
 sides x c = inside (when x (c .0) (c .1))
 
 when-shape : (f : ℕ) (P : Parsed (List ℕ) Expr)
-    → next P (λ x w. next (readRel peek-in skip-in w) (λ q u. next (readExpr peek-in skip-in f u) (λ y z. next (expects peek-in skip-in ")" z) (λ _ z₁. next (wants peek-in skip-in "then" z₁) (λ _ z₂. done (inside (when x q y)) z₂)))))
-    ≡ next P (λ x u. next (readCompared f u) (λ c v. done (sides x c) v))
+    → next P (λ x w. next (readRel peek-in skip-in w)
+    (λ q u. next (readExpr peek-in skip-in f u) (λ y z. next (expects peek-in skip-in ")" z) (λ _ z₁. next (wants peek-in skip-in "then" z₁)
+    (λ _ z₂. done (inside (when x q y)) z₂)))))
+    ≡ next P (λ x u. next (readRight f u) (λ c v. done (sides x c) v))
 when-shape f P = next-same P _ _ (λ x w. sym (
-    next-assoc (readRel peek-in skip-in w) (λ q u. next (readExpr peek-in skip-in f u) (λ y z. next (expects peek-in skip-in ")" z) (λ _ z₁. next (wants peek-in skip-in "then" z₁) (λ _ z₂. done (q, y) z₂)))) (λ c v. done (sides x c) v)
+    next-assoc (readRel peek-in skip-in w)
+    (λ q u. next (readExpr peek-in skip-in f u) (λ y z. next (expects peek-in skip-in ")" z) (λ _ z₁. next (wants peek-in skip-in "then" z₁)
+    (λ _ z₂. done (q, y) z₂))))
+    (λ c v. done (sides x c) v)
     ∙ next-same (readRel peek-in skip-in w) _ _ (λ q u.
-    next-assoc (readExpr peek-in skip-in f u) (λ y z. next (expects peek-in skip-in ")" z) (λ _ z₁. next (wants peek-in skip-in "then" z₁) (λ _ z₂. done (q, y) z₂))) (λ c v. done (sides x c) v)
+    next-assoc (readExpr peek-in skip-in f u)
+    (λ y z. next (expects peek-in skip-in ")" z) (λ _ z₁. next (wants peek-in skip-in "then" z₁) (λ _ z₂. done (q, y) z₂)))
+    (λ c v. done (sides x c) v)
     ∙ next-same (readExpr peek-in skip-in f u) _ _ (λ y z.
     next-assoc (expects peek-in skip-in ")" z) (λ _ z₁. next (wants peek-in skip-in "then" z₁) (λ _ z₂. done (q, y) z₂)) (λ c v. done (sides x c) v)
-    ∙ next-same (expects peek-in skip-in ")" z) _ _ (λ _ z₁. next-assoc (wants peek-in skip-in "then" z₁) (λ _ z₂. done (q, y) z₂) (λ c v. done (sides x c) v))))))
+    ∙ next-same (expects peek-in skip-in ")" z) _ _
+    (λ _ z₁. next-assoc (wants peek-in skip-in "then" z₁) (λ _ z₂. done (q, y) z₂) (λ c v. done (sides x c) v))))))
 
-module _ (T s : List ℕ) (line place : ℕ) (b a : List ℕ) (r : Got) {x y : ℕ} (gi : Goes Any s 0 (passes (bytes "if")) x) (go : Goes Any s x (passes (bytes "(")) y) where
+module _ (T s : List ℕ) (line place : ℕ) (b a : List ℕ) (r : Got) {x y : ℕ} (gi : Goes Any s 0 (passes (bytes "if")) x)
+    (go : Goes Any s x (passes (bytes "(")) y) where
   -- the form is broken before its bracket
   pub condition-unread : length s < y → r ≡ Broken → Compiles (readWhen peek-in skip-in) T s line place b a r
   unfolding readWhen Writes Bounded
@@ -215,21 +241,26 @@ module _ (T s : List ℕ) (line place : ℕ) (b a : List ℕ) (r : Got) {x y : �
         by-left Broken w c = subst (Bounded s place) (sym c) tt
         by-left (Done n p q) w c = by-right n p (w .1) (w .2) r (c .within)
 
-    condition-reads : (t : List Entry) → Tabled T t → (f : ℕ) → 3 * length s + 4 ≤ f → Reads (codeLine t (variableOf T) line) (rankLine t (variableOf T)) s (readWhen peek-in skip-in f s) place 0 b a r
+    condition-reads : (t : List Entry) → Tabled T t → (f : ℕ) → 3 * length s + 4 ≤ f
+        → Reads (codeLine t (variableOf T) line) (rankLine t (variableOf T)) s (readWhen peek-in skip-in f s) place 0 b a r
     unfolding readWhen codeLine assignedRank inLine Compares words
     condition-reads t d f lt =
         let v = variableOf T in
-        let left : next (readExpr peek-in skip-in f (drop y s)) (λ e w. next (readCompared f w) (λ c u. done (sides e c) u)) ≡ readWhen peek-in skip-in f s =
-        sym (rw (wants-there "if" gi refl (goes-some go in-line .1), expects-there "(" go refl in-line) (when-shape f (readExpr peek-in skip-in f (drop y s)))) in
+        let left : next (readExpr peek-in skip-in f (drop y s)) (λ e w. next (readRight f w) (λ c u. done (sides e c) u)) ≡ readWhen peek-in skip-in f s =
+        sym (rw (wants-there "if" gi refl (goes-some go in-line .1), expects-there "(" go refl in-line)
+        (when-shape f (readExpr peek-in skip-in f (drop y s))))
+        in
         subst (λ (P : Parsed (List ℕ) Line). Reads (codeLine t v line) (rankLine t v) s P place 0 b a r) left
-        (in-turn (code t v line) (λ e. worst t v (mentions 0 e)) (codeCompared line t v) (λ c. worst t v (inCompared c)) (codeLine t v line) (rankLine t v) sides []
+        (in-turn (code t v line) (λ e. worst t v (mentions 0 e)) (codeCompared line t v) (λ c. worst t v (inCompared c)) (codeLine t v line)
+        (rankLine t v) sides []
         (λ e c. rw (append-nil, append-assoc)) (λ e c. omega (arith, worst-append t v (mentions 0 e) (mentions 0 (c .1))))
-        s place 0 b m m a g g r (readExpr peek-in skip-in f (drop y s)) (readCompared f) (an .reads t d f (omega arith)) (emits-none g m)
+        s place 0 b m m a g g r (readExpr peek-in skip-in f (drop y s)) (readRight f) (an .reads t d f (omega arith)) (emits-none g m)
         (λ n p q e. subst (λ (i : Got). Compares line T s m a i r) e co .reads t d f (omega arith))
         (λ e. subst (λ (i : Got). Compares line T s m a i r) e co))
 
     pub condition-compiles : Compiles (readWhen peek-in skip-in) T s line place b a r
     condition-compiles = record {
-      reads = λ t d f lt. reads-writes t (variableOf T) line s (readWhen peek-in skip-in f s) place b b a r room refl condition-bounded (condition-reads t d f lt);
+      reads = λ t d f lt. reads-writes t (variableOf T) line s (readWhen peek-in skip-in f s) place b b a r room refl condition-bounded
+          (condition-reads t d f lt);
       within = condition-bounded;
     }

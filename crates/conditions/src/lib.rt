@@ -1,13 +1,16 @@
 // The reader of conditions (document 01, The loop text, 5), each after the word `if`: form, names and limits are checked, and code is emitted.
+ghost use mathlib.Core.Path.{_≡_};
 ghost use Prim.Native.Nat.{suc, _≤_, _<_, _+_, _*_};
 ghost use lib.ListN.{length};
 ghost use Rattle.syntax.specs.Reader.{peek-in, skip-in, readWhen};
+ghost use Rattle.code.specs.Instr.{relation-number as numberOf};
 ghost use Rattle.parts.specs.Answer.{Answers, Ready};
 ghost use Rattle.parts.specs.Parts.{Inside};
 ghost use Rattle.statements.specs.Statement.{Compiles};
-ghost use Rattle.conditions.specs.Comparison.{Relates, Then, readCompared, codeCompared, inCompared};
+ghost use Rattle.conditions.specs.Comparison.{Relates, Then, readRight, codeCompared, inCompared};
 use code::JUMP_UNLESS;
 use expressions::expression;
+use int32::Relation;
 use lexer::pass;
 use lexer::reads;
 use lexer::token;
@@ -16,10 +19,10 @@ use parts::Got;
 use parts::expect;
 use parts::then_emit;
 
-// A relation by its number (0 ==, 1 /=, 2 <, 3 <=, 4 >, 5 >=, 6 none of these), and the place after it.
-struct Compared {
-    number: u32,
-    next: usize,
+// The relation that stands at a place, and the place after it; or none.
+enum Compared {
+    By { relation: Relation, next: usize },
+    Nothing,
 }
 
 // The relation at a place.
@@ -30,24 +33,56 @@ fn relation(s: &[u8], at: usize) -> Compared
     let t = token(s, at);
     let next = t.stop;
     if reads(s, t, b"==") {
-        return Compared { number: 0, next };
+        return Compared::By {
+            relation: Relation::Equal,
+            next,
+        };
     }
     if reads(s, t, b"/=") {
-        return Compared { number: 1, next };
+        return Compared::By {
+            relation: Relation::Unequal,
+            next,
+        };
     }
     if reads(s, t, b"<") {
-        return Compared { number: 2, next };
+        return Compared::By {
+            relation: Relation::Less,
+            next,
+        };
     }
     if reads(s, t, b"<=") {
-        return Compared { number: 3, next };
+        return Compared::By {
+            relation: Relation::AtMost,
+            next,
+        };
     }
     if reads(s, t, b">") {
-        return Compared { number: 4, next };
+        return Compared::By {
+            relation: Relation::Greater,
+            next,
+        };
     }
     if reads(s, t, b">=") {
-        return Compared { number: 5, next };
+        return Compared::By {
+            relation: Relation::AtLeast,
+            next,
+        };
     }
-    Compared { number: 6, next }
+    Compared::Nothing
+}
+
+// The number of a relation in the second word of a jump.
+fn relation_number(relation: Relation) -> u32
+    ensures { λ r. ⌜ r ≡ numberOf relation ⌝ }
+{
+    match relation {
+        Relation::Equal => 0,
+        Relation::Unequal => 1,
+        Relation::Less => 2,
+        Relation::AtMost => 3,
+        Relation::Greater => 4,
+        Relation::AtLeast => 5,
+    }
 }
 
 // Reads the word `then` after what was read.
@@ -79,17 +114,14 @@ fn comparison(
 ) -> Got
     requires { ⌜ Ready (now s) at 0 place (now code) ⌝ }
     requires { ⌜ line ≤ 2049 ⌝ }
-    ensures { λ r. ⌜ Answers readCompared (codeCompared line) inCompared 2 (suc at) (now (table .entry)) (now (s .entry)) at place rank (now (code .entry)) (now (code .exit)) r ⌝ }
+    ensures { λ r. ⌜ Answers readRight (codeCompared line) inCompared 2 (suc at) (now (table .entry)) (now (s .entry)) at place rank (now (code .entry)) (now (code .exit)) r ⌝ }
 {
-    let c = relation(s, at);
-    let number = c.number;
-    let next = c.next;
-    if 5 < number {
+    let Compared::By { relation: r, next } = relation(s, at) else {
         return Got::Broken;
-    }
+    };
     let g = expression(s, next, 0, rank, line, table, code, place);
     let h = then_word(s, expect(s, g, b')'));
-    then_emit(h, code, JUMP_UNLESS, number)
+    then_emit(h, code, JUMP_UNLESS, relation_number(r))
 }
 
 // `if`, a bracket, the two sides with their relation, the other bracket, and `then`. The bracket does not count among those that are open.

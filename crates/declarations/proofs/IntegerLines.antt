@@ -8,12 +8,12 @@ use native.Mathlib.Omega.{arith}
 use borrow.Author.Tests.{leb-true, le-leb}
 use lib.Dec.{leb}
 use lib.ListN.{length, drop, length-append}
-use Rattle.syntax.specs.Bytes.{bytes, choose, same, any, all}
+use Rattle.syntax.specs.Bytes.{bytes, choose, same, any, all, between}
 use Rattle.syntax.specs.Grammar.{number, Declared, one, array}
 use Rattle.syntax.specs.Known.{Entry, known, declaredName, declaredSize, takesSubscript, total, entries}
 use Rattle.names.specs.Table.{variableOf, Tabled, Unclaimed, declared, countIn, lengthAt, variableEntry, nameWords}
 use Rattle.names.proofs.Rows.{name-length}
-use Rattle.syntax.specs.Conditions.{different, within}
+use Rattle.syntax.specs.Conditions.{different}
 use Rattle.syntax.proofs.Spelling.{both-true}
 use Rattle.syntax.proofs.TestLaws.{both-hold, any-append, neither-holds, same-comm-false, same-truth}
 use Rattle.syntax.specs.Reader.{Parsed, broken, done, Reader, next, sees, expects, readName, readDigits, readMore, readDeclared, peek-in, skip-in}
@@ -38,33 +38,51 @@ what (done xs v) = xs
 
 -- ---- one declared name
 
-module _ (s : List ℕ) (from : ℕ) (w : Word) (h : Goes (Spells s w) s from (readName peek-in skip-in) (w .next)) (o : ℕ) (g : Goes Any s (w .next) (passes (bytes "(")) o) where
+module _ (s : List ℕ) (from : ℕ) (w : Word) (h : Goes (Spells s w) s from (readName peek-in skip-in) (w .next)) (o : ℕ)
+    (g : Goes Any s (w .next) (passes (bytes "(")) o) where
   -- what comes after the name
   abbrev rest : List ℕ → Reader (List ℕ) Declared
-  rest x u = choose (sees peek-in skip-in "(" u) (λ _. next (readDigits peek-in skip-in (skip-in u)) (λ d v. next (expects peek-in skip-in ")" v) (λ _. done (array x d)))) (λ _. done (one x) u)
+  rest x u = choose (sees peek-in skip-in "(" u)
+      (λ _. next (readDigits peek-in skip-in (skip-in u)) (λ d v. next (expects peek-in skip-in ")" v) (λ _. done (array x d)))) (λ _. done (one x) u)
 
   rest-by : (x : List ℕ) (b : Bool) → sees peek-in skip-in "(" (drop (w .next) s) ≡ b → (Q : Declared → Type 0) (r : ℕ)
-      → Lands Q s (choose b (λ _. next (readDigits peek-in skip-in (skip-in (drop (w .next) s))) (λ d v. next (expects peek-in skip-in ")" v) (λ _. done (array x d)))) (λ _. done (one x) (drop (w .next) s))) r → Lands Q s (rest x (drop (w .next) s)) r
-  rest-by x b e Q r l = subst (λ (c : Bool). Lands Q s (choose c (λ _. next (readDigits peek-in skip-in (skip-in (drop (w .next) s))) (λ d v. next (expects peek-in skip-in ")" v) (λ _. done (array x d)))) (λ _. done (one x) (drop (w .next) s))) r) (sym e) l
+      → Lands Q s (choose b
+      (λ _. next (readDigits peek-in skip-in (skip-in (drop (w .next) s))) (λ d v. next (expects peek-in skip-in ")" v) (λ _. done (array x d))))
+      (λ _. done (one x) (drop (w .next) s)))
+      r
+      → Lands Q s (rest x (drop (w .next) s)) r
+  rest-by x b e Q r l = subst (λ (c : Bool). Lands Q s (choose c
+      (λ _. next (readDigits peek-in skip-in (skip-in (drop (w .next) s))) (λ d v. next (expects peek-in skip-in ")" v) (λ _. done (array x d))))
+      (λ _. done (one x) (drop (w .next) s)))
+      r)
+      (sym e) l
 
-  pub declares-one : length s < o → Goes (Declares s (record { next = w .next; start = w .start; stop = w .next; subscripted = false; size = 1 })) s from (readDeclared peek-in skip-in) (w .next)
+  pub declares-one : length s < o
+      → Goes (Declares s (record { next = w .next; start = w .start; stop = w .next; subscripted = false; size = 1 })) s from
+      (readDeclared peek-in skip-in) (w .next)
   declares-one b = goes-next (Spells s w) _ s rest (w .next) (w .next) h
       (λ x p l. rest-by x false (sign-text (bytes "(") refl (drop (w .next) s) ∙ pass-not s (bytes "(") (w .next) o g l b) _ (w .next)
       (refl, l, record { name = p .bytes; order = p .order; inside = l; short = p .short; subscripted = refl; size = refl }))
       (λ l. omega arith)
       (goes-end h)
 
-  module _ (b : o ≤ length s) (n k : ℕ) (d : Goes (λ d. k ≡ min (number d) 2147483648) s o (readDigits peek-in skip-in) n) (c : ℕ) (f : Goes Any s n (passes (bytes ")")) c) where
+  module _ (b : o ≤ length s) (n k : ℕ) (d : Goes (λ d. k ≡ min (number d) 2147483648) s o (readDigits peek-in skip-in) n) (c : ℕ)
+      (f : Goes Any s n (passes (bytes ")")) c) where
     abbrev found : Declared → Type 0
     found = Declares s (record { next = c; start = w .start; stop = w .next; subscripted = true; size = k })
 
-    pub declares-array : Goes (Declares s (record { next = c; start = w .start; stop = w .next; subscripted = true; size = k })) s from (readDeclared peek-in skip-in) c
+    pub declares-array : Goes (Declares s (record { next = c; start = w .start; stop = w .next; subscripted = true; size = k })) s from
+        (readDeclared peek-in skip-in) c
     declares-array = goes-next (Spells s w) found s rest (w .next) c h
         (λ x p l. let (e, m) = pass-there s (bytes "(") (w .next) o g l b in
         rest-by x true (sign-text (bytes "(") refl (drop (w .next) s) ∙ e) found c
-        (subst (λ (u : List ℕ). Lands found s (next (readDigits peek-in skip-in u) (λ d v. next (expects peek-in skip-in ")" v) (λ _. done (array x d)))) c) (sym m)
-        (lands-next (λ d. k ≡ min (number d) 2147483648) found s (λ d v. next (expects peek-in skip-in ")" v) (λ _. done (array x d))) n c (readDigits peek-in skip-in (drop o s)) (d .lands b)
-        (λ y q i. lands-expect found s ")" refl n c f i (array x y) (record { name = p .bytes; order = p .order; inside = l; short = p .short; subscripted = refl; size = q }))
+        (subst (λ (u : List ℕ). Lands found s
+        (next (readDigits peek-in skip-in u) (λ d v. next (expects peek-in skip-in ")" v) (λ _. done (array x d)))) c)
+        (sym m)
+        (lands-next (λ d. k ≡ min (number d) 2147483648) found s (λ d v. next (expects peek-in skip-in ")" v) (λ _. done (array x d))) n c
+        (readDigits peek-in skip-in (drop o s)) (d .lands b)
+        (λ y q i. lands-expect found s ")" refl n c f i (array x y)
+        (record { name = p .bytes; order = p .order; inside = l; short = p .short; subscripted = refl; size = q }))
         (f .lost))))
         (λ l. elim (decLt (length s) n) [
           | yes i ↦ omega (arith, f .lost i)
@@ -86,16 +104,19 @@ module _ (s : List ℕ) (from : ℕ) (w : List ℕ) (b : from ≤ length s) (k :
 
   module _ (i : k ≤ length s) (r : Item) (h : Goes (Declares s r) s k (readDeclared peek-in skip-in) (r .next)) where
     -- what the first of them is, and what follows it
-    parts : (ds : List Declared) → Follow s from ds → (d : Declared) × (ds′ : List Declared) × (ds ≡ d ∷ ds′) × Declares s r d × (r .next ≤ length s) × Follow s (r .next) ds′
+    parts : (ds : List Declared) → Follow s from ds
+        → (d : Declared) × (ds′ : List Declared) × (ds ≡ d ∷ ds′) × Declares s r d × (r .next ≤ length s) × Follow s (r .next) ds′
     unfolding readMore
     parts ds (zero, u, e) = absurd (broken-done e)
     parts ds (suc f, u, e) = go (readDeclared peek-in skip-in (drop k s)) (h .lands i) (sym (more-comma (readDeclared peek-in skip-in) s f from k g b i) ∙ e)
       where
-        rest : (d : Declared) (p : Parsed (List ℕ) (List Declared)) → next p (λ xs. done (d ∷ xs)) ≡ done ds u → (xs : List Declared) × (v : List ℕ) × (p ≡ done xs v) × (d ∷ xs ≡ ds)
+        rest : (d : Declared) (p : Parsed (List ℕ) (List Declared)) → next p (λ xs. done (d ∷ xs)) ≡ done ds u
+            → (xs : List Declared) × (v : List ℕ) × (p ≡ done xs v) × (d ∷ xs ≡ ds)
         rest d broken q = absurd (broken-done q)
         rest d (done xs v) q = (xs, v, refl, ap what q)
 
-        go : (p : Parsed (List ℕ) Declared) → Lands (Declares s r) s p (r .next) → next p (λ d v. next (readMore peek-in skip-in f (readDeclared peek-in skip-in) v) (λ xs. done (d ∷ xs))) ≡ done ds u
+        go : (p : Parsed (List ℕ) Declared) → Lands (Declares s r) s p (r .next)
+            → next p (λ d v. next (readMore peek-in skip-in f (readDeclared peek-in skip-in) v) (λ xs. done (d ∷ xs))) ≡ done ds u
             → (d : Declared) × (ds′ : List Declared) × (ds ≡ d ∷ ds′) × Declares s r d × (r .next ≤ length s) × Follow s (r .next) ds′
         go broken l q = absurd (broken-done q)
         go (done d v) l q =
@@ -119,7 +140,7 @@ module _ (s : List ℕ) (from : ℕ) (w : List ℕ) (b : from ≤ length s) (k :
 
 pub fits-true : (n c z : ℕ) → fits n c z ≡ true → (1 ≤ z) × (z ≤ 4096) × (c + z ≤ 4096) × (n < 16)
 fits-true n c z h =
-    let (p, q) = both-true (within 1 4096 z) _ h in
+    let (p, q) = both-true (between 1 4096 z) _ h in
     let (a, b) = both-true (leb 1 z) _ p in
     let (d, e) = both-true (leb (c + z) 4096) _ q in
     (leb-true 1 z a, leb-true z 4096 b, leb-true (c + z) 4096 d, omega (arith, leb-true (n + 1) 16 e))
@@ -142,7 +163,8 @@ fits-least n c z = same-truth _ _
 
 -- ---- one declared name, checked and added
 
-module _ (T s T′ : List ℕ) (c most : ℕ) (r : Item) (again : Bool) (names rank more : ℕ) (er : rank ≡ max most (order (not again) (fits names c (r .size)))) where
+module _ (T s T′ : List ℕ) (c most : ℕ) (r : Item) (again : Bool) (names rank more : ℕ)
+    (er : rank ≡ max most (order (not again) (fits names c (r .size)))) where
   -- rank 0: the names and the size are in order
   pub rank-good : rank ≡ 0 → (most ≡ 0) × (again ≡ false) × (fits names c (r .size) ≡ true)
   rank-good e = go again (fits names c (r .size)) refl refl
@@ -152,7 +174,8 @@ module _ (T s T′ : List ℕ) (c most : ℕ) (r : Item) (again : Bool) (names r
       go false true ea eb = let q : rank ≡ max most 0 = er ∙ (λ i. max most (order (not (ea i)) (eb i))) in (omega (arith, q, e), refl, refl)
       go false false ea eb = let q : rank ≡ max most 1 = er ∙ (λ i. max most (order (not (ea i)) (eb i))) in absurd (omega (arith, q, e))
 
-  module _ (d : Declared) (p : Declares s r d) (rep : Repeated T s (r .next) (part s (r .start) (r .stop)) again) (en : names ≡ countIn T) (ent : Enters T (part s (r .start) (r .stop)) c (r .size) (r .subscripted) rank T′ more) where
+  module _ (d : Declared) (p : Declares s r d) (rep : Repeated T s (r .next) (part s (r .start) (r .stop)) again) (en : names ≡ countIn T)
+      (ent : Enters T (part s (r .start) (r .stop)) c (r .size) (r .subscripted) rank T′ more) where
     unknown : (t : List Entry) → Tabled T t → again ≡ false → known (declaredName d) t ≡ false
     unknown t tab b = go (known (declaredName d) t) refl
       where
@@ -165,7 +188,9 @@ module _ (T s T′ : List ℕ) (c most : ℕ) (r : Item) (again : Bool) (names r
       rank = λ t tab ds q.
           let a = rep .either t tab ds q ∙ ap (λ (w : List ℕ). known w t || any (same w) (namesOf ds)) (sym (p .name)) in
           let n : names ≡ length t = omega (arith, en, tab .count, tab .few) in
-          er ∙ (λ i. max most (order (not (a i)) (fits (n i) c (p .size i)))) ∙ ap (λ (b : Bool). max most (order (not (known (declaredName d) t || any (same (declaredName d)) (namesOf ds))) b)) (fits-least (length t) c (declaredSize d));
+          er ∙ (λ i. max most (order (not (a i)) (fits (n i) c (p .size i))))
+          ∙ ap (λ (b : Bool). max most (order (not (known (declaredName d) t || any (same (declaredName d)) (namesOf ds))) b))
+          (fits-least (length t) c (declaredSize d));
       fresh = λ z t tab.
           let n : names ≡ length t = omega (arith, en, tab .count, tab .few) in
           let (a, b, x) = rank-good z in
@@ -194,7 +219,8 @@ module _ (T s T′ : List ℕ) (c most : ℕ) (r : Item) (again : Bool) (names r
 known-more : (y : List ℕ) (t : List Entry) (e : Entry) → known y (t ++ (e ∷ [])) ≡ known y t || same y (e .name)
 known-more y t e = any-append (λ x. same y (x .name)) t (e ∷ []) ∙ ap (λ (b : Bool). known y t || b) (or-false (same y (e .name)))
 
-unknown-more : (t : List Entry) (e : Entry) (xs : List (List ℕ)) → any (same (e .name)) xs ≡ false → any (λ y. known y (t ++ (e ∷ []))) xs ≡ any (λ y. known y t) xs
+unknown-more : (t : List Entry) (e : Entry) (xs : List (List ℕ)) → any (same (e .name)) xs ≡ false
+    → any (λ y. known y (t ++ (e ∷ []))) xs ≡ any (λ y. known y t) xs
 unknown-more t e [] h = refl
 unknown-more t e (y ∷ xs) h =
     let (p, q) = neither-holds (same (e .name) y) (any (same (e .name)) xs) h in
@@ -202,13 +228,15 @@ unknown-more t e (y ∷ xs) h =
     λ i. k i || unknown-more t e xs q i
 
 -- a name that is neither known nor follows
-apart-first : (t : List Entry) (d : Declared) (ds : List Declared) → known (declaredName d) t || any (same (declaredName d)) (namesOf ds) ≡ false → apart t (d ∷ ds) ≡ apart t ds
+apart-first : (t : List Entry) (d : Declared) (ds : List Declared) → known (declaredName d) t || any (same (declaredName d)) (namesOf ds) ≡ false
+    → apart t (d ∷ ds) ≡ apart t ds
 apart-first t d ds h =
     let (p, q) = neither-holds (known (declaredName d) t) _ h in
     λ i. (not (q i) && different (namesOf ds)) && not (p i || any (λ x. known x t) (namesOf ds))
 
 -- one that is known or follows
-apart-not : (t : List Entry) (d : Declared) (ds : List Declared) → known (declaredName d) t || any (same (declaredName d)) (namesOf ds) ≡ true → apart t (d ∷ ds) ≡ false
+apart-not : (t : List Entry) (d : Declared) (ds : List Declared) → known (declaredName d) t || any (same (declaredName d)) (namesOf ds) ≡ true
+    → apart t (d ∷ ds) ≡ false
 apart-not t d ds h = go (known (declaredName d) t) (any (same (declaredName d)) (namesOf ds)) (different (namesOf ds)) (any (λ x. known x t) (namesOf ds)) h
   where
     go : (a b u v : Bool) → a || b ≡ true → (not b && u) && not (a || v) ≡ false
@@ -218,23 +246,30 @@ apart-not t d ds h = go (known (declaredName d) t) (any (same (declaredName d)) 
     go false true u v h = refl
     go false false u v h = absurd (let z : _≡_ {A = ℕ} 0 1 = ap (λ (x : Bool). cond x 1 0) h in omega arith)
 
-fit-true : (t : List Entry) (c : ℕ) (ds : List Declared) → fit t c ds ≡ true → (length t + length ds ≤ 16) × (all (λ d. within 1 4096 (declaredSize d)) ds ≡ true) × (c + total declaredSize ds ≤ 4096)
+fit-true : (t : List Entry) (c : ℕ) (ds : List Declared) → fit t c ds ≡ true
+    → (length t + length ds ≤ 16) × (all (λ d. between 1 4096 (declaredSize d)) ds ≡ true) × (c + total declaredSize ds ≤ 4096)
 fit-true t c ds h =
     let (p, q) = both-true (leb (length t + length ds) 16) _ h in
-    let (a, b) = both-true (all (λ d. within 1 4096 (declaredSize d)) ds) _ q in
+    let (a, b) = both-true (all (λ d. between 1 4096 (declaredSize d)) ds) _ q in
     (leb-true _ _ p, a, leb-true _ _ b)
 
-true-fit : (t : List Entry) (c : ℕ) (ds : List Declared) → length t + length ds ≤ 16 → all (λ d. within 1 4096 (declaredSize d)) ds ≡ true → c + total declaredSize ds ≤ 4096 → fit t c ds ≡ true
+true-fit : (t : List Entry) (c : ℕ) (ds : List Declared) → length t + length ds ≤ 16 → all (λ d. between 1 4096 (declaredSize d)) ds ≡ true
+    → c + total declaredSize ds ≤ 4096 → fit t c ds ≡ true
 true-fit t c ds p a b = both-hold (le-leb _ _ p) (both-hold a (le-leb _ _ b))
 
 -- one that fits, and one that does not
-fit-first : (t : List Entry) (e : Entry) (c : ℕ) (d : Declared) (ds : List Declared) → fits (length t) c (declaredSize d) ≡ true → fit (t ++ (e ∷ [])) (c + declaredSize d) ds ≡ fit t c (d ∷ ds)
+fit-first : (t : List Entry) (e : Entry) (c : ℕ) (d : Declared) (ds : List Declared) → fits (length t) c (declaredSize d) ≡ true
+    → fit (t ++ (e ∷ [])) (c + declaredSize d) ds ≡ fit t c (d ∷ ds)
 fit-first t e c d ds h =
     let n = length-append t (e ∷ []) in
     let (a, b, x, y) = fits-true (length t) c (declaredSize d) h in
     same-truth _ _
-    (λ q. let (p, w, z) = fit-true (t ++ (e ∷ [])) (c + declaredSize d) ds q in true-fit t c (d ∷ ds) (omega (arith, p, n)) (both-hold (both-hold (le-leb 1 _ a) (le-leb _ 4096 b)) w) (omega (arith, z)))
-    (λ q. let (p, w, z) = fit-true t c (d ∷ ds) q in true-fit (t ++ (e ∷ [])) (c + declaredSize d) ds (omega (arith, p, n)) (both-true (within 1 4096 (declaredSize d)) _ w .1) (omega (arith, z)))
+    (λ q.
+    let (p, w, z) = fit-true (t ++ (e ∷ [])) (c + declaredSize d) ds q in
+    true-fit t c (d ∷ ds) (omega (arith, p, n)) (both-hold (both-hold (le-leb 1 _ a) (le-leb _ 4096 b)) w) (omega (arith, z)))
+    (λ q.
+    let (p, w, z) = fit-true t c (d ∷ ds) q in
+    true-fit (t ++ (e ∷ [])) (c + declaredSize d) ds (omega (arith, p, n)) (both-true (between 1 4096 (declaredSize d)) _ w .1) (omega (arith, z)))
 
 fit-not : (t : List Entry) (c : ℕ) (d : Declared) (ds : List Declared) → fits (length t) c (declaredSize d) ≡ false → fit t c (d ∷ ds) ≡ false
 fit-not t c d ds h = go (fit t c (d ∷ ds)) refl
@@ -243,7 +278,7 @@ fit-not t c d ds h = go (fit t c (d ∷ ds)) refl
     go false q = refl
     go true q =
         let (p, w, z) = fit-true t c (d ∷ ds) q in
-        let (x, y) = both-true (leb 1 (declaredSize d)) _ (both-true (within 1 4096 (declaredSize d)) _ w .0) in
+        let (x, y) = both-true (leb 1 (declaredSize d)) _ (both-true (between 1 4096 (declaredSize d)) _ w .0) in
         sym (true-fits (length t) c (declaredSize d) (leb-true 1 _ x) (leb-true _ 4096 y) (omega (arith, z)) (omega (arith, p))) ∙ h
 
 -- what a declared name and those after it come to
@@ -276,9 +311,16 @@ module _ (t : List Entry) (T s : List ℕ) (c most : ℕ) (T₁ : List ℕ) (r�
       none-follows : any (same (declaredName d)) (namesOf ds) ≡ false
       none-follows = go (any (same (declaredName d)) (namesOf ds)) refl (p .rank t tab ds q)
         where
-          go : (b : Bool) → any (same (declaredName d)) (namesOf ds) ≡ b → r₁ .rank ≡ max most (order (not (known (declaredName d) t || b)) (fits (length t) c (declaredSize d))) → b ≡ false
+          go : (b : Bool) → any (same (declaredName d)) (namesOf ds) ≡ b
+              → r₁ .rank ≡ max most (order (not (known (declaredName d) t || b)) (fits (length t) c (declaredSize d))) → b ≡ false
           go false e h = refl
-          go true e h = absurd (omega (arith, z, h, order-unnamed (not (known (declaredName d) t || true)) (fits (length t) c (declaredSize d)) (ap not (or-true (known (declaredName d) t)))))
+          go true e h = absurd (omega (
+            arith,
+            z,
+            h,
+            order-unnamed (not (known (declaredName d) t || true)) (fits (length t) c (declaredSize d))
+                (ap not (or-true (known (declaredName d) t))),
+          ))
 
       apart-on : apart (t ++ (e ∷ [])) ds ≡ apart t (d ∷ ds)
       apart-on =
@@ -296,8 +338,10 @@ module _ (t : List Entry) (T s : List ℕ) (c most : ℕ) (T₁ : List ℕ) (r�
                 ∙ ap (λ (b : Bool). max 0 (order (apart t (d ∷ ds)) b)) (fit-first t e c d ds (good .2))
                 ∙ ap (λ (k : ℕ). max k (order (apart t (d ∷ ds)) (fit t c (d ∷ ds)))) (sym (good .0));
             cells = λ y. h .cells y ∙ omega (arith, cells₁);
-            table = λ y. subst (λ (l : List Entry). Tabled T₂ l) (ap (λ (k : ℕ). (t ++ (e ∷ [])) ++ entries k ds) cells₁ ∙ append-assoc t (e ∷ []) (entries (c + declaredSize d) ds)) (h .table y);
-            unclaimed = λ y u. subst (λ (k : ℕ). Unclaimed T₂ k) (omega (arith, n)) (h .unclaimed y (subst (λ (k : ℕ). Unclaimed T₁ k) (omega (arith, n)) (unclaimed₁ u)));
+            table = λ y. subst (λ (l : List Entry). Tabled T₂ l)
+                (ap (λ (k : ℕ). (t ++ (e ∷ [])) ++ entries k ds) cells₁ ∙ append-assoc t (e ∷ []) (entries (c + declaredSize d) ds)) (h .table y);
+            unclaimed = λ y u. subst (λ (k : ℕ). Unclaimed T₂ k) (omega (arith, n))
+                (h .unclaimed y (subst (λ (k : ℕ). Unclaimed T₁ k) (omega (arith, n)) (unclaimed₁ u)));
           }
 
   -- not in order
@@ -311,7 +355,8 @@ module _ (t : List Entry) (T s : List ℕ) (c most : ℕ) (T₁ : List ℕ) (r�
     rank-bad : (k : ℕ) → max (r₁ .rank) (order (apart t ds) (fit t k ds)) ≡ max most (order (apart t (d ∷ ds)) (fit t c (d ∷ ds)))
     rank-bad k = go rep refl fd refl (p .rank t tab ds q)
       where
-        go : (a : Bool) → rep ≡ a → (b : Bool) → fd ≡ b → r₁ .rank ≡ max most (order (not a) b) → max (r₁ .rank) (order (apart t ds) (fit t k ds)) ≡ max most (order (apart t (d ∷ ds)) (fit t c (d ∷ ds)))
+        go : (a : Bool) → rep ≡ a → (b : Bool) → fd ≡ b → r₁ .rank ≡ max most (order (not a) b)
+            → max (r₁ .rank) (order (apart t ds) (fit t k ds)) ≡ max most (order (apart t (d ∷ ds)) (fit t c (d ∷ ds)))
         go true ea b eb h = omega (arith, h, order-unnamed (apart t (d ∷ ds)) (fit t c (d ∷ ds)) (apart-not t d ds ea), order-most (apart t ds) (fit t k ds))
         go false ea true eb h =
             let x = ap (λ (y : Bool). order y (fit t c (d ∷ ds))) (apart-first t d ds ea) in
@@ -341,22 +386,28 @@ enlists-nil t T r tab b = record {
 }
 
 -- a declared name, and then none or a comma and others
-module _ (T s : List ℕ) (from c most : ℕ) (T₁ : List ℕ) (r₁ : Listed) (h : Goes (Entered T s c most T₁ r₁) s from (readDeclared peek-in skip-in) (r₁ .next)) (k : ℕ) (g : Goes Any s (r₁ .next) (passes (bytes ",")) k) where
-  -- the table that it left
-  left : (t : List Entry) → Tabled T t → (d : Declared) → Entered T s c most T₁ r₁ d → (t₁ : List Entry) × Tabled T₁ t₁ × ((ds : List Declared) → Follow s (r₁ .next) ds → (T₂ : List ℕ) (r₂ : Listed) → Enlists t₁ T₁ (r₁ .cells) (r₁ .rank) T₂ r₂ ds → Enlists t T c most T₂ r₂ (d ∷ ds))
-  left t tab d p = elim (ℕ-discrete (r₁ .rank) 0) [
-    | yes z ↦ (_, tabled₁ t T s c most T₁ r₁ tab d p z, enlists-good t T s c most T₁ r₁ tab d p z)
-    | no n ↦ (t, subst (λ (X : List ℕ). Tabled X t) (sym (p .enters .left n)) tab, enlists-bad t T s c most T₁ r₁ tab d p n)
-  ]
+module _ (T s : List ℕ) (from c most : ℕ) (T₁ : List ℕ) (r₁ : Listed)
+    (h : Goes (Entered T s c most T₁ r₁) s from (readDeclared peek-in skip-in) (r₁ .next)) (k : ℕ) (g : Goes Any s (r₁ .next) (passes (bytes ",")) k)
+  where
+    -- the table that it left
+    left : (t : List Entry) → Tabled T t → (d : Declared) → Entered T s c most T₁ r₁ d
+        → (t₁ : List Entry) × Tabled T₁ t₁
+        × ((ds : List Declared) → Follow s (r₁ .next) ds → (T₂ : List ℕ) (r₂ : Listed) → Enlists t₁ T₁ (r₁ .cells) (r₁ .rank) T₂ r₂ ds
+        → Enlists t T c most T₂ r₂ (d ∷ ds))
+    left t tab d p = elim (ℕ-discrete (r₁ .rank) 0) [
+      | yes z ↦ (_, tabled₁ t T s c most T₁ r₁ tab d p z, enlists-good t T s c most T₁ r₁ tab d p z)
+      | no n ↦ (t, subst (λ (X : List ℕ). Tabled X t) (sym (p .enters .left n)) tab, enlists-bad t T s c most T₁ r₁ tab d p n)
+    ]
 
-  pub integers-last : length s < k → r₁ .cells ≤ 4096 → Integers T s from c most T₁ r₁
-  integers-last l b t tab = list-last (readDeclared peek-in skip-in) s from (r₁ .next) k (Entered T s c most T₁ r₁) (Enlists t T c most T₁ r₁) h g l
-      (λ d p q. let (t₁, tab₁, on) = left t tab d p in on [] (1, _, q 0) T₁ r₁ (enlists-nil t₁ T₁ r₁ tab₁ b))
+    pub integers-last : length s < k → r₁ .cells ≤ 4096 → Integers T s from c most T₁ r₁
+    integers-last l b t tab = list-last (readDeclared peek-in skip-in) s from (r₁ .next) k (Entered T s c most T₁ r₁) (Enlists t T c most T₁ r₁) h g l
+        (λ d p q. let (t₁, tab₁, on) = left t tab d p in on [] (1, _, q 0) T₁ r₁ (enlists-nil t₁ T₁ r₁ tab₁ b))
 
-  pub integers-more : k ≤ length s → (T₂ : List ℕ) (r₂ : Listed) → Integers T₁ s k (r₁ .cells) (r₁ .rank) T₂ r₂ → Integers T s from c most T₂ r₂
-  integers-more l T₂ r₂ w t tab =
-      let within = read-there (readDeclared peek-in skip-in) s from (r₁ .next) k (Entered T s c most T₁ r₁) Any h g l in
-      let (d, _, e, p) = goes-some h within in
-      let (t₁, tab₁, on) = left t tab d p in
-      list-more (readDeclared peek-in skip-in) s from (r₁ .next) k (λ x. d ≡ x) (Enlists t T c most T₂ r₂) (goes-same h within d e) g l (Enlists t₁ T₁ (r₁ .cells) (r₁ .rank) T₂ r₂) (r₂ .next) (w t₁ tab₁)
-      (λ a i ds u q y. subst (λ (x : Declared). Enlists t T c most T₂ r₂ (x ∷ ds)) i (on ds (suc (q .0), u, q .1) T₂ r₂ y))
+    pub integers-more : k ≤ length s → (T₂ : List ℕ) (r₂ : Listed) → Integers T₁ s k (r₁ .cells) (r₁ .rank) T₂ r₂ → Integers T s from c most T₂ r₂
+    integers-more l T₂ r₂ w t tab =
+        let between = read-there (readDeclared peek-in skip-in) s from (r₁ .next) k (Entered T s c most T₁ r₁) Any h g l in
+        let (d, _, e, p) = goes-some h between in
+        let (t₁, tab₁, on) = left t tab d p in
+        list-more (readDeclared peek-in skip-in) s from (r₁ .next) k (λ x. d ≡ x) (Enlists t T c most T₂ r₂) (goes-same h between d e) g l
+        (Enlists t₁ T₁ (r₁ .cells) (r₁ .rank) T₂ r₂) (r₂ .next) (w t₁ tab₁)
+        (λ a i ds u q y. subst (λ (x : Declared). Enlists t T c most T₂ r₂ (x ∷ ds)) i (on ds (suc (q .0), u, q .1) T₂ r₂ y))

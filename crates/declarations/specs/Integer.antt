@@ -5,10 +5,10 @@ use mathlib.Core.List.{List, _++_, map}
 use Prim.Native.Nat.{ℕ, _+_, _-_, _≤_, _<_, max, min}
 use lib.Dec.{leb}
 use lib.ListN.{length, drop}
-use Rattle.syntax.specs.Bytes.{all, any, same}
+use Rattle.syntax.specs.Bytes.{all, any, same, between}
 use Rattle.syntax.specs.Grammar.{Declared}
 use Rattle.syntax.specs.Known.{Entry, known, declaredName, declaredSize, takesSubscript, total, entries}
-use Rattle.syntax.specs.Conditions.{different, within}
+use Rattle.syntax.specs.Conditions.{different}
 use Rattle.syntax.specs.Reader.{done, readMore, readDeclared, peek-in, skip-in}
 use Rattle.lexer.specs.Lex.{part}
 use Rattle.lexer.specs.Places.{Goes}
@@ -49,7 +49,7 @@ pub record Enters (T w : List ℕ) (c size : ℕ) (sub : Bool) (rank : ℕ) (T�
 
 -- n names and c cells before a declared name of size z: it is within the limits
 abbrev pub fits : ℕ → ℕ → ℕ → Bool
-fits n c z = within 1 4096 z && (leb (c + z) 4096 && leb (n + 1) 16)
+fits n c z = between 1 4096 z && (leb (c + z) 4096 && leb (n + 1) 16)
 
 -- one declared name, after c cells: its rank by the names before it and those that follow
 pub record Entered (T s : List ℕ) (c most : ℕ) (T′ : List ℕ) (r : Listed) (d : Declared) : Type 0 where
@@ -64,7 +64,7 @@ apart t ds = different (namesOf ds) && not (any (λ x. known x t) (namesOf ds))
 
 -- sizes, cells and names within their limits, after c cells
 abbrev pub fit : List Entry → ℕ → List Declared → Bool
-fit t c ds = leb (length t + length ds) 16 && (all (λ d. within 1 4096 (declaredSize d)) ds && leb (c + total declaredSize ds) 4096)
+fit t c ds = leb (length t + length ds) 16 && (all (λ d. between 1 4096 (declaredSize d)) ds && leb (c + total declaredSize ds) 4096)
 
 -- what declared names come to
 pub record Enlists (t : List Entry) (T : List ℕ) (c most : ℕ) (T′ : List ℕ) (r : Listed) (ds : List Declared) : Type 0 where
@@ -74,4 +74,6 @@ pub record Enlists (t : List Entry) (T : List ℕ) (c most : ℕ) (T′ : List �
   pub unclaimed : r .rank ≡ 0 → Unclaimed T (length t) → Unclaimed T′ (length t + length ds)
 
 abbrev pub Integers : List ℕ → List ℕ → ℕ → ℕ → ℕ → List ℕ → Listed → Type 0
-Integers T s at c most T′ r = (t : List Entry) → Tabled T t → (f : ℕ) → length s - at < f → Goes (Enlists t T c most T′ r) s at (readSome f (readDeclared peek-in skip-in)) (r .next)
+Integers T s at c most T′ r =
+    (t : List Entry) → Tabled T t → (f : ℕ) → length s - at < f
+    → Goes (Enlists t T c most T′ r) s at (readSome f (readDeclared peek-in skip-in)) (r .next)

@@ -96,9 +96,11 @@ pub extern "C" fn lrpd_look(
     schedule: &[u8],
     view: &mut [u32],
 ) -> DoneAnswer
-    ensures { λ r. ⌜ r ≡ doneNumbers (lookOf (read (now (text .entry))) (now (cells .entry)) (length (now (workspace .entry))) (now (schedule .entry)) (length (now (view .entry)))) ⌝ }
+    ensures { λ r. ⌜ r ≡ doneNumbers (lookOf (read (now (text .entry))) (now (cells .entry)) (length (now (workspace .entry))) (now (schedule .entry))
+        (length (now (view .entry)))) ⌝ }
     ensures { λ _. ⌜ now (view .exit) ≡ viewShown (read (now (text .entry))) (now (cells .entry)) (length (now (workspace .entry))) (now (schedule .entry)) (now (view .entry)) ⌝ }
-    ensures { λ _. ⌜ now (workspace .exit) ≡ lookWorkspace (read (now (text .entry))) (now (cells .entry)) (now (workspace .entry)) (now (schedule .entry)) (length (now (view .entry))) ⌝ }
+    ensures { λ _. ⌜ now (workspace .exit)
+        ≡ lookWorkspace (read (now (text .entry))) (now (cells .entry)) (now (workspace .entry)) (now (schedule .entry)) (length (now (view .entry))) ⌝ }
 {
     let r = looking::look(text, cells, workspace, schedule, view);
     done_answer(r)

@@ -9,7 +9,9 @@ ghost use Rattle.expressions.specs.Readers.{readRemainder, readQuotient}
 use code::LINE;
 use code::ROUND;
 use names::Table;
+use parts::Beginning;
 use parts::Got;
+use parts::Joint;
 use parts::begin;
 use parts::constant;
 use parts::expect;
@@ -38,15 +40,16 @@ pub fn expression(
 ) -> Got
     requires { ⌜ Ready (now s) at depth place (now code) ⌝ }
     requires { ⌜ line ≤ 2049 ⌝ }
-    ensures { λ r. ⌜ Answers (readExpr peek-in skip-in) (λ t v. codeExpr t v line) (mentions depth) 2 (suc at) (now (table .entry)) (now (s .entry)) at place rank (now (code .entry)) (now (code .exit)) r ⌝ }
+    ensures { λ r. ⌜ Answers (readExpr peek-in skip-in) (λ t v. codeExpr t v line) (mentions depth) 2 (suc at) (now (table .entry)) (now (s .entry)) at place
+        rank (now (code .entry)) (now (code .exit)) r ⌝ }
 {
     let l = join(s, at, b'+', b'-');
-    let sign = l.what;
+    let lead = l.joint;
     let from = l.next;
     match then_negate(
         term(s, from, depth, rank, line, table, code, place),
         code,
-        sign,
+        lead,
     ) {
         Got::Done {
             at: n,
@@ -70,13 +73,18 @@ fn more_terms(
 ) -> Got
     requires { ⌜ Ready (now s) at depth place (now code) ⌝ }
     requires { ⌜ line ≤ 2049 ⌝ }
-    ensures { λ r. ⌜ Answers (readTerms peek-in skip-in) (λ t v. codeTerms t v line) (inTerms depth) 0 at (now (table .entry)) (now (s .entry)) at place rank (now (code .entry)) (now (code .exit)) r ⌝ }
+    ensures { λ r. ⌜ Answers (readTerms peek-in skip-in) (λ t v. codeTerms t v line) (inTerms depth) 0 at (now (table .entry)) (now (s .entry)) at place rank
+        (now (code .entry)) (now (code .exit)) r ⌝ }
 {
     let j = join(s, at, b'+', b'-');
-    let sign = j.what;
+    let sign = j.joint;
     let from = j.next;
-    if sign == 0 {
-        return Got::Done { at, place, rank };
+    match sign {
+        Joint::Neither => {
+            return Got::Done { at, place, rank };
+        }
+        Joint::First => {}
+        Joint::Second => {}
     }
     match then_emit(
         term(s, from, depth, rank, line, table, code, place),
@@ -106,7 +114,8 @@ fn term(
 ) -> Got
     requires { ⌜ Ready (now s) at depth place (now code) ⌝ }
     requires { ⌜ line ≤ 2049 ⌝ }
-    ensures { λ r. ⌜ Answers (readTerm peek-in skip-in) (λ t v. codeTerm t v line) (inTerm depth) 1 (suc at) (now (table .entry)) (now (s .entry)) at place rank (now (code .entry)) (now (code .exit)) r ⌝ }
+    ensures { λ r. ⌜ Answers (readTerm peek-in skip-in) (λ t v. codeTerm t v line) (inTerm depth) 1 (suc at) (now (table .entry)) (now (s .entry)) at place rank
+        (now (code .entry)) (now (code .exit)) r ⌝ }
 {
     match factor(s, at, depth, rank, line, table, code, place) {
         Got::Done {
@@ -131,13 +140,18 @@ fn more_factors(
 ) -> Got
     requires { ⌜ Ready (now s) at depth place (now code) ⌝ }
     requires { ⌜ line ≤ 2049 ⌝ }
-    ensures { λ r. ⌜ Answers (readFactors peek-in skip-in) (λ t v. codeFactors t v line) (inFactors depth) 0 at (now (table .entry)) (now (s .entry)) at place rank (now (code .entry)) (now (code .exit)) r ⌝ }
+    ensures { λ r. ⌜ Answers (readFactors peek-in skip-in) (λ t v. codeFactors t v line) (inFactors depth) 0 at (now (table .entry)) (now (s .entry)) at place
+        rank (now (code .entry)) (now (code .exit)) r ⌝ }
 {
     let j = join(s, at, b'*', b'/');
-    let sign = j.what;
+    let sign = j.joint;
     let from = j.next;
-    if sign == 0 {
-        return Got::Done { at, place, rank };
+    match sign {
+        Joint::Neither => {
+            return Got::Done { at, place, rank };
+        }
+        Joint::First => {}
+        Joint::Second => {}
     }
     match then_emit(
         factor(s, from, depth, rank, line, table, code, place),
@@ -167,40 +181,29 @@ fn factor(
 ) -> Got
     requires { ⌜ Ready (now s) at depth place (now code) ⌝ }
     requires { ⌜ line ≤ 2049 ⌝ }
-    ensures { λ r. ⌜ Answers (readFactor peek-in skip-in) (λ t v. codeFactor t v line) (inFactor depth) 0 (suc at) (now (table .entry)) (now (s .entry)) at place rank (now (code .entry)) (now (code .exit)) r ⌝ }
+    ensures { λ r. ⌜ Answers (readFactor peek-in skip-in) (λ t v. codeFactor t v line) (inFactor depth) 0 (suc at) (now (table .entry)) (now (s .entry)) at
+        place rank (now (code .entry)) (now (code .exit)) r ⌝ }
 {
     let b = begin(s, at);
-    let what = b.what;
+    let beginning = b.beginning;
     let next = b.next;
-    if what == 1 {
-        return constant(s, at, rank, code, place);
-    }
-    if what == 3 {
-        return quotient(s, next, depth, rank, line, table, code, place);
-    }
-    if what == 4 {
-        return variable(s, at, rank, line, table, code, place);
-    }
     let inner = depth + 1;
-    if what == 2 {
-        let g = expression(
-            s,
-            next,
-            inner,
-            opened(rank, inner),
-            line,
-            table,
-            code,
-            place,
-        );
-        return expect(s, g, b')');
+    match beginning {
+        Beginning::Literal => constant(s, at, rank, code, place),
+        Beginning::Bracket => {
+            let worse = opened(rank, inner);
+            let g = expression(s, next, inner, worse, line, table, code, place);
+            expect(s, g, b')')
+        }
+        Beginning::Quotient => quotient(s, next, depth, rank, line, table, code, place),
+        Beginning::Name => variable(s, at, rank, line, table, code, place),
+        Beginning::Element => {
+            let worse = opened(named(s, at, rank, table, true), inner);
+            let g = expression(s, next, inner, worse, line, table, code, place);
+            then_read(s, at, line, table, code, expect(s, g, b')'), true)
+        }
+        Beginning::Nothing => Got::Broken,
     }
-    if what == 5 {
-        let worse = opened(named(s, at, rank, table, true), inner);
-        let g = expression(s, next, inner, worse, line, table, code, place);
-        return then_read(s, at, line, table, code, expect(s, g, b')'), true);
-    }
-    Got::Broken
 }
 
 // The two expressions of rdiv, after its bracket.
@@ -216,7 +219,8 @@ fn quotient(
 ) -> Got
     requires { ⌜ Ready (now s) at (depth + 1) place (now code) ⌝ }
     requires { ⌜ line ≤ 2049 ⌝ }
-    ensures { λ r. ⌜ Answers readQuotient (λ t v. codeFactor t v line) (inFactor depth) 2 (suc at) (now (table .entry)) (now (s .entry)) at place rank (now (code .entry)) (now (code .exit)) r ⌝ }
+    ensures { λ r. ⌜ Answers readQuotient (λ t v. codeFactor t v line) (inFactor depth) 2 (suc at) (now (table .entry)) (now (s .entry)) at place rank
+        (now (code .entry)) (now (code .exit)) r ⌝ }
 {
     let inner = depth + 1;
     let a = expression(s, at, inner, opened(rank, inner), line, table, code, place);
@@ -245,24 +249,28 @@ pub fn reference(
 ) -> Got
     requires { ⌜ Ready (now s) at 0 place (now code) ⌝ }
     requires { ⌜ line ≤ 2049 ⌝ }
-    ensures { λ r. ⌜ Answers (readRef peek-in skip-in) (λ t v. codeRef t v line) (inRef 0) 0 (suc at) (now (table .entry)) (now (s .entry)) at place rank (now (code .entry)) (now (code .exit)) r ⌝ }
+    ensures { λ r. ⌜ Answers (readRef peek-in skip-in) (λ t v. codeRef t v line) (inRef 0) 0 (suc at) (now (table .entry)) (now (s .entry)) at place rank
+        (now (code .entry)) (now (code .exit)) r ⌝ }
 {
     let b = begin(s, at);
-    let what = b.what;
+    let beginning = b.beginning;
     let next = b.next;
-    if what == 4 {
-        return Got::Done {
+    match beginning {
+        Beginning::Name => Got::Done {
             at: next,
             place,
             rank: named(s, at, rank, table, false),
-        };
+        },
+        Beginning::Element => {
+            let worse = named(s, at, rank, table, true);
+            let g = expression(s, next, 1, worse, line, table, code, place);
+            expect(s, g, b')')
+        }
+        Beginning::Literal => Got::Broken,
+        Beginning::Bracket => Got::Broken,
+        Beginning::Quotient => Got::Broken,
+        Beginning::Nothing => Got::Broken,
     }
-    if what == 5 {
-        let worse = named(s, at, rank, table, true);
-        let g = expression(s, next, 1, worse, line, table, code, place);
-        return expect(s, g, b')');
-    }
-    Got::Broken
 }
 
 // A term and further terms: what an update adds, after its +.
@@ -277,7 +285,8 @@ pub fn remainder(
 ) -> Got
     requires { ⌜ Ready (now s) at 0 place (now code) ⌝ }
     requires { ⌜ line ≤ 2049 ⌝ }
-    ensures { λ r. ⌜ Answers readRemainder (λ t v. codeExpr t v line) (mentions 0) 1 (suc at) (now (table .entry)) (now (s .entry)) at place rank (now (code .entry)) (now (code .exit)) r ⌝ }
+    ensures { λ r. ⌜ Answers readRemainder (λ t v. codeExpr t v line) (mentions 0) 1 (suc at) (now (table .entry)) (now (s .entry)) at place rank
+        (now (code .entry)) (now (code .exit)) r ⌝ }
 {
     match term(s, at, 0, rank, line, table, code, place) {
         Got::Done {

@@ -13,9 +13,10 @@ use Rattle.rules.specs.Obstacles.{ObstacleAt}
 use Rattle.rules.specs.Steps.{State}
 use Rattle.rules.specs.Merge.{pairs, written-cells}
 use Rattle.rules.specs.Proper.{Proper}
-use Rattle.shadow.proofs.Shows.{table, Shows, merged-right}
+use Rattle.shadow.proofs.Shows.{Shows, merged-right}
+use Rattle.shadow.specs.Tables.{table}
 use Rattle.tables.specs.Layout.{row-at, pairs-word, cells-word, entry-word}
-use Rattle.tables.proofs.Logged.{Logged}
+use Rattle.tables.specs.Logged.{Logged}
 use Rattle.findings.specs.Findings.{marks-of, blocked-of}
 use Rattle.findings.proofs.ReadOff.{marks-held, blocked-held, merged-held}
 use Rattle.rules.specs.Merge as merge
@@ -47,6 +48,9 @@ module _ (l : Loop) (δ : Partition) (g : Log) (W : List ℕ) (h : Logged l δ g
           (λ o. x .0 (y .1 o), λ e. y .0 (x .1 e))
 
 -- the merge
-pub logged-merged : (l : Loop) (δ : Partition) → l .plus ≡ sum → l .zero ≡ pos 0 → Proper l δ → (s : State) (W : List ℕ) → Logged l δ (s .log) W → Shows l δ (s .log) (table l δ (s .log)) → (c : ℕ) → c < l .size
+pub logged-merged : (l : Loop) (δ : Partition) → l .plus ≡ sum → l .zero ≡ pos 0 → Proper l δ → (s : State) (W : List ℕ) → Logged l δ (s .log) W
+    → Shows l δ (s .log) (table l δ (s .log)) → (c : ℕ) → c < l .size
     → findings.merged W (row-at (δ .processors) c) (δ .processors) (s .cells c) ≡ merge.merged l δ s c
-logged-merged l δ f z o s W h t c b = merged-held l δ f z (l .class c) c W (row-at (δ .processors) c) (table l δ (s .log) .rows c) (h .rows c b) (s .cells) ∙ merged-right l δ o s (table l δ (s .log)) t c
+logged-merged l δ f z o s W h t c b =
+    merged-held l δ f z (l .class c) c W (row-at (δ .processors) c) (table l δ (s .log) .rows c) (h .rows c b) (s .cells)
+    ∙ merged-right l δ o s (table l δ (s .log)) t c

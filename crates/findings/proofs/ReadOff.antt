@@ -14,9 +14,10 @@ use Rattle.int32.specs.Integers.{value, sum}
 use Rattle.rules.specs.ChooseLaws.{pick-same, pick-other}
 use Rattle.rules.specs.Loop.{Class, shared, lastprivate, reduction, Loop, Partition}
 use Rattle.rules.specs.Merge.{sum-of}
+use Rattle.rules.specs.Numbers.{class-number}
 use Rattle.shadow.specs.Tables.{Row, shown, Stale-row, Blocked, chosen}
 use Rattle.shadow.proofs.Shows.{merged-off}
-use Rattle.tables.specs.Layout.{class-number, bit, flags-word, class-word, RowHeld}
+use Rattle.tables.specs.Layout.{bit, flags-word, class-word, RowHeld}
 use Rattle.tables.proofs.Flags.{flags-crossed, flags-updated, flags-class}
 use Rattle.findings.specs.Findings.{marks-of, contested, stale, mixed, blocked, blocked-of, last-word, gathered, merged}
 
@@ -86,12 +87,15 @@ module _ (p : ℕ) (k : Class) (e : ℤ) (W : List ℕ) (row : ℕ) (r : Row) (x
       by-class : (k : Class) → class-word W row ≡ class-number k → Blocked k r ↔ (blocked (r .met) (r .writers) (flags-word W row) ≡ true)
       by-class shared c = rw c (contested-is (r .met) (r .writers))
       by-class lastprivate c = rw c s
-      by-class reduction c = rw c (either (stale (r .met) (r .writers) (flags-word W row)) (mixed (r .met) (flags-word W row)) s (mixed-is (r .met) (r .writers) (flags-word W row) (r .updated) (updated-bit p k e W row r x)))
+      by-class reduction c = rw c
+          (either (stale (r .met) (r .writers) (flags-word W row)) (mixed (r .met) (flags-word W row)) s
+          (mixed-is (r .met) (r .writers) (flags-word W row) (r .updated) (updated-bit p k e W row r x)))
 
   -- ---- private values
 
   -- the value of the highest processor that wrote, one more
-  last-more : (n : ℕ) → n < p → value (last-word W row n) ≡ Option·getD (chosen (r .own) n) e → value (last-word W row (suc n)) ≡ Option·getD (chosen (r .own) (suc n)) e
+  last-more : (n : ℕ) → n < p → value (last-word W row n) ≡ Option·getD (chosen (r .own) n) e
+      → value (last-word W row (suc n)) ≡ Option·getD (chosen (r .own) (suc n)) e
   unfolding last-word chosen
   last-more n b i =
       let o = x .own n b in
@@ -116,13 +120,19 @@ module _ (p : ℕ) (k : Class) (e : ℤ) (W : List ℕ) (row : ℕ) (r : Row) (x
 -- ---- the merge
 
 -- what a cell is left with
-pub merged-held : (l : Loop) (δ : Partition) → l .plus ≡ sum → l .zero ≡ pos 0 → (k : Class) (c : ℕ) (W : List ℕ) (row : ℕ) (r : Row) → RowHeld (δ .processors) k (l .entry c) W row r → (m : ℕ → ℤ)
+pub merged-held : (l : Loop) (δ : Partition) → l .plus ≡ sum → l .zero ≡ pos 0 → (k : Class) (c : ℕ) (W : List ℕ) (row : ℕ) (r : Row)
+    → RowHeld (δ .processors) k (l .entry c) W row r → (m : ℕ → ℤ)
     → merged W row (δ .processors) (m c) ≡ merged-off l δ k m c r
 merged-held l δ f z shared c W row r x m = rw (class-bits (δ .processors) shared (l .entry c) W row r x)
-merged-held l δ f z lastprivate c W row r x m = rw (class-bits (δ .processors) lastprivate (l .entry c) W row r x) (last-held (δ .processors) lastprivate (l .entry c) W row r x (δ .processors) (omega arith))
+merged-held l δ f z lastprivate c W row r x m = rw (class-bits (δ .processors) lastprivate (l .entry c) W row r x)
+    (last-held (δ .processors) lastprivate (l .entry c) W row r x (δ .processors) (omega arith))
 merged-held l δ f z reduction c W row r x m =
     let p = δ .processors in
     let u : eqb (flags-word W row / 2 % 2) 1 ≡ r .updated = ap (λ (b : ℕ). eqb b 1) (updated-bit p reduction (l .entry c) W row r x) ∙ bit-is (r .updated) in
     let v = last-held p reduction (l .entry c) W row r x p (omega arith) in
     let g = gathered-held p reduction (l .entry c) W row r x l f z p (omega arith) in
-    rw (class-bits p reduction (l .entry c) W row r x, u, v, g) (ap (λ (h : ℤ → ℤ → ℤ). cond (r .updated) (h (Option·getD (chosen (r .own) p) (l .entry c)) (sum-of l p (λ q. r .own q .sum))) (Option·getD (chosen (r .own) p) (l .entry c))) (sym f))
+    rw (class-bits p reduction (l .entry c) W row r x, u, v, g)
+    (ap
+    (λ (h : ℤ → ℤ → ℤ). cond (r .updated) (h (Option·getD (chosen (r .own) p) (l .entry c)) (sum-of l p (λ q. r .own q .sum)))
+    (Option·getD (chosen (r .own) p) (l .entry c)))
+    (sym f))

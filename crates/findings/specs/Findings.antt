@@ -1,4 +1,5 @@
--- What the functions read off the words. Nothing here has to be believed but, for the trial's contract, `marks-read` and `blocked`: proofs/ says what each means.
+-- What the functions read off the words. Nothing here has to be believed but, for the trial's contract, `marks-read` and `blocked`: proofs/ says what
+-- each means.
 use mathlib.Core.Bool.{Bool, cond, _&&_, _||_}
 use mathlib.Core.List.{List}
 use mathlib.Core.Option.{Option, none, some}

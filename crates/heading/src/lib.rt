@@ -9,6 +9,7 @@ ghost use Rattle.lexer.specs.Places.{leadOf};
 ghost use Rattle.heading.specs.Lists.{order};
 use int32::negate;
 use int32::of_word;
+use lexer::Leading;
 
 // The highest rank, where the names and the numbers of a part are in order or not.
 pub fn ranked(rank: u32, named: bool, small: bool) -> u32
@@ -24,11 +25,15 @@ pub fn ranked(rank: u32, named: bool, small: bool) -> u32
 }
 
 // The value of an item; one over the limit stands for none.
-pub fn item_value(sign: u32, size: u32) -> i32
+pub fn item_value(sign: Leading, size: u32) -> i32
     ensures { λ r. ⌜ r ≡ led (leadOf sign) (value size) ⌝ }
 {
     let n = of_word(size);
-    if sign < 2 { n } else { negate(n) }
+    match sign {
+        Leading::Bare => n,
+        Leading::Plus => n,
+        Leading::Minus => negate(n),
+    }
 }
 
 // Both numbers of an item are within the limit of literals.

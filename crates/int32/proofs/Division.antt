@@ -31,7 +31,8 @@ divided-value f x (pos n) h = ap (λ (t : Bool). cond t ByZero (Value (f x (pos 
 divided-value f x (negsuc n) h = refl
 
 -- the smallest number over -1
-pub divided-end : (f : ℤ → ℤ → ℤ) → f (negsuc 2147483647) (negsuc 0) ≡ negsuc 2147483647 → {x y : ℤ} → SFits w32 x → SFits w32 y → ofZ w32 x ≡ 2147483648 → ofZ w32 y ≡ 4294967295 → Value (negsuc 2147483647) ≡ divided f x y
+pub divided-end : (f : ℤ → ℤ → ℤ) → f (negsuc 2147483647) (negsuc 0) ≡ negsuc 2147483647 → {x y : ℤ} → SFits w32 x → SFits w32 y
+    → ofZ w32 x ≡ 2147483648 → ofZ w32 y ≡ 4294967295 → Value (negsuc 2147483647) ≡ divided f x y
 unfolding divided same
 divided-end f h {x} {y} g k p q = let a : x ≡ negsuc 2147483647 = from-bits g 2147483648 p in let b : y ≡ negsuc 0 = from-bits k 4294967295 q in rw (a, b, h)
 
@@ -108,7 +109,8 @@ sign-signs f (negsuc a) (pos b) h = sym (word-negation (pos (f (suc a) b)) ∙ o
 sign-signs f (negsuc a) (negsuc b) h = omega arith
 
 -- the rounded quotient from the words that the code computes
-pub rdiv-words : (x y : ℤ) {a b m r s : ℕ} → a ≡ natAbs x → b ≡ natAbs y → m ≡ nearest a b → m < 2 ^ 32 → r ≡ signWord y m → s ≡ signWord x r → value s ≡ rdiv x y
+pub rdiv-words : (x y : ℤ) {a b m r s : ℕ} → a ≡ natAbs x → b ≡ natAbs y → m ≡ nearest a b → m < 2 ^ 32 → r ≡ signWord y m → s ≡ signWord x r
+    → value s ≡ rdiv x y
 unfolding rdiv wrap
 rdiv-words x y {a} {b} {m} {r} {s} p q e h u v =
     ap value (v ∙ ap (signWord x) (u ∙ ap (signWord y) n) ∙ sign-signs nearest x y (subst (λ (k : ℕ). k < 2 ^ 32) n h))
@@ -119,10 +121,6 @@ rdiv-words x y {a} {b} {m} {r} {s} p q e h u v =
 pub rdiv-fits : (x y : ℤ) → SFits w32 (rdiv x y)
 unfolding rdiv
 rdiv-fits x y = wrap-fits (bySigns nearest x y)
-
-pub quotient-in-range : (x y : ℤ) → SFits w32 (quotient x y)
-unfolding quotient
-quotient-in-range x y = wrap-fits (bySigns _/_ x y)
 
 pub natAbs-pos : (z : ℤ) → (ofZ w32 z ≡ 0 → ⊥) → 0 < natAbs z
 natAbs-pos (pos n) h = omega arith

@@ -133,9 +133,6 @@ pub wrap-fits : (z : ℤ) → SFits w32 (wrap z)
 unfolding wrap
 wrap-fits z = value-fits (word z) (word-lt z)
 
-pub wrap-wrap : (z : ℤ) → wrap (wrap z) ≡ wrap z
-wrap-wrap z = wrap-id (wrap z) (wrap-fits z)
-
 pub word-wrap : (z : ℤ) → word (wrap z) ≡ word z
 unfolding wrap
 word-wrap z = word-value (word z) (word-lt z)

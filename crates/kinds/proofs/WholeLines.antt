@@ -9,6 +9,7 @@ use lib.Dec.{leb, eqb}
 use lib.ListN.{length, take, drop, length-drop}
 use lib.Seq.{take-all}
 use Rattle.syntax.specs.Bytes.{all, same, bytes, run, starts, printable, trimmed, skipped-line, sound-line}
+use Rattle.lexer.specs.declared.Run.the-variants.{Blank}
 use Rattle.lexer.specs.Lex.{goes}
 use Rattle.lexer.proofs.Tokens.{trimmed-run}
 
@@ -25,9 +26,9 @@ printable-mid b h k = (λ i. le-leb 32 b (omega arith) i && le-leb b 126 (omega 
 
 -- ---- blanks at the front
 
-pub begins-at : (w s : List ℕ) (a n : ℕ) → n ≡ length s → a ≡ 0 + run (goes 0) s → starts w (take (n - a) (drop a s)) ≡ starts w (trimmed s)
+pub begins-at : (w s : List ℕ) (a n : ℕ) → n ≡ length s → a ≡ 0 + run (goes Blank) s → starts w (take (n - a) (drop a s)) ≡ starts w (trimmed s)
 begins-at w s a n en e =
-    let z : a ≡ run (goes 0) s = omega (arith, e) in
+    let z : a ≡ run (goes Blank) s = omega (arith, e) in
     ap (λ (u : List ℕ). starts w u) (take-all (n - a) (drop a s) (omega (arith, length-drop a s)) ∙ ap (λ (m : ℕ). drop m s) z ∙ sym (trimmed-run s))
 
 drop-length : (n : ℕ) (s : List ℕ) → length s ≤ n → length (drop n s) ≡ 0
@@ -42,9 +43,9 @@ drop-some zero (b ∷ s) h e = omega (arith, e)
 drop-some (suc n) [] h e = omega arith
 drop-some (suc n) (b ∷ s) h e = drop-some n s (omega arith) e
 
-module _ (s : List ℕ) (a : ℕ) (e : a ≡ 0 + run (goes 0) s) where
+module _ (s : List ℕ) (a : ℕ) (e : a ≡ 0 + run (goes Blank) s) where
   same-end : trimmed s ≡ drop a s
-  same-end = let z : run (goes 0) s ≡ a = omega (arith, e) in trimmed-run s ∙ ap (λ (n : ℕ). drop n s) z
+  same-end = let z : run (goes Blank) s ≡ a = omega (arith, e) in trimmed-run s ∙ ap (λ (n : ℕ). drop n s) z
 
   pub blank-all : length s ≤ a → true ≡ eqb (length (trimmed s)) 0
   blank-all h = sym (eq-eqb _ 0 (ap length same-end ∙ drop-length a s h))
@@ -65,8 +66,10 @@ empty-same (b ∷ u) = sym (ne-eqb (suc (length u)) 0 (λ (z : suc (length u) �
 
 -- ---- lines that are skipped
 
-pub skipped-by : (s : List ℕ) (a b c : Bool) → eqb (length (trimmed s)) 0 ≡ a → starts (bytes "!") (trimmed s) ≡ b → starts (bytes "!$omp") (trimmed s) ≡ c → skipped-line s ≡ a || (b && not c)
+pub skipped-by : (s : List ℕ) (a b c : Bool) → eqb (length (trimmed s)) 0 ≡ a → starts (bytes "!") (trimmed s) ≡ b
+    → starts (bytes "!$omp") (trimmed s) ≡ c → skipped-line s ≡ a || (b && not c)
 skipped-by s a b c ea eb ec = λ i. (empty-same (trimmed s) ∙ ea) i || (eb i && not (ec i))
 
-pub sound-by : (s : List ℕ) (a b c : Bool) → all printable s ≡ a → starts (bytes "!$omp") (trimmed s) ≡ b → starts (bytes "!$omp ") (trimmed s) ≡ c → sound-line s ≡ a && (not b || c)
+pub sound-by : (s : List ℕ) (a b c : Bool) → all printable s ≡ a → starts (bytes "!$omp") (trimmed s) ≡ b → starts (bytes "!$omp ") (trimmed s) ≡ c
+    → sound-line s ≡ a && (not b || c)
 sound-by s a b c ea eb ec = λ i. ea i && (not (eb i) || ec i)

@@ -4,8 +4,7 @@ use mathlib.Core.List.{List}
 use Prim.Native.Nat.{ℕ, _≤_}
 use lib.ListN.{length, drop}
 use Rattle.syntax.specs.Grammar.{Line, otherwise, end-if, inside, end-do}
-use Rattle.syntax.specs.Reader.{Parsed, broken, done, Reader, readDeclare, readGive, readLoop, readAssign, readWhen, peek-in, skip-in}
-use Rattle.kinds.specs.Directives.{readOpening, readClosing}
+use Rattle.syntax.specs.Reader.{Parsed, broken, done, Reader, readDeclare, readGive, readOpening, readClosing, readLoop, readAssign, readWhen, peek-in, skip-in}
 use Rattle.kinds.specs.declared.Kind.{Kind}
 use Rattle.kinds.specs.declared.Kind.the-variants.{Broken, Integer, Data, Opening, Loop, Assignment, If, Else, EndIf, EndDo, Closing}
 
@@ -13,14 +12,14 @@ unfoldable pub readBy : Kind → ℕ → Reader (List ℕ) Line
 readBy Broken f s = broken
 readBy Integer f s = readDeclare peek-in skip-in f s
 readBy Data f s = readGive peek-in skip-in f s
-readBy Opening f s = readOpening f s
+readBy Opening f s = readOpening peek-in skip-in f s
 readBy Loop f s = readLoop peek-in skip-in f s
 readBy Assignment f s = readAssign peek-in skip-in f s
 readBy If f s = readWhen peek-in skip-in f s
 readBy (Else n) f s = done (inside otherwise) (drop n s)
 readBy (EndIf n j) f s = done (inside (end-if j)) (drop n s)
 readBy (EndDo n j) f s = done (end-do j) (drop n s)
-readBy Closing f s = readClosing f s
+readBy Closing f s = readClosing peek-in skip-in s
 
 -- which of 1 to 7 it is
 abbrev pub stageBy : Kind → ℕ

@@ -1,3 +1,2 @@
--- The directives, and the kind of a line by its first words.
-pub mod Directives
+-- The kind of a line by its first words.
 pub mod Kinds

@@ -5,9 +5,10 @@ ghost use Prim.Native.Nat.{_≤_, _<_, _+_};
 ghost use lib.Dec.{eqb};
 ghost use lib.ListN.{length, drop};
 ghost use Rattle.syntax.specs.Bytes.{all, printable, starts as startsWith, trimmed, skipped-line, sound-line};
-ghost use Rattle.syntax.specs.Conditions.{several, may-miss, follows};
+ghost use Rattle.syntax.specs.Conditions.{several, may-miss, may-follow};
 ghost use Rattle.syntax.specs.Reader.{readDirective, readEnd, readStart, peek-in, skip-in};
 ghost use Rattle.kinds.specs.Kinds.{stageBy, Kinds};
+use lexer::Run;
 use lexer::cursor::take;
 use lexer::reads;
 use lexer::run_end;
@@ -52,7 +53,7 @@ fn is_printable(s: &[u8]) -> bool
 fn begins(s: &[u8], w: &[u8]) -> bool
     ensures { λ r. ⌜ r ≡ startsWith (now (w .entry)) (trimmed (now (s .entry))) ⌝ }
 {
-    let a = run_end(0, s, 0);
+    let a = run_end(Run::Blank, s, 0);
     let n = s.len();
     starts(&s[a..n], w)
 }
@@ -60,7 +61,7 @@ fn begins(s: &[u8], w: &[u8]) -> bool
 fn is_blank(s: &[u8]) -> bool
     ensures { λ r. ⌜ r ≡ eqb (length (trimmed (now (s .entry)))) 0 ⌝ }
 {
-    let a = run_end(0, s, 0);
+    let a = run_end(Run::Blank, s, 0);
     s.len() <= a
 }
 
@@ -209,7 +210,7 @@ fn may_be_missing(stage: u32) -> bool
 // Whether a line of stage n may follow one of stage k.
 pub fn is_next(k: u32, n: u32) -> bool
     requires { ⌜ k ≤ 7 ⌝ }
-    ensures { λ r. ⌜ r ≡ follows k n ⌝ }
+    ensures { λ r. ⌜ r ≡ may-follow k n ⌝ }
 {
     if n == k + 1 {
         return true;

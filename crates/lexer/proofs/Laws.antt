@@ -35,16 +35,6 @@ module _ (p : ℕ → Bool) (s : List ℕ) (i : ℕ) where
   unfolding run
   run-out h = let q : run p (drop i s) ≡ 0 = ap (run p) (drop-of-length-le s h) in omega arith
 
--- a run is no longer than what is left
-pub run-within : (p : ℕ → Bool) (s : List ℕ) → run p s ≤ length s
-unfolding run
-run-within p [] = omega arith
-run-within p (b ∷ s) = go (p b) (run-within p s)
-  where
-    go : (c : Bool) → run p s ≤ length s → choose c (λ _. suc (run p s)) (λ _. 0) ≤ suc (length s)
-    go true h = omega arith
-    go false h = omega arith
-
 -- ---- equal strings
 
 pub same-lengths : (a b : List ℕ) → (length a ≡ length b → ⊥) → same a b ≡ false
@@ -91,7 +81,8 @@ sets-snoc l i [] a = let e : i + 0 ≡ i = omega arith in rw e
 sets-snoc l i (v ∷ vs) a = let e : i + suc (length vs) ≡ suc i + length vs = omega arith in rw e (sets-snoc (set l i v) (suc i) vs a)
 
 -- one element more of a list that is written out through f
-pub sets-map : {A B : Type 0} (f : A → B) (l : List B) (s : List A) (i : ℕ) (d : A) → i < length s → sets l 0 (map f (take (i + 1) s)) ≡ set (sets l 0 (map f (take i s))) i (f (getD s i d))
+pub sets-map : {A B : Type 0} (f : A → B) (l : List B) (s : List A) (i : ℕ) (d : A) → i < length s
+    → sets l 0 (map f (take (i + 1) s)) ≡ set (sets l 0 (map f (take i s))) i (f (getD s i d))
 sets-map f l s i d h =
     ap (λ (t : List _). sets l 0 (map f t)) (ap (λ (n : ℕ). take n s) (add-one i) ∙ take-suc s i d h)
     ∙ ap (sets l 0) (map-append f (take i s) (getD s i d ∷ []))
@@ -107,7 +98,8 @@ pub part-snoc : (s : List ℕ) (a i : ℕ) → a ≤ i → i < length s → part
 part-snoc s a i h k =
     let e : i + 1 - a ≡ suc (i - a) = omega arith in
     let f : a + (i - a) ≡ i = omega arith in
-    ap (λ (n : ℕ). take n (drop a s)) e ∙ take-suc (drop a s) (i - a) 0 (omega (arith, length-drop a s)) ∙ ap (λ (x : ℕ). part s a i ++ (x ∷ [])) (getD-drop a s (i - a) 0 ∙ ap (λ (n : ℕ). getD s n 0) f)
+    ap (λ (n : ℕ). take n (drop a s)) e ∙ take-suc (drop a s) (i - a) 0 (omega (arith, length-drop a s))
+    ∙ ap (λ (x : ℕ). part s a i ++ (x ∷ [])) (getD-drop a s (i - a) 0 ∙ ap (λ (n : ℕ). getD s n 0) f)
 
 number-snoc : (n : ℕ) (ds : List ℕ) (d : ℕ) → number-from n (ds ++ (d ∷ [])) ≡ 10 * number-from n ds + (d - 48)
 unfolding number-from

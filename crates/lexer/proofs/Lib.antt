@@ -4,3 +4,4 @@ pub mod Tokens
 pub mod Signs
 pub mod Said
 pub mod PlaceLaws
+pub mod Chains

@@ -15,17 +15,19 @@ use lib.Dec.{eqb}
 use Rattle.syntax.specs.Grammar.{Lead, bare, plus, minus}
 use Rattle.syntax.specs.Reader.{Parsed, broken, done, Reader, next, kind, text, expects, wants, readLead, token-in, after-in, peek-in, skip-in}
 use Rattle.lexer.specs.declared.Tok.{Tok}
-use Rattle.lexer.specs.Lex.{part, Lexed}
+use Rattle.lexer.specs.Lex.{part, kind-number, Lexed}
 use Rattle.lexer.specs.Places.{Lands, Goes, Any, passes, Spells}
 use Rattle.lexer.proofs.Said.{signed, lettered, sign-text, word-text, name-short}
 
 module _ {A B : Type 0} (P : A → Type 0) (Q : B → Type 0) (s : List ℕ) (k : A → Reader (List ℕ) B) (m r : ℕ) where
   -- what comes after a part that lands at m
-  pub lands-next : (p : Parsed (List ℕ) A) → Lands P s p m → ((a : A) → P a → m ≤ length s → Lands Q s (k a (drop m s)) r) → (length s < m → r ≡ length s + 1) → Lands Q s (next p k) r
+  pub lands-next : (p : Parsed (List ℕ) A) → Lands P s p m → ((a : A) → P a → m ≤ length s → Lands Q s (k a (drop m s)) r)
+      → (length s < m → r ≡ length s + 1) → Lands Q s (next p k) r
   lands-next broken h f g = g (omega (arith, h))
   lands-next (done a u) h f g = subst (λ (w : List ℕ). Lands Q s (k a w) r) (sym (h .0)) (f a (h .2) (h .1))
 
-  pub goes-next : {at : ℕ} {R : Reader (List ℕ) A} → Goes P s at R m → ((a : A) → P a → m ≤ length s → Lands Q s (k a (drop m s)) r) → (m ≤ length s → m ≤ r) → (length s < m → r ≡ length s + 1) → Goes Q s at (λ u. next (R u) k) r
+  pub goes-next : {at : ℕ} {R : Reader (List ℕ) A} → Goes P s at R m → ((a : A) → P a → m ≤ length s → Lands Q s (k a (drop m s)) r)
+      → (m ≤ length s → m ≤ r) → (length s < m → r ≡ length s + 1) → Goes Q s at (λ u. next (R u) k) r
   goes-next {at} {R} h f e g = record {
     lands = λ b. lands-next (R (drop at s)) (h .lands b) f g;
     from = λ b. elim (decLt (length s) m) [
@@ -36,7 +38,8 @@ module _ {A B : Type 0} (P : A → Type 0) (Q : B → Type 0) (s : List ℕ) (k 
   }
 
 -- nothing more is read
-pub lands-yield : {A B : Type 0} (P : A → Type 0) (Q : B → Type 0) (s : List ℕ) (f : A → B) (m : ℕ) (p : Parsed (List ℕ) A) → Lands P s p m → ((a : A) → P a → Q (f a)) → Lands Q s (next p (λ a. done (f a))) m
+pub lands-yield : {A B : Type 0} (P : A → Type 0) (Q : B → Type 0) (s : List ℕ) (f : A → B) (m : ℕ) (p : Parsed (List ℕ) A) → Lands P s p m
+    → ((a : A) → P a → Q (f a)) → Lands Q s (next p (λ a. done (f a))) m
 lands-yield P Q s f m broken h g = h
 lands-yield P Q s f m (done a u) h g = (h .0, h .1, g a (h .2))
 
@@ -52,7 +55,8 @@ goes-end {P} {s} {at} {R} {m} h b = elim (decLt (length s) at) [
 ]
 
 -- something else is said of what is read
-pub goes-saying : {A : Type 0} {P Q : A → Type 0} {s : List ℕ} {at : ℕ} {R : Reader (List ℕ) A} {m : ℕ} → Goes P s at R m → (m ≤ length s → (a : A) → P a → Q a) → Goes Q s at R m
+pub goes-saying : {A : Type 0} {P Q : A → Type 0} {s : List ℕ} {at : ℕ} {R : Reader (List ℕ) A} {m : ℕ} → Goes P s at R m
+    → (m ≤ length s → (a : A) → P a → Q a) → Goes Q s at R m
 goes-saying {A} {P} {Q} {s} {at} {R} {m} h f = record { lands = λ b. go (R (drop at s)) (h .lands b); from = h .from; lost = h .lost }
   where
     go : (p : Parsed (List ℕ) A) → Lands P s p m → Lands Q s p m
@@ -60,7 +64,8 @@ goes-saying {A} {P} {Q} {s} {at} {R} {m} h f = record { lands = λ b. go (R (dro
     go (done a u) w = (w .0, w .1, f (w .1) a (w .2))
 
 -- what is read where a place in the line is reached
-pub goes-some : {A : Type 0} {P : A → Type 0} {s : List ℕ} {at : ℕ} {R : Reader (List ℕ) A} {m : ℕ} → Goes P s at R m → m ≤ length s → (a : A) × (at ≤ length s) × (R (drop at s) ≡ done a (drop m s)) × P a
+pub goes-some : {A : Type 0} {P : A → Type 0} {s : List ℕ} {at : ℕ} {R : Reader (List ℕ) A} {m : ℕ} → Goes P s at R m → m ≤ length s
+    → (a : A) × (at ≤ length s) × (R (drop at s) ≡ done a (drop m s)) × P a
 goes-some {A} {P} {s} {at} {R} {m} h b = elim (decLt (length s) at) [
   | yes l ↦ absurd (omega (arith, h .lost l))
   | no l ↦ go (omega arith) (R (drop at s)) refl (h .lands (omega arith))
@@ -71,8 +76,13 @@ goes-some {A} {P} {s} {at} {R} {m} h b = elim (decLt (length s) at) [
     go l (done a u) e w = (a, l, e ∙ ap (done a) (w .0), w .2)
 
 -- it is what is read
-pub goes-same : {A : Type 0} {P : A → Type 0} {s : List ℕ} {at : ℕ} {R : Reader (List ℕ) A} {m : ℕ} → Goes P s at R m → m ≤ length s → (a : A) → R (drop at s) ≡ done a (drop m s) → Goes (λ x. a ≡ x) s at R m
-goes-same {A} {P} {s} {at} {R} {m} h b a e = record { lands = λ _. subst (λ (p : Parsed (List ℕ) A). Lands (λ x. a ≡ x) s p m) (sym e) (refl, b, refl); from = h .from; lost = h .lost }
+pub goes-same : {A : Type 0} {P : A → Type 0} {s : List ℕ} {at : ℕ} {R : Reader (List ℕ) A} {m : ℕ} → Goes P s at R m → m ≤ length s → (a : A)
+    → R (drop at s) ≡ done a (drop m s) → Goes (λ x. a ≡ x) s at R m
+goes-same {A} {P} {s} {at} {R} {m} h b a e = record {
+  lands = λ _. subst (λ (p : Parsed (List ℕ) A). Lands (λ x. a ≡ x) s p m) (sym e) (refl, b, refl);
+  from = h .from;
+  lost = h .lost;
+}
 
 -- a sign and a word, by their bytes
 pub expects-passes : (t : String) → signed (bytes t) ≡ true → (u : List ℕ) → expects peek-in skip-in t u ≡ passes (bytes t) u
@@ -84,10 +94,13 @@ wants-passes t h u = ap (λ (b : Bool). cond b (done tt (skip-in u)) broken) (wo
 -- the token at a place has the bytes w, or not
 module _ {s : List ℕ} {at : ℕ} {t : Tok} (l : Lexed s at t) (w : List ℕ) where
   pub passes-there : same w (part s (t .start) (t .stop)) ≡ true → Lands Any s (passes w (drop at s)) (t .stop)
-  passes-there h = subst (λ (p : Parsed (List ℕ) (Unit {0})). Lands Any s p (t .stop)) (sym (ap (λ (b : Bool). cond b (done tt (skip-in (drop at s))) broken) (ap (same w) (l .bytes) ∙ h))) (l .next, l .within, tt)
+  passes-there h =
+      subst (λ (p : Parsed (List ℕ) (Unit {0})). Lands Any s p (t .stop))
+      (sym (ap (λ (b : Bool). cond b (done tt (skip-in (drop at s))) broken) (ap (same w) (l .bytes) ∙ h))) (l .next, l .within, tt)
 
   pub passes-other : same w (part s (t .start) (t .stop)) ≡ false → Lands Any s (passes w (drop at s)) (length s + 1)
-  passes-other h = subst (λ (p : Parsed (List ℕ) (Unit {0})). Lands Any s p (length s + 1)) (sym (ap (λ (b : Bool). cond b (done tt (skip-in (drop at s))) broken) (ap (same w) (l .bytes) ∙ h))) refl
+  passes-other h = subst (λ (p : Parsed (List ℕ) (Unit {0})). Lands Any s p (length s + 1))
+      (sym (ap (λ (b : Bool). cond b (done tt (skip-in (drop at s))) broken) (ap (same w) (l .bytes) ∙ h))) refl
 
 -- ---- where a token stands or not
 
@@ -95,7 +108,9 @@ module _ (s w : List ℕ) (at r : ℕ) (g : Goes Any s at (passes w) r) (b : at 
   abbrev passed : Bool → Parsed (List ℕ) (Unit {0})
   passed x = cond x (done tt (skip-in (drop at s))) broken
 
-  found : (x : Bool) → same w (text (peek-in (drop at s))) ≡ x → Lands {A = Unit {0}} Any s (passed x) r → (r ≤ length s → (same w (text (peek-in (drop at s))) ≡ true) × (skip-in (drop at s) ≡ drop r s)) × (length s < r → same w (text (peek-in (drop at s))) ≡ false)
+  found : (x : Bool) → same w (text (peek-in (drop at s))) ≡ x → Lands {A = Unit {0}} Any s (passed x) r
+      → (r ≤ length s → (same w (text (peek-in (drop at s))) ≡ true) × (skip-in (drop at s) ≡ drop r s))
+      × (length s < r → same w (text (peek-in (drop at s))) ≡ false)
   found true e l = (λ h. (e, l .0), λ h. absurd (omega (arith, l .1)))
   found false e l = (λ h. absurd (omega (arith, l)), λ h. e)
 
@@ -137,48 +152,61 @@ module _ {s : List ℕ} {at : ℕ} {t : Tok} (l : Lexed s at t) (k : ℕ) (P : L
   abbrev reads-kind : List ℕ → Parsed (List ℕ) (List ℕ)
   reads-kind u = cond (eqb (kind (peek-in u)) k) (done (text (peek-in u)) (skip-in u)) broken
 
-  pub kind-there : t .kind ≡ k → P (text (peek-in (drop at s))) → Lands P s (reads-kind (drop at s)) (t .stop)
-  kind-there e p = subst (λ (x : Parsed (List ℕ) (List ℕ)). Lands P s x (t .stop)) (sym (ap (λ (b : Bool). cond b (done (text (peek-in (drop at s))) (skip-in (drop at s))) broken) (eq-eqb _ k (l .kinds ∙ e)))) (l .next, l .within, p)
+  pub kind-there : kind-number (t .kind) ≡ k → P (text (peek-in (drop at s))) → Lands P s (reads-kind (drop at s)) (t .stop)
+  kind-there e p =
+      subst (λ (x : Parsed (List ℕ) (List ℕ)). Lands P s x (t .stop))
+      (sym (ap (λ (b : Bool). cond b (done (text (peek-in (drop at s))) (skip-in (drop at s))) broken) (eq-eqb _ k (l .kinds ∙ e))))
+      (l .next, l .within, p)
 
-  pub kind-other : (t .kind ≡ k → ⊥) → Lands P s (reads-kind (drop at s)) (length s + 1)
-  kind-other n = subst (λ (x : Parsed (List ℕ) (List ℕ)). Lands P s x (length s + 1)) (sym (ap (λ (b : Bool). cond b (done (text (peek-in (drop at s))) (skip-in (drop at s))) broken) (ne-eqb _ k (λ (e : kind (peek-in (drop at s)) ≡ k). n (sym (l .kinds) ∙ e))))) refl
+  pub kind-other : (kind-number (t .kind) ≡ k → ⊥) → Lands P s (reads-kind (drop at s)) (length s + 1)
+  kind-other n =
+      subst (λ (x : Parsed (List ℕ) (List ℕ)). Lands P s x (length s + 1))
+      (sym (ap (λ (b : Bool). cond b (done (text (peek-in (drop at s))) (skip-in (drop at s))) broken)
+      (ne-eqb _ k (λ (e : kind (peek-in (drop at s)) ≡ k). n (sym (l .kinds) ∙ e)))))
+      refl
 
-pub spells : {s : List ℕ} {at : ℕ} {t : Tok} → Lexed s at t → t .kind ≡ 1 → Spells s (record { next = t .stop; start = t .start }) (text (peek-in (drop at s)))
+pub spells : {s : List ℕ} {at : ℕ} {t : Tok} → Lexed s at t → kind-number (t .kind) ≡ 1
+    → Spells s (record { next = t .stop; start = t .start }) (text (peek-in (drop at s)))
 spells {s} {at} l e = record { bytes = l .bytes; order = l .order; short = name-short (drop at s) (l .kinds ∙ e) }
 
 module _ (s : List ℕ) (at : ℕ) (b : at ≤ length s) (P : Lead → Type 0) where
   abbrev lead-as : Bool → Bool → List ℕ → Parsed (List ℕ) Lead
   lead-as p m u = cond p (done plus (skip-in u)) (cond m (done minus (skip-in u)) (done bare u))
 
-  by-text : readLead peek-in skip-in (drop at s) ≡ lead-as (same (bytes "+") (text (peek-in (drop at s)))) (same (bytes "-") (text (peek-in (drop at s)))) (drop at s)
+  by-text : readLead peek-in skip-in (drop at s)
+      ≡ lead-as (same (bytes "+") (text (peek-in (drop at s)))) (same (bytes "-") (text (peek-in (drop at s)))) (drop at s)
   by-text = λ i. lead-as (sign-text (bytes "+") refl (drop at s) i) (sign-text (bytes "-") refl (drop at s) i) (drop at s)
 
-  to : (p m : Bool) → same (bytes "+") (text (peek-in (drop at s))) ≡ p → same (bytes "-") (text (peek-in (drop at s))) ≡ m → (r : ℕ) → Lands P s (lead-as p m (drop at s)) r → Lands P s (readLead peek-in skip-in (drop at s)) r
+  to : (p m : Bool) → same (bytes "+") (text (peek-in (drop at s))) ≡ p → same (bytes "-") (text (peek-in (drop at s))) ≡ m → (r : ℕ)
+      → Lands P s (lead-as p m (drop at s)) r → Lands P s (readLead peek-in skip-in (drop at s)) r
   to p m ep em r h = subst (λ (x : Parsed (List ℕ) Lead). Lands P s x r) (sym (by-text ∙ (λ i. lead-as (ep i) (em i) (drop at s)))) h
 
   pub lead-plus : (r : ℕ) → Goes Any s at (passes (bytes "+")) r → r ≤ length s → P plus → Lands P s (readLead peek-in skip-in (drop at s)) r
   lead-plus r g h p = let (e, n) = pass-there s (bytes "+") at r g b h in to true _ e refl r (n, h, p)
 
-  pub lead-minus : (q r : ℕ) → Goes Any s at (passes (bytes "+")) q → length s < q → Goes Any s at (passes (bytes "-")) r → r ≤ length s → P minus → Lands P s (readLead peek-in skip-in (drop at s)) r
+  pub lead-minus : (q r : ℕ) → Goes Any s at (passes (bytes "+")) q → length s < q → Goes Any s at (passes (bytes "-")) r → r ≤ length s → P minus
+      → Lands P s (readLead peek-in skip-in (drop at s)) r
   lead-minus q r f l g h p = let (e, n) = pass-there s (bytes "-") at r g b h in to false true (pass-not s (bytes "+") at q f b l) e r (n, h, p)
 
-  pub lead-bare : (q r : ℕ) → Goes Any s at (passes (bytes "+")) q → length s < q → Goes Any s at (passes (bytes "-")) r → length s < r → P bare → Lands P s (readLead peek-in skip-in (drop at s)) at
+  pub lead-bare : (q r : ℕ) → Goes Any s at (passes (bytes "+")) q → length s < q → Goes Any s at (passes (bytes "-")) r → length s < r → P bare
+      → Lands P s (readLead peek-in skip-in (drop at s)) at
   lead-bare q r f l g h p = to false false (pass-not s (bytes "+") at q f b l) (pass-not s (bytes "-") at r g b h) at (refl, b, p)
 
 -- a sign that ends what is read
-pub lands-expect : {B : Type 0} (Q : B → Type 0) (s : List ℕ) (t : String) → signed (bytes t) ≡ true → (m c : ℕ) → Goes Any s m (passes (bytes t)) c → m ≤ length s → (b : B) → Q b → Lands Q s (next (expects peek-in skip-in t (drop m s)) (λ _. done b)) c
-lands-expect Q s t h m c g l b q = lands-yield Any Q s (λ _. b) c (expects peek-in skip-in t (drop m s)) (subst (λ (x : Parsed (List ℕ) (Unit {0})). Lands Any s x c) (sym (expects-passes t h (drop m s))) (g .lands l)) (λ _ _. q)
+pub lands-expect : {B : Type 0} (Q : B → Type 0) (s : List ℕ) (t : String) → signed (bytes t) ≡ true → (m c : ℕ) → Goes Any s m (passes (bytes t)) c
+    → m ≤ length s → (b : B) → Q b → Lands Q s (next (expects peek-in skip-in t (drop m s)) (λ _. done b)) c
+lands-expect Q s t h m c g l b q =
+    lands-yield Any Q s (λ _. b) c (expects peek-in skip-in t (drop m s))
+    (subst (λ (x : Parsed (List ℕ) (Unit {0})). Lands Any s x c) (sym (expects-passes t h (drop m s))) (g .lands l)) (λ _ _. q)
 
 -- a sign or a word, and what comes after it
-module _ {B : Type 0} (R : B → Type 0) (s : List ℕ) (t : String) (m k : ℕ) (g : Goes Any s m (passes (bytes t)) k) (rest : Reader (List ℕ) B) (z : ℕ) (l : m ≤ length s) (f : k ≤ length s → Lands R s (rest (drop k s)) z) (o : length s < k → z ≡ length s + 1) where
+module _ {B : Type 0} (R : B → Type 0) (s : List ℕ) (t : String) (m k : ℕ) (g : Goes Any s m (passes (bytes t)) k) (rest : Reader (List ℕ) B) (z : ℕ)
+    (l : m ≤ length s) (f : k ≤ length s → Lands R s (rest (drop k s)) z) (o : length s < k → z ≡ length s + 1) where
   past : Lands R s (next (passes (bytes t) (drop m s)) (λ _. rest)) z
   past = lands-next Any R s (λ _. rest) k z (passes (bytes t) (drop m s)) (g .lands l) (λ _ _ j. f j) o
 
   pub lands-past : signed (bytes t) ≡ true → Lands R s (next (expects peek-in skip-in t (drop m s)) (λ _. rest)) z
   lands-past h = subst (λ (p : Parsed (List ℕ) (Unit {0})). Lands R s (next p (λ _. rest)) z) (sym (expects-passes t h (drop m s))) past
-
-  pub lands-past-word : lettered (bytes t) ≡ true → Lands R s (next (wants peek-in skip-in t (drop m s)) (λ _. rest)) z
-  lands-past-word h = subst (λ (p : Parsed (List ℕ) (Unit {0})). Lands R s (next p (λ _. rest)) z) (sym (wants-passes t h (drop m s))) past
 
 -- the place n after a token that was taken
 pub taken-next : {s : List ℕ} {at n : ℕ} {t : Tok} → Lexed s at t → n ≡ t .stop → skip-in (drop at s) ≡ drop n s

@@ -9,7 +9,7 @@ use native.Mathlib.Omega.{arith}
 use borrow.Author.Tests.{eqb-true, leb-true}
 use lib.Dec.{eqb, leb}
 use lib.ListN.{length, take, drop}
-use Rattle.syntax.specs.Bytes.{letter, digit, same, any, reserved, word-of, Token, token-of, token-size, kindOf, bytesOf, name, word, digits, sign, trimmed}
+use Rattle.syntax.specs.Bytes.{letter, digit, same, any, reserved, word-of, Token, token-of, token-size, kindOf, bytesOf, name, other-word, digits, sign, trimmed}
 use Rattle.syntax.specs.Reader.{kind, text, is, peek-in, token-in}
 use Rattle.syntax.proofs.Places.{size-one}
 use Rattle.syntax.proofs.Spelling.{same-true}
@@ -72,7 +72,9 @@ sign-made (c ∷ x) h (made b w) = go (letter b) (digit b) (leb (length (b ∷ w
     neither false true q = clash q refl
     neither false false q = (refl, refl)
 
-    go : (l d t : Bool) → letter b ≡ l → digit b ≡ d → is (sign (c ∷ x)) (some (cond l (cond t (name (b ∷ w)) (word (b ∷ w))) (cond d (digits (b ∷ w)) (sign (b ∷ w))))) ≡ same (c ∷ x) (bytesOf (cond l (cond t (name (b ∷ w)) (word (b ∷ w))) (cond d (digits (b ∷ w)) (sign (b ∷ w)))))
+    go : (l d t : Bool) → letter b ≡ l → digit b ≡ d
+        → is (sign (c ∷ x)) (some (cond l (cond t (name (b ∷ w)) (other-word (b ∷ w))) (cond d (digits (b ∷ w)) (sign (b ∷ w)))))
+        ≡ same (c ∷ x) (bytesOf (cond l (cond t (name (b ∷ w)) (other-word (b ∷ w))) (cond d (digits (b ∷ w)) (sign (b ∷ w)))))
     go true d true p q = sym (no-and (same x w) (apart letter c b false (neither (letter c) (digit c) h .0) p))
     go true d false p q = sym (no-and (same x w) (apart letter c b false (neither (letter c) (digit c) h .0) p))
     go false true t p q = sym (no-and (same x w) (apart digit c b false (neither (letter c) (digit c) h .1) q))
@@ -85,8 +87,10 @@ word-made [] h m = clash h refl
 word-made (c ∷ x) h m = go (leb (length (c ∷ x)) 31 && not (any (same (c ∷ x)) reserved)) refl m
   where
     -- u says whether the word may be a name, t whether the token may
-    words : (u : Bool) (b : ℕ) (w : List ℕ) (t : Bool) → leb (length (c ∷ x)) 31 && not (any (same (c ∷ x)) reserved) ≡ u → leb (length (b ∷ w)) 31 && not (any (same (b ∷ w)) reserved) ≡ t
-        → (v : Bool) → same (c ∷ x) (b ∷ w) ≡ v → eqb (kindOf (cond u (name (c ∷ x)) (word (c ∷ x)))) (kindOf (cond t (name (b ∷ w)) (word (b ∷ w)))) && v ≡ v
+    words : (u : Bool) (b : ℕ) (w : List ℕ) (t : Bool) → leb (length (c ∷ x)) 31 && not (any (same (c ∷ x)) reserved) ≡ u
+        → leb (length (b ∷ w)) 31 && not (any (same (b ∷ w)) reserved) ≡ t
+        → (v : Bool) → same (c ∷ x) (b ∷ w) ≡ v
+        → eqb (kindOf (cond u (name (c ∷ x)) (other-word (c ∷ x)))) (kindOf (cond t (name (b ∷ w)) (other-word (b ∷ w)))) && v ≡ v
     words true b w true p q v e = refl
     words false b w false p q v e = refl
     words true b w false p q true e = clash p (ap (λ (y : List ℕ). leb (length y) 31 && not (any (same y) reserved)) (same-true (c ∷ x) (b ∷ w) e) ∙ q)
@@ -94,27 +98,33 @@ word-made (c ∷ x) h m = go (leb (length (c ∷ x)) 31 && not (any (same (c ∷
     words false b w true p q true e = clash q (ap (λ (y : List ℕ). leb (length y) 31 && not (any (same y) reserved)) (sym (same-true (c ∷ x) (b ∷ w) e)) ∙ p)
     words false b w true p q false e = refl
 
-    bytes : (u : Bool) (y : List ℕ) → bytesOf (cond u (name y) (word y)) ≡ y
+    bytes : (u : Bool) (y : List ℕ) → bytesOf (cond u (name y) (other-word y)) ≡ y
     bytes true y = refl
     bytes false y = refl
 
-    other : (u : Bool) (b : ℕ) (w : List ℕ) (k : ℕ) → letter b ≡ false → eqb (kindOf (cond u (name (c ∷ x)) (word (c ∷ x)))) k ≡ false → (s : Bool) → eqb (kindOf (cond u (name (c ∷ x)) (word (c ∷ x)))) k && s ≡ same (c ∷ x) (b ∷ w)
+    other : (u : Bool) (b : ℕ) (w : List ℕ) (k : ℕ) → letter b ≡ false → eqb (kindOf (cond u (name (c ∷ x)) (other-word (c ∷ x)))) k ≡ false
+        → (s : Bool) → eqb (kindOf (cond u (name (c ∷ x)) (other-word (c ∷ x)))) k && s ≡ same (c ∷ x) (b ∷ w)
     other u b w k p e s = no-and s e ∙ sym (no-and (same x w) (apart letter c b true h p))
 
-    apart-kinds : (u : Bool) → (eqb (kindOf (cond u (name (c ∷ x)) (word (c ∷ x)))) 3 ≡ false) × (eqb (kindOf (cond u (name (c ∷ x)) (word (c ∷ x)))) 4 ≡ false)
+    apart-kinds : (u : Bool)
+        → (eqb (kindOf (cond u (name (c ∷ x)) (other-word (c ∷ x)))) 3 ≡ false)
+        × (eqb (kindOf (cond u (name (c ∷ x)) (other-word (c ∷ x)))) 4 ≡ false)
     apart-kinds true = (refl, refl)
     apart-kinds false = (refl, refl)
 
-    go : (u : Bool) → leb (length (c ∷ x)) 31 && not (any (same (c ∷ x)) reserved) ≡ u → {o : Option Token} → Made o → is (cond u (name (c ∷ x)) (word (c ∷ x))) o ≡ same (c ∷ x) (text o)
+    go : (u : Bool) → leb (length (c ∷ x)) 31 && not (any (same (c ∷ x)) reserved) ≡ u → {o : Option Token} → Made o
+        → is (cond u (name (c ∷ x)) (other-word (c ∷ x))) o ≡ same (c ∷ x) (text o)
     go true p made-none = refl
     go false p made-none = refl
     go u p (made b w) = at (letter b) (digit b) (leb (length (b ∷ w)) 31 && not (any (same (b ∷ w)) reserved)) refl refl refl
       where
         at : (l d t : Bool) → letter b ≡ l → digit b ≡ d → leb (length (b ∷ w)) 31 && not (any (same (b ∷ w)) reserved) ≡ t
-            → is (cond u (name (c ∷ x)) (word (c ∷ x))) (some (cond l (cond t (name (b ∷ w)) (word (b ∷ w))) (cond d (digits (b ∷ w)) (sign (b ∷ w)))))
-            ≡ same (c ∷ x) (bytesOf (cond l (cond t (name (b ∷ w)) (word (b ∷ w))) (cond d (digits (b ∷ w)) (sign (b ∷ w)))))
+            → is (cond u (name (c ∷ x)) (other-word (c ∷ x)))
+            (some (cond l (cond t (name (b ∷ w)) (other-word (b ∷ w))) (cond d (digits (b ∷ w)) (sign (b ∷ w)))))
+            ≡ same (c ∷ x) (bytesOf (cond l (cond t (name (b ∷ w)) (other-word (b ∷ w))) (cond d (digits (b ∷ w)) (sign (b ∷ w)))))
         at true d t a e f =
-            (λ i. eqb (kindOf (cond u (name (c ∷ x)) (word (c ∷ x)))) (kindOf (cond t (name (b ∷ w)) (word (b ∷ w)))) && same (bytes u (c ∷ x) i) (bytes t (b ∷ w) i))
+            (λ i. eqb (kindOf (cond u (name (c ∷ x)) (other-word (c ∷ x)))) (kindOf (cond t (name (b ∷ w)) (other-word (b ∷ w))))
+            && same (bytes u (c ∷ x) i) (bytes t (b ∷ w) i))
             ∙ words u b w t p f (same (c ∷ x) (b ∷ w)) refl ∙ ap (same (c ∷ x)) (sym (bytes t (b ∷ w)))
         at false true t a e f = other u b w 3 a (apart-kinds u .0) _
         at false false t a e f = other u b w 4 a (apart-kinds u .1) _
@@ -132,8 +142,9 @@ name-made : {o : Option Token} → Made o → kind o ≡ 1 → length (text o) �
 name-made made-none h = absurd (omega (arith, h))
 name-made (made b w) h = go (letter b) (digit b) (leb (length (b ∷ w)) 31) (not (any (same (b ∷ w)) reserved)) refl h
   where
-    go : (l d m n : Bool) → leb (length (b ∷ w)) 31 ≡ m → kindOf (cond l (cond (m && n) (name (b ∷ w)) (word (b ∷ w))) (cond d (digits (b ∷ w)) (sign (b ∷ w)))) ≡ 1
-        → length (bytesOf (cond l (cond (m && n) (name (b ∷ w)) (word (b ∷ w))) (cond d (digits (b ∷ w)) (sign (b ∷ w))))) ≤ 31
+    go : (l d m n : Bool) → leb (length (b ∷ w)) 31 ≡ m
+        → kindOf (cond l (cond (m && n) (name (b ∷ w)) (other-word (b ∷ w))) (cond d (digits (b ∷ w)) (sign (b ∷ w)))) ≡ 1
+        → length (bytesOf (cond l (cond (m && n) (name (b ∷ w)) (other-word (b ∷ w))) (cond d (digits (b ∷ w)) (sign (b ∷ w))))) ≤ 31
     go true d true true e h = leb-true (length (b ∷ w)) 31 e
     go true d true false e h = absurd (omega (arith, h))
     go true d false n e h = absurd (omega (arith, h))

@@ -32,8 +32,10 @@ sign-some s = go (starts (bytes "!$omp") s) (starts (bytes "==") s || (starts (b
     go false false = omega arith
 
 pub sign-within : (s : List ℕ) → 0 < length s → sign-size s ≤ length s
-sign-within s h = go (starts (bytes "!$omp") s) (starts (bytes "==") s || (starts (bytes "/=") s || (starts (bytes "<=") s || starts (bytes ">=") s))) (begun (bytes "!$omp") s)
-    (either (2 ≤ length s) (begun (bytes "==") s) (either (2 ≤ length s) (begun (bytes "/=") s) (either (2 ≤ length s) (begun (bytes "<=") s) (begun (bytes ">=") s))))
+sign-within s h = go (starts (bytes "!$omp") s) (starts (bytes "==") s || (starts (bytes "/=") s || (starts (bytes "<=") s || starts (bytes ">=") s)))
+    (begun (bytes "!$omp") s)
+    (either (2 ≤ length s) (begun (bytes "==") s)
+    (either (2 ≤ length s) (begun (bytes "/=") s) (either (2 ≤ length s) (begun (bytes "<=") s) (begun (bytes ">=") s))))
   where
     go : (a b : Bool) → (a ≡ true → 5 ≤ length s) → (b ≡ true → 2 ≤ length s) → cond a 5 (cond b 2 1) ≤ length s
     go true b f g = f refl

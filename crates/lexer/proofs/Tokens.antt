@@ -8,17 +8,21 @@ use native.Mathlib.Omega.{arith}
 use lib.Dec.{eqb, leb}
 use lib.ListN.{length, getD, take, drop, drop-of-length-le}
 use lib.Seq.{drop-cons, drop-drop}
-use Rattle.syntax.specs.Bytes.{choose, letter, digit, in-word, run, token-size, token-of, trimmed, word-of, kindOf, bytesOf, name, word, digits, sign, sign-size, any, same, reserved}
+use Rattle.syntax.specs.Bytes.{choose, letter, digit, in-word, run, token-size, token-of, trimmed, word-of, kindOf, bytesOf, name, other-word, digits, sign, sign-size, any, same, reserved}
 use Rattle.syntax.specs.Reader.{kind, text, peek-in, skip-in, token-in, after-in}
 use Rattle.lexer.proofs.Laws.{part-none}
-use Rattle.lexer.specs.Lex.{goes, part, Lexed}
+use Rattle.lexer.specs.declared.Run.the-variants.{Blank}
+use Rattle.lexer.specs.declared.Kind.{Kind}
+use Rattle.lexer.specs.declared.Kind.the-variants.{End}
+use Rattle.lexer.specs.Lex.{goes, part, kind-number, Lexed}
 
-pub trimmed-run : (l : List ℕ) → trimmed l ≡ drop (run (goes 0) l) l
+pub trimmed-run : (l : List ℕ) → trimmed l ≡ drop (run (goes Blank) l) l
 unfolding trimmed run goes
 trimmed-run [] = refl
 trimmed-run (b ∷ l) = go (eqb b 32) (trimmed-run l)
   where
-    go : (c : Bool) → trimmed l ≡ drop (run (goes 0) l) l → choose c (λ _. trimmed l) (λ _. b ∷ l) ≡ drop (choose c (λ _. suc (run (goes 0) l)) (λ _. 0)) (b ∷ l)
+    go : (c : Bool) → trimmed l ≡ drop (run (goes Blank) l) l
+        → choose c (λ _. trimmed l) (λ _. b ∷ l) ≡ drop (choose c (λ _. suc (run (goes Blank) l)) (λ _. 0)) (b ∷ l)
     go true h = h
     go false h = refl
 
@@ -26,18 +30,18 @@ trimmed-run (b ∷ l) = go (eqb b 32) (trimmed-run l)
 pub token-bytes : (b : ℕ) (w : List ℕ) → bytesOf (token-of b w) ≡ w
 token-bytes b w = go (letter b) (digit b) (leb (length w) 31 && not (any (same w) reserved))
   where
-    go : (l d c : Bool) → bytesOf (cond l (cond c (name w) (word w)) (cond d (digits w) (sign w))) ≡ w
+    go : (l d c : Bool) → bytesOf (cond l (cond c (name w) (other-word w)) (cond d (digits w) (sign w))) ≡ w
     go true d true = refl
     go true d false = refl
     go false true c = refl
     go false false c = refl
 
 -- a is where the blanks from a place on end
-module _ (s : List ℕ) (at a : ℕ) (e : a ≡ at + run (goes 0) (drop at s)) where
+module _ (s : List ℕ) (at a : ℕ) (e : a ≡ at + run (goes Blank) (drop at s)) where
   pub trimmed-at : trimmed (drop at s) ≡ drop a s
-  trimmed-at = trimmed-run (drop at s) ∙ drop-drop (run (goes 0) (drop at s)) at s ∙ ap (λ (n : ℕ). drop n s) (sym e)
+  trimmed-at = trimmed-run (drop at s) ∙ drop-drop (run (goes Blank) (drop at s)) at s ∙ ap (λ (n : ℕ). drop n s) (sym e)
 
-  pub lexed-end : length s ≤ a → a ≤ length s → Lexed s at (record { kind = 0; start = a; stop = a })
+  pub lexed-end : length s ≤ a → a ≤ length s → Lexed s at (record { kind = End; start = a; stop = a })
   unfolding peek-in skip-in
   lexed-end h k =
       let n : drop a s ≡ [] = drop-of-length-le s h in
@@ -62,15 +66,20 @@ module _ (s : List ℕ) (at a : ℕ) (e : a ≡ at + run (goes 0) (drop at s)) w
     begins : trimmed (drop at s) ≡ b ∷ r
     begins = trimmed-at ∙ drop-cons s a 0 h
 
-    pub lexed-some : (z k : ℕ) → z ≡ a + token-size b r → a < z → z ≤ length s → kindOf (token-of b (part s a z)) ≡ k → Lexed s at (record { kind = k; start = a; stop = z })
+    pub lexed-some : (z : ℕ) (k : Kind) → z ≡ a + token-size b r → a < z → z ≤ length s → kindOf (token-of b (part s a z)) ≡ kind-number k
+        → Lexed s at (record { kind = k; start = a; stop = z })
     unfolding peek-in skip-in
     lexed-some z k p l w q =
         let n : token-size b r ≡ z - a = omega arith in
-        let i = ap token-in begins ∙ ap (λ (m : ℕ). some (token-of b (take m (b ∷ r)))) n ∙ ap (λ (t : List ℕ). some (token-of b (take (z - a) t))) (sym (drop-cons s a 0 h)) in
+        let i =
+        ap token-in begins ∙ ap (λ (m : ℕ). some (token-of b (take m (b ∷ r)))) n
+        ∙ ap (λ (t : List ℕ). some (token-of b (take (z - a) t))) (sym (drop-cons s a 0 h)) in
         record {
           kinds = ap kind i ∙ q;
           bytes = ap text i ∙ token-bytes b (part s a z);
-          next = ap after-in begins ∙ ap (λ (t : List ℕ). drop (token-size b r) t) (sym (drop-cons s a 0 h)) ∙ drop-drop (token-size b r) a s ∙ ap (λ (m : ℕ). drop m s) (sym p);
+          next =
+              ap after-in begins ∙ ap (λ (t : List ℕ). drop (token-size b r) t) (sym (drop-cons s a 0 h)) ∙ drop-drop (token-size b r) a s
+              ∙ ap (λ (m : ℕ). drop m s) (sym p);
           from = omega arith;
           order = omega arith;
           within = w;

@@ -2,11 +2,13 @@
 use mathlib.Core.Path.{_≡_}
 use mathlib.Core.Bool.{cond}
 use mathlib.Core.List.{List}
-use Prim.Native.Nat.{ℕ, zero, suc, _+_, _≤_, _<_}
+use Prim.Native.Nat.{ℕ, _+_, _≤_, _<_}
 use lib.ListN.{length, drop}
 use Rattle.syntax.specs.Bytes.{same}
 use Rattle.syntax.specs.Grammar.{Lead, bare, plus, minus}
 use Rattle.syntax.specs.Reader.{Parsed, broken, done, Reader, text, peek-in, skip-in}
+use Rattle.lexer.specs.declared.Leading.{Leading}
+use Rattle.lexer.specs.declared.Leading.the-variants.{Bare, Plus, Minus}
 use Rattle.lexer.specs.declared.Word.{Word}
 use Rattle.lexer.specs.Lex.{part}
 
@@ -35,8 +37,8 @@ pub record Spells (s : List ℕ) (r : Word) (w : List ℕ) : Type 0 where
   pub order : r .start ≤ r .next
   pub short : length w ≤ 31
 
--- a sign's number
-abbrev pub leadOf : ℕ → Lead
-leadOf zero = bare
-leadOf (suc zero) = plus
-leadOf (suc (suc n)) = minus
+-- the sign that the code found
+abbrev pub leadOf : Leading → Lead
+leadOf Bare = bare
+leadOf Plus = plus
+leadOf Minus = minus

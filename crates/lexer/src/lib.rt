@@ -3,19 +3,30 @@
 ghost use mathlib.Core.Path.{_≡_};
 ghost use mathlib.Core.List.{map};
 ghost use Prim.Native.Nat.{_≤_, _<_, _+_, min};
+ghost use lib.Dec.{eqb};
 ghost use lib.ListN.{length, drop};
 ghost use lib.Seq.{sets};
-ghost use Rattle.syntax.specs.Bytes.{lower as lowerOf, same, starts as startsWith, any, reserved as reservedWords, word-of, kindOf, sign-size, run, letter as isLetter, digit as isDigit, in-word as inWord};
+ghost use Rattle.syntax.specs.Bytes.{lower as lowerOf, same, starts as startsWith, any, reserved as reservedWords, word-of, kindOf};
+ghost use Rattle.syntax.specs.Bytes.{sign-size, run, letter as isLetter, digit as isDigit, in-word as inWord};
 ghost use Rattle.syntax.specs.Grammar.{number as numberOf};
-ghost use Rattle.syntax.specs.Reader.{readName, readDigits, readLead, peek-in, skip-in};
+ghost use Rattle.syntax.specs.Reader.{kind as kindAt, readName, readDigits, readLead, peek-in, skip-in};
 ghost use Rattle.lexer.specs.Places.{Goes, Any, passes, Spells, leadOf};
-ghost use Rattle.lexer.specs.Lex.{goes, part, Lexed, ended, tens};
+ghost use Rattle.lexer.specs.Lex.{goes, part, kind-number, Lexed, ended, tens};
 
 pub mod cursor;
 
-// A token: its kind (0 the end of the line, 1 a word that may be a name, 2 a word that is no name, 3 digits, 4 a sign) and where it lies.
+// What a token is: the end of the line, a word that may be a name, a word that is no name, digits, or a sign.
+pub enum Kind {
+    End,
+    Name,
+    Word,
+    Digits,
+    Sign,
+}
+
+// A token: its kind, and where it lies.
 pub struct Tok {
-    pub kind: u32,
+    pub kind: Kind,
     pub start: usize,
     pub stop: usize,
 }
@@ -115,21 +126,26 @@ fn in_word(b: u8) -> bool
     b == 95
 }
 
-// Whether a run of blanks (0), of a word (1) or of digits (2) goes on over a byte.
-fn goes_on(what: u8, b: u8) -> bool
+// The bytes that a run is of: blanks, those that go on in a word, or digits.
+pub enum Run {
+    Blank,
+    InWord,
+    Digit,
+}
+
+// Whether a run goes on over a byte.
+fn goes_on(what: Run, b: u8) -> bool
     ensures { λ r. ⌜ r ≡ goes what b ⌝ }
 {
-    if what == 0 {
-        return b == 32;
+    match what {
+        Run::Blank => b == 32,
+        Run::InWord => in_word(b),
+        Run::Digit => digit(b),
     }
-    if what == 1 {
-        return in_word(b);
-    }
-    digit(b)
 }
 
 // The end of the run that stands at a place.
-pub fn run_end(what: u8, s: &[u8], at: usize) -> usize
+pub fn run_end(what: Run, s: &[u8], at: usize) -> usize
     requires { ⌜ at ≤ length (now s) ⌝ }
     ensures { λ r. ⌜ r ≡ at + run (goes what) (drop at (now (s .entry))) ⌝ }
     ensures { λ r. ⌜ r ≤ length (now (s .entry)) ⌝ }
@@ -178,14 +194,33 @@ fn reserved(w: &[u8]) -> bool
     equal(w, b"rdiv")
 }
 
+fn kind_number(k: Kind) -> u32
+    ensures { λ r. ⌜ r ≡ kind-number k ⌝ }
+{
+    match k {
+        Kind::End => 0,
+        Kind::Name => 1,
+        Kind::Word => 2,
+        Kind::Digits => 3,
+        Kind::Sign => 4,
+    }
+}
+
+// Whether two kinds are the same.
+pub fn same_kind(k: Kind, j: Kind) -> bool
+    ensures { λ r. ⌜ r ≡ eqb (kind-number k) (kind-number j) ⌝ }
+{
+    kind_number(k) == kind_number(j)
+}
+
 // The kind of a word.
-fn word_kind(w: &[u8]) -> u32
-    ensures { λ r. ⌜ r ≡ kindOf (word-of (now (w .entry))) ⌝ }
+fn word_kind(w: &[u8]) -> Kind
+    ensures { λ r. ⌜ kind-number r ≡ kindOf (word-of (now (w .entry))) ⌝ }
 {
     if 31 < w.len() {
-        return 2;
+        return Kind::Word;
     }
-    if reserved(w) { 2 } else { 1 }
+    if reserved(w) { Kind::Word } else { Kind::Name }
 }
 
 // How many bytes the sign at the front has.
@@ -215,36 +250,47 @@ pub fn token(s: &[u8], at: usize) -> Tok
     requires { ⌜ at ≤ length (now s) ⌝ }
     ensures { λ r. ⌜ Lexed (now (s .entry)) at r ⌝ }
 {
-    let a = run_end(0, s, at);
+    let a = run_end(Run::Blank, s, at);
     if s.len() <= a {
         return Tok {
-            kind: 0,
+            kind: Kind::End,
             start: a,
             stop: a,
         };
     }
     let b = s[a];
     if letter(b) {
-        let e = run_end(1, s, a + 1);
+        let e = run_end(Run::InWord, s, a + 1);
+        let kind = word_kind(&s[a..e]);
         return Tok {
-            kind: word_kind(&s[a..e]),
+            kind,
             start: a,
             stop: e,
         };
     }
     if digit(b) {
-        let e = run_end(2, s, a + 1);
+        let e = run_end(Run::Digit, s, a + 1);
         return Tok {
-            kind: 3,
+            kind: Kind::Digits,
             start: a,
             stop: e,
         };
     }
     Tok {
-        kind: 4,
+        kind: Kind::Sign,
         start: a,
         stop: a + sign_length(&s[a..]),
     }
+}
+
+// Whether a line ends at a place.
+pub fn is_end(s: &[u8], at: usize) -> bool
+    requires { ⌜ at ≤ length (now s) ⌝ }
+    ensures { λ r. ⌜ r ≡ eqb (kindAt (peek-in (drop at (now (s .entry))))) 0 ⌝ }
+{
+    let t = token(s, at);
+    let k = t.kind;
+    same_kind(k, Kind::End)
 }
 
 // Whether a token has these bytes.
@@ -316,10 +362,17 @@ pub struct Number {
     pub number: u32,
 }
 
-// A sign that may begin digits: 0 none, 1 plus, 2 minus; and the place after it.
+// What may begin digits.
+pub enum Leading {
+    Bare,
+    Plus,
+    Minus,
+}
+
+// A sign that may begin digits, or none, and the place after it.
 pub struct Sign {
     pub next: usize,
-    pub sign: u32,
+    pub sign: Leading,
 }
 
 // The name at a place. Free: `start` where there is none.
@@ -336,7 +389,7 @@ pub fn name(s: &[u8], at: usize) -> Word
     let r = cursor::take(s, at);
     let t = r.token;
     let k = t.kind;
-    if k == 1 {
+    if same_kind(k, Kind::Name) {
         Word {
             next: r.next,
             start: t.start,
@@ -364,7 +417,7 @@ pub fn digits(s: &[u8], at: usize) -> Number
     let t = r.token;
     let k = t.kind;
     let e = r.next;
-    if k == 3 {
+    if same_kind(k, Kind::Digits) {
         Number {
             next: e,
             number: literal(s, t),
@@ -385,22 +438,25 @@ pub fn lead(s: &[u8], at: usize) -> Sign
     if s.len() < at {
         return Sign {
             next: s.len() + 1,
-            sign: 0,
+            sign: Leading::Bare,
         };
     }
     let plus = pass(s, at, b"+");
     if plus <= s.len() {
         return Sign {
             next: plus,
-            sign: 1,
+            sign: Leading::Plus,
         };
     }
     let minus = pass(s, at, b"-");
     if minus <= s.len() {
         return Sign {
             next: minus,
-            sign: 2,
+            sign: Leading::Minus,
         };
     }
-    Sign { next: at, sign: 0 }
+    Sign {
+        next: at,
+        sign: Leading::Bare,
+    }
 }

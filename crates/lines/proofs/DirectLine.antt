@@ -1,208 +1,62 @@
 -- The directive.
 use mathlib.Core.Path.{_≡_, refl, sym, _∙_, ap, subst}
-use mathlib.Core.Bool.{Bool, true, false, cond, not, _&&_, _||_, and-true, or-false}
+use mathlib.Core.Bool.{Bool, true, false, cond, not, _&&_}
 use mathlib.Core.List.{List, [], _∷_, _++_, map}
 use mathlib.Core.Option.{Option, none, some}
-use Prim.Native.Nat.{ℕ, suc, _+_, _-_, _*_, _≤_, _<_}
+use Prim.Native.Nat.{ℕ, _+_, _-_, _*_, _≤_, _<_}
 use native.Mathlib.Omega.{arith}
-use borrow.Author.Tests.{le-leb, leb-true, not-true}
-use lib.Dec.{leb, ltb}
-use lib.ListN.{length, drop, getD, replicate}
+use borrow.Author.Tests.{eq-eqb, ne-eqb, eqb-true, le-leb, leb-true}
+use lib.Dec.{leb, eqb}
+use lib.ListN.{length, drop, replicate}
 use lib.IntN.{ℤ, pos}
-use Rattle.rules.specs.Loop.{Class, shared}
-use Rattle.syntax.specs.Bytes.{bytes, all, any, same}
-use Rattle.syntax.specs.Grammar.{number, Clause, clause, Line, direct}
-use Rattle.syntax.specs.Known.{Entry, nowhere, known, class-in, classify, cells, State, after}
-use Rattle.syntax.specs.Conditions.{inLine, different, clauseNames, within, names, limits, follows}
+use Rattle.syntax.specs.Bytes.{bytes, all, choose}
+use Rattle.syntax.specs.Grammar.{number, Clause, Line, direct}
+use Rattle.syntax.specs.Known.{Entry, classify, threads-in, processors-by, State, after}
+use Rattle.syntax.specs.Conditions.{digits, inLine, rightly, small, clauseNames, names, limits, fits, may-follow}
 use Rattle.syntax.specs.Text.{initial, loaded}
-use Rattle.syntax.specs.Reader.{Parsed, broken, done, Reader, next, finish, expects, wants, readDigits, readClauses, peek-in, skip-in}
-use Rattle.syntax.proofs.Spelling.{both-true, same-true}
-use Rattle.syntax.proofs.TestLaws.{both-hold, neither-holds, any-append, same-refl, same-comm-false, same-truth}
+use Rattle.syntax.specs.Reader.{Parsed, broken, done, Reader, next, kind, finish, expects, wants, readClauses, readOpening, peek-in, skip-in}
+use Rattle.syntax.proofs.ReaderLaws.{next-assoc}
+use Rattle.syntax.proofs.Spelling.{both-true}
+use Rattle.syntax.proofs.TestLaws.{both-hold}
 use Rattle.syntax.proofs.TableLines.{classify-cells}
-use Rattle.code.specs.Instr.{words}
-use Rattle.lexer.specs.Places.{Goes, Any, passes}
-use Rattle.names.specs.Table.{classOf, Tabled, Unclaimed, class-to}
+use Rattle.lexer.specs.Places.{Lands, Goes, Any, passes}
+use Rattle.names.specs.Table.{Tabled}
 use Rattle.heading.specs.Lists.{order, Keeps}
-use Rattle.clauses.specs.Directive.{free, frees, claim-to, claims-to, clauses-to, Marked, readDirected, Directing, Directive}
+use Rattle.clauses.specs.Directive.{frees, few, Clausal, none-before, Directive}
 use Rattle.clauses.specs.declared.Directed.{Directed}
-use Rattle.clauses.proofs.ClauseLines.{claim-names, claims-names, frees-known, frees-append}
+use Rattle.clauses.proofs.ClassesGiven.{frees-are, classes-are, unmarked, counted-once, last-once}
+use Rattle.heading.proofs.Lists.{good-order}
 use Rattle.lines.specs.declared.Progress.{Progress}
-use Rattle.lines.specs.Progress.{Opened, Represents, numberOf, numbered, whole, Concludes, Numbers}
-use Rattle.kinds.specs.Directives.{readOpening}
-use Rattle.lines.proofs.Verdicts.{ending, concludes-lands, concludes-word, concludes-sign, number-by, numbered-zero, follows-most, good-order}
-use Rattle.lines.proofs.DeclareLine.{heading-code, implied}
+use Rattle.lines.specs.Progress.{Held, held, before-do, Represents, numberOf, numbered, whole, Concludes, Numbers}
+use Rattle.lines.specs.Lines.{Takes}
+use Rattle.lines.proofs.Verdicts.{ending, ended, concludes-lands, concludes-word, concludes-sign, number-by, numbered-zero, follows-most}
+use Rattle.lines.proofs.DeclareLine.{headed, implied}
 
--- ---- names
+opening-by : (f : ℕ) (s : List ℕ) → whole (readOpening peek-in skip-in f) s
+    ≡ next (expects peek-in skip-in "!$omp" s)
+    (λ _ u. next (wants peek-in skip-in "parallel" u)
+    (λ _ v. next (wants peek-in skip-in "do" v) (λ _ w. ending (readClauses peek-in skip-in f) direct w)))
+opening-by f s = simp next-assoc
 
--- none of xs is among zs
-abbrev Disjoint : List (List ℕ) → List (List ℕ) → Type 0
-Disjoint zs xs = any (λ x. any (same x) zs) xs ≡ false
+-- ---- names and limits
 
-disjoint-more : (zs : List (List ℕ)) (x : List ℕ) (xs : List (List ℕ)) → any (λ y. any (same y) (zs ++ (x ∷ []))) xs ≡ any (λ y. any (same y) zs) xs || any (λ y. same y x) xs
-disjoint-more zs x [] = refl
-disjoint-more zs x (y ∷ xs) = (λ i. (any-append (same y) zs (x ∷ []) ∙ ap (λ (b : Bool). any (same y) zs || b) (or-false (same y x))) i || disjoint-more zs x xs i) ∙ swap (any (same y) zs) (same y x) (any (λ y. any (same y) zs) xs) (any (λ y. same y x) xs)
-  where
-    swap : (a b c d : Bool) → (a || b) || (c || d) ≡ (a || c) || (b || d)
-    swap true b c d = refl
-    swap false true true d = refl
-    swap false true false d = refl
-    swap false false c d = refl
+digits-right : (t : List Entry) (v : List ℕ) (ps : List (List ℕ)) → all (rightly t v) (map digits ps) ≡ true
+digits-right t v [] = refl
+digits-right t v (p ∷ ps) = digits-right t v ps
 
-any-turned : (x : List ℕ) (xs : List (List ℕ)) → any (λ y. same y x) xs ≡ any (same x) xs
-any-turned x [] = refl
-any-turned x (y ∷ xs) = λ i. turned (same y x) (same x y) refl refl i || any-turned x xs i
-  where
-    turned : (a b : Bool) → same y x ≡ a → same x y ≡ b → same y x ≡ same x y
-    turned true b ea eb = ea ∙ sym (ap (same x) (same-true y x ea) ∙ same-refl x)
-    turned false b ea eb = ea ∙ sym (same-comm-false y x ea)
+few-small : (ps : List (List ℕ)) → all few ps ≡ true → all small (map digits ps) ≡ true
+few-small [] h = refl
+few-small (p ∷ ps) h =
+    let (a, b) = both-true (few p) _ h in
+    both-hold (le-leb (number p) 2147483647 (omega (arith, leb-true (number p) 8 (both-true (leb 1 (number p)) _ a .1)))) (few-small ps b)
 
--- the names are free one after the other exactly where each is declared and none stands twice
-frees-true : (t : List Entry) (zs xs : List (List ℕ)) → frees t zs xs ≡ true → (different xs ≡ true) × (all (λ x. known x t) xs ≡ true) × Disjoint zs xs
-frees-true t zs [] h = (refl, refl, refl)
-frees-true t zs (x ∷ xs) h =
-    let (p, q) = both-true (free t zs x) _ h in
-    let (k, n) = both-true (known x t) _ p in
-    let (d, a, j) = frees-true t (zs ++ (x ∷ [])) xs q in
-    let (u, v) = neither-holds (any (λ y. any (same y) zs) xs) _ (sym (disjoint-more zs x xs) ∙ j) in
-    (both-hold (ap not (sym (any-turned x xs) ∙ v)) d, both-hold k a, λ i. not-true (any (same x) zs) n i || u i)
-
-true-frees : (t : List Entry) (zs xs : List (List ℕ)) → different xs ≡ true → all (λ x. known x t) xs ≡ true → Disjoint zs xs → frees t zs xs ≡ true
-true-frees t zs [] d a j = refl
-true-frees t zs (x ∷ xs) d a j =
-    let (n, e) = both-true (not (any (same x) xs)) _ d in
-    let (k, b) = both-true (known x t) _ a in
-    let (u, v) = neither-holds (any (same x) zs) _ j in
-    both-hold (both-hold k (ap not u)) (true-frees t (zs ++ (x ∷ [])) xs e b (disjoint-more zs x xs ∙ (λ i. v i || (any-turned x xs ∙ not-true (any (same x) xs) n) i)))
-
-disjoint-none : (xs : List (List ℕ)) → Disjoint [] xs
-disjoint-none [] = refl
-disjoint-none (x ∷ xs) = disjoint-none xs
-
-frees-are : (t : List Entry) (xs : List (List ℕ)) → frees t [] xs ≡ different xs && all (λ x. known x t) xs
-frees-are t xs = same-truth _ _ (λ h. let (d, a, _) = frees-true t [] xs h in both-hold d a) (λ h. let (d, a) = both-true (different xs) _ h in true-frees t [] xs d a (disjoint-none xs))
-
-names-are : (st : State) (a : List Clause) (p : List ℕ) (b : List Clause) → names st (direct a p b) ≡ frees (st .table) [] (clauseNames (a ++ b))
+names-are : (st : State) (cs : List Clause) → names st (direct cs) ≡ frees (st .table) [] (clauseNames cs)
 unfolding names inLine
-names-are st a p b = sym (frees-are (st .table) (clauseNames (a ++ b)))
+names-are st cs = (λ i. digits-right (st .table) (st .variable) (threads-in cs) i && sym (frees-are (st .table) (clauseNames cs)) i)
 
-limits-are : (st : State) (a : List Clause) (p : List ℕ) (b : List Clause) → limits st (direct a p b) ≡ within 1 8 (number p)
+limits-are : (st : State) (cs : List Clause) → limits st (direct cs) ≡ all few (threads-in cs)
 unfolding limits inLine
-limits-are st a p b = ap (λ (x : Bool). x && within 1 8 (number p)) (and-true (leb (number p) 2147483647)) ∙ implied (leb (number p) 2147483647) (within 1 8 (number p)) (λ h. le-leb (number p) 2147483647 (omega (arith, leb-true (number p) 8 (both-true (leb 1 (number p)) _ h .1))))
-
--- ---- classes
-
-abbrev with-class : Class → Entry → Entry
-with-class c e = record { name = e .name; first = e .first; subscripted = e .subscripted; size = e .size; class = c; given = e .given }
-
--- an entry by the names of a clause, and by clauses, one after the other
-abbrev names-to : List (List ℕ) → Class → Entry → Entry
-names-to [] c e = e
-names-to (y ∷ ys) c e = names-to ys c (class-to y c e)
-
-abbrev one-by-one : List Clause → Entry → Entry
-one-by-one [] e = e
-one-by-one (clause c y ys ∷ cs) e = one-by-one cs (names-to (y ∷ ys) c e)
-
-map-twice : (f g : Entry → Entry) (t : List Entry) → map g (map f t) ≡ map (λ e. g (f e)) t
-map-twice f g [] = refl
-map-twice f g (e ∷ t) = ap (λ (l : List Entry). g (f e) ∷ l) (map-twice f g t)
-
-map-none : (t : List Entry) → t ≡ map (λ e. e) t
-map-none [] = refl
-map-none (e ∷ t) = ap (λ (l : List Entry). e ∷ l) (map-none t)
-
-claims-are : (t : List Entry) (xs : List (List ℕ)) (c : Class) (ys : List (List ℕ)) → frees t xs ys ≡ true → claims-to xs c ys t ≡ map (names-to ys c) t
-claims-are t xs c [] h = map-none t
-claims-are t xs c (y ∷ ys) h =
-    let (p, q) = both-true (free t xs y) _ h in
-    let e : claim-to xs c y t ≡ map (class-to y c) t = ap (λ (b : Bool). cond b (map (class-to y c) t) t) p in
-    claims-are (claim-to xs c y t) (xs ++ (y ∷ [])) c ys (frees-known t (claim-to xs c y t) (claim-names t xs c y) (xs ++ (y ∷ [])) ys ∙ q) ∙ ap (map (names-to ys c)) e ∙ map-twice (class-to y c) (names-to ys c) t
-
-clauses-are : (t : List Entry) (xs : List (List ℕ)) (cs : List Clause) → frees t xs (clauseNames cs) ≡ true → clauses-to xs cs t ≡ map (one-by-one cs) t
-clauses-are t xs [] h = map-none t
-clauses-are t xs (clause c y ys ∷ cs) h =
-    let (p, q) = both-true (frees t xs (y ∷ ys)) _ (sym (frees-append t xs (y ∷ ys) (clauseNames cs)) ∙ h) in
-    clauses-are (claims-to xs c (y ∷ ys) t) (xs ++ (y ∷ ys)) cs (frees-known t (claims-to xs c (y ∷ ys) t) (claims-names t xs c (y ∷ ys)) (xs ++ (y ∷ ys)) (clauseNames cs) ∙ q)
-    ∙ ap (map (one-by-one cs)) (claims-are t xs c (y ∷ ys) p) ∙ map-twice (names-to (y ∷ ys) c) (one-by-one cs) t
-
-named-class : (y : List ℕ) (c : Class) (e : Entry) → class-to y c e ≡ with-class (cond (same y (e .name)) c (e .class)) e
-named-class y c e = go (same y (e .name))
-  where
-    go : (b : Bool) → cond b (with-class c e) e ≡ with-class (cond b c (e .class)) e
-    go true = refl
-    go false = refl
-
-names-class : (ys : List (List ℕ)) (c : Class) (e : Entry) → names-to ys c e ≡ with-class (cond (any (same (e .name)) ys) c (e .class)) e
-names-class [] c e = refl
-names-class (y ∷ ys) c e = ap (names-to ys c) (named-class y c e) ∙ names-class ys c (with-class (cond (same y (e .name)) c (e .class)) e) ∙ ap (λ (k : Class). with-class k e) (either (same y (e .name)) (any (same (e .name)) ys)) ∙ ap (λ (b : Bool). with-class (cond (b || any (same (e .name)) ys) c (e .class)) e) (turned (same y (e .name)) refl)
-  where
-    either : (a b : Bool) → cond b c (cond a c (e .class)) ≡ cond (a || b) c (e .class)
-    either true true = refl
-    either true false = refl
-    either false true = refl
-    either false false = refl
-
-    turned : (b : Bool) → same y (e .name) ≡ b → same y (e .name) ≡ same (e .name) y
-    turned true h = h ∙ sym (ap (λ (x : List ℕ). same x y) (sym (same-true y (e .name) h)) ∙ same-refl y)
-    turned false h = h ∙ sym (same-comm-false y (e .name) h)
-
--- a name stands in one clause at most
-different-apart : (x : List ℕ) (xs ys : List (List ℕ)) → different (xs ++ ys) ≡ true → any (same x) xs ≡ true → any (same x) ys ≡ false
-different-apart x [] ys d a = absurd (let z : _≡_ {A = ℕ} 0 1 = ap (λ (b : Bool). cond b 1 0) a in omega arith)
-different-apart x (y ∷ xs) ys d a = go (same x y) refl a (λ b. different-apart x xs ys (both-true (not (any (same y) (xs ++ ys))) _ d .1) b)
-  where
-    none-after : any (same y) (xs ++ ys) ≡ false
-    none-after = not-true (any (same y) (xs ++ ys)) (both-true (not (any (same y) (xs ++ ys))) _ d .0)
-
-    go : (b : Bool) → same x y ≡ b → b || any (same x) xs ≡ true → (any (same x) xs ≡ true → any (same x) ys ≡ false) → any (same x) ys ≡ false
-    go true e h k = ap (λ (z : List ℕ). any (same z) ys) (same-true x y e) ∙ neither-holds (any (same y) xs) _ (sym (any-append (same y) xs ys) ∙ none-after) .1
-    go false e h k = k h
-
-different-rest : (xs ys : List (List ℕ)) → different (xs ++ ys) ≡ true → different ys ≡ true
-different-rest [] ys d = d
-different-rest (x ∷ xs) ys d = different-rest xs ys (both-true (not (any (same x) (xs ++ ys))) _ d .1)
-
-clauses-class : (cs : List Clause) (e : Entry) → different (clauseNames cs) ≡ true → one-by-one cs e ≡ with-class (cond (any (same (e .name)) (clauseNames cs)) (class-in cs (e .name)) (e .class)) e
-unfolding class-in
-clauses-class [] e d = refl
-clauses-class (clause c y ys ∷ cs) e d =
-    let x = e .name in
-    let a = any (same x) (y ∷ ys) in
-    ap (one-by-one cs) (names-class (y ∷ ys) c e) ∙ clauses-class cs (with-class (cond a c (e .class)) e) (different-rest (y ∷ ys) (clauseNames cs) d)
-    ∙ ap (λ (k : Class). with-class k e) (go a (any (same x) (clauseNames cs)) (class-in cs x) (different-apart x (y ∷ ys) (clauseNames cs) d))
-    ∙ ap (λ (b : Bool). with-class (cond b (cond a c (class-in cs x)) (e .class)) e) (sym (any-append (same x) (y ∷ ys) (clauseNames cs)))
-  where
-    go : (a b : Bool) (k : Class) → (a ≡ true → b ≡ false) → cond b k (cond a c (e .class)) ≡ cond (a || b) (cond a c k) (e .class)
-    go true true k h = absurd (let z : _≡_ {A = ℕ} 0 1 = ap (λ (b : Bool). cond b 0 1) (h refl) in omega arith)
-    go true false k h = refl
-    go false true k h = refl
-    go false false k h = refl
-
-class-none : (cs : List Clause) (x : List ℕ) → any (same x) (clauseNames cs) ≡ false → class-in cs x ≡ shared
-unfolding class-in
-class-none [] x h = refl
-class-none (clause c y ys ∷ cs) x h =
-    let (p, q) = neither-holds (any (same x) (y ∷ ys)) _ (sym (any-append (same x) (y ∷ ys) (clauseNames cs)) ∙ h) in
-    ap (λ (b : Bool). cond b c (class-in cs x)) p ∙ class-none cs x q
-
--- an entry in no clause before
-classified : (cs : List Clause) (e : Entry) → different (clauseNames cs) ≡ true → e .class ≡ shared → one-by-one cs e ≡ classify cs e
-classified cs e d h = clauses-class cs e d ∙ ap (λ (k : Class). with-class k e) (go (any (same (e .name)) (clauseNames cs)) refl)
-  where
-    go : (b : Bool) → any (same (e .name)) (clauseNames cs) ≡ b → cond b (class-in cs (e .name)) (e .class) ≡ class-in cs (e .name)
-    go true k = refl
-    go false k = h ∙ sym (class-none cs (e .name) k)
-
-map-each : (f g : Entry → Entry) (t : List Entry) → ((i : ℕ) → i < length t → f (getD t i nowhere) ≡ g (getD t i nowhere)) → map f t ≡ map g t
-map-each f g [] h = refl
-map-each f g (e ∷ t) h = λ i. h 0 (omega arith) i ∷ map-each f g t (λ j l. h (suc j) (omega arith)) i
-
-pub classes-are : (T : List ℕ) (t : List Entry) (cs : List Clause) → Tabled T t → Unclaimed T (length t) → frees t [] (clauseNames cs) ≡ true → clauses-to [] cs t ≡ map (classify cs) t
-classes-are T t cs tab u h = clauses-are t [] cs h ∙ map-each (one-by-one cs) (classify cs) t (λ i l. classified cs (getD t i nowhere) (frees-true t [] (clauseNames cs) h .0) (sym (tab .rows i l .class) ∙ ap classOf (u i l)))
-
--- before a clause stands, none is marked
-unmarked : (T : List ℕ) (t : List Entry) → Tabled T t → Unclaimed T (length t) → Marked T t []
-unmarked T t tab u = record { table = tab; claimed = λ i l. ap (ltb 0) (u i l) }
+limits-are st cs = implied (all small (map digits (threads-in cs))) (all few (threads-in cs)) (few-small (threads-in cs))
 
 loaded-classify : (cs : List Clause) (t : List Entry) → loaded (map (classify cs) t) ≡ loaded t
 unfolding loaded
@@ -213,114 +67,113 @@ loaded-classify cs (e ∷ t) = λ i. kept (e .given) i ++ loaded-classify cs t i
     kept none = refl
     kept (some vs) = refl
 
--- ---- what is read
+-- ---- the line
 
-abbrev mk : List Clause × List ℕ × List Clause → Line
-mk (a, p, b) = direct a p b
+module _ (k : ℕ) (s : List ℕ) (H : Held) (T′ : List ℕ) (x y a : ℕ) (gx : Goes Any s 0 (passes (bytes "!$omp")) x)
+    (gy : Goes Any s x (passes (bytes "parallel")) y)
+    (g : Goes Any s y (passes (bytes "do")) a) (r : Directed) (h : Directive (H .table) s a T′ r) (kp : Keeps (H .table) T′) (n : ℕ) where
+  abbrev leaves : Progress → Held
+  leaves q = held q T′ (H .initial) (H .code) (H .opens)
 
-opening-by : (f : ℕ) (s : List ℕ) → whole (readOpening f) s ≡ next (expects peek-in skip-in "!$omp" s) (λ _ u. next (wants peek-in skip-in "parallel" u) (λ _ v. next (wants peek-in skip-in "do" v) (λ _. ending (readDirected f) mk)))
-opening-by f s = sign (expects peek-in skip-in "!$omp" s)
-  where
-    fin : Line → Reader (List ℕ) Line
-    fin l v = next (finish peek-in skip-in v) (λ _. done l)
+  abbrev progress : Progress
+  progress = before-do n 3 (H .progress .cells) (r .processors)
 
-    later : (a : List Clause) (p : List ℕ) (q : Parsed (List ℕ) (List Clause)) → next (next q (λ b. done (direct a p b))) (λ l v. next (finish peek-in skip-in v) (λ _. done l)) ≡ next (next q (λ b. done (a, p, b))) (λ x v. next (finish peek-in skip-in v) (λ _. done (mk x)))
-    later a p broken = refl
-    later a p (done b u) = refl
+  module _ (st : State) (rp : Represents H st) (fo : may-follow (st .stage) 3 ≡ true) where
+    abbrev t : List Entry
+    t = st .table
 
-    shut : (a : List Clause) (p : List ℕ) (q : Parsed (List ℕ) (Unit {0})) → next (next q (λ _ u. next (readClauses peek-in skip-in f u) (λ b. done (direct a p b)))) (λ l v. next (finish peek-in skip-in v) (λ _. done l)) ≡ next (next q (λ _ u. next (readClauses peek-in skip-in f u) (λ b. done (a, p, b)))) (λ x v. next (finish peek-in skip-in v) (λ _. done (mk x)))
-    shut a p broken = refl
-    shut a p (done x u) = later a p (readClauses peek-in skip-in f u)
+    -- these clauses were found
+    abbrev Found : List Clause → Type 0
+    Found cs = Clausal t [] (none-before a) T′ r cs
 
-    count : (a : List Clause) (q : Parsed (List ℕ) (List ℕ)) → next (next q (λ p v. next (expects peek-in skip-in ")" v) (λ _ u. next (readClauses peek-in skip-in f u) (λ b. done (direct a p b))))) (λ l v. next (finish peek-in skip-in v) (λ _. done l)) ≡ next (next q (λ p v. next (expects peek-in skip-in ")" v) (λ _ u. next (readClauses peek-in skip-in f u) (λ b. done (a, p, b))))) (λ x v. next (finish peek-in skip-in v) (λ _. done (mk x)))
-    count a broken = refl
-    count a (done p v) = shut a p (expects peek-in skip-in ")" v)
+    abbrev good : Line → Type 0
+    good l = Represents (leaves progress) (after k l st)
 
-    bracket : (a : List Clause) (q : Parsed (List ℕ) (Unit {0})) → next (next q (λ _ w. next (readDigits peek-in skip-in w) (λ p v. next (expects peek-in skip-in ")" v) (λ _ u. next (readClauses peek-in skip-in f u) (λ b. done (direct a p b)))))) (λ l v. next (finish peek-in skip-in v) (λ _. done l)) ≡ next (next q (λ _ w. next (readDigits peek-in skip-in w) (λ p v. next (expects peek-in skip-in ")" v) (λ _ u. next (readClauses peek-in skip-in f u) (λ b. done (a, p, b)))))) (λ x v. next (finish peek-in skip-in v) (λ _. done (mk x)))
-    bracket a broken = refl
-    bracket a (done x w) = count a (readDigits peek-in skip-in w)
-
-    threads : (a : List Clause) (q : Parsed (List ℕ) (Unit {0})) → next (next q (λ _ z. next (expects peek-in skip-in "(" z) (λ _ w. next (readDigits peek-in skip-in w) (λ p v. next (expects peek-in skip-in ")" v) (λ _ u. next (readClauses peek-in skip-in f u) (λ b. done (direct a p b))))))) (λ l v. next (finish peek-in skip-in v) (λ _. done l)) ≡ next (next q (λ _ z. next (expects peek-in skip-in "(" z) (λ _ w. next (readDigits peek-in skip-in w) (λ p v. next (expects peek-in skip-in ")" v) (λ _ u. next (readClauses peek-in skip-in f u) (λ b. done (a, p, b))))))) (λ x v. next (finish peek-in skip-in v) (λ _. done (mk x)))
-    threads a broken = refl
-    threads a (done x z) = bracket a (expects peek-in skip-in "(" z)
-
-    clauses : (q : Parsed (List ℕ) (List Clause)) → next (next q (λ a y. next (wants peek-in skip-in "num_threads" y) (λ _ z. next (expects peek-in skip-in "(" z) (λ _ w. next (readDigits peek-in skip-in w) (λ p v. next (expects peek-in skip-in ")" v) (λ _ u. next (readClauses peek-in skip-in f u) (λ b. done (direct a p b)))))))) (λ l v. next (finish peek-in skip-in v) (λ _. done l)) ≡ next (next q (λ a y. next (wants peek-in skip-in "num_threads" y) (λ _ z. next (expects peek-in skip-in "(" z) (λ _ w. next (readDigits peek-in skip-in w) (λ p v. next (expects peek-in skip-in ")" v) (λ _ u. next (readClauses peek-in skip-in f u) (λ b. done (a, p, b)))))))) (λ x v. next (finish peek-in skip-in v) (λ _. done (mk x)))
-    clauses broken = refl
-    clauses (done a y) = threads a (wants peek-in skip-in "num_threads" y)
-
-    loops : (q : Parsed (List ℕ) (Unit {0})) → next (next q (λ _ x. next (readClauses peek-in skip-in f x) (λ a y. next (wants peek-in skip-in "num_threads" y) (λ _ z. next (expects peek-in skip-in "(" z) (λ _ w. next (readDigits peek-in skip-in w) (λ p v. next (expects peek-in skip-in ")" v) (λ _ u. next (readClauses peek-in skip-in f u) (λ b. done (direct a p b))))))))) (λ l v. next (finish peek-in skip-in v) (λ _. done l)) ≡ next q (λ _. ending (readDirected f) mk)
-    loops broken = refl
-    loops (done x y) = clauses (readClauses peek-in skip-in f y)
-
-    word : (q : Parsed (List ℕ) (Unit {0})) → next (next q (λ _ t. next (wants peek-in skip-in "do" t) (λ _ x. next (readClauses peek-in skip-in f x) (λ a y. next (wants peek-in skip-in "num_threads" y) (λ _ z. next (expects peek-in skip-in "(" z) (λ _ w. next (readDigits peek-in skip-in w) (λ p v. next (expects peek-in skip-in ")" v) (λ _ u. next (readClauses peek-in skip-in f u) (λ b. done (direct a p b)))))))))) (λ l v. next (finish peek-in skip-in v) (λ _. done l)) ≡ next q (λ _ v. next (wants peek-in skip-in "do" v) (λ _. ending (readDirected f) mk))
-    word broken = refl
-    word (done x t) = loops (wants peek-in skip-in "do" t)
-
-    sign : (q : Parsed (List ℕ) (Unit {0})) → next (next q (λ _ o. next (wants peek-in skip-in "parallel" o) (λ _ t. next (wants peek-in skip-in "do" t) (λ _ x. next (readClauses peek-in skip-in f x) (λ a y. next (wants peek-in skip-in "num_threads" y) (λ _ z. next (expects peek-in skip-in "(" z) (λ _ w. next (readDigits peek-in skip-in w) (λ p v. next (expects peek-in skip-in ")" v) (λ _ u. next (readClauses peek-in skip-in f u) (λ b. done (direct a p b))))))))))) (λ l v. next (finish peek-in skip-in v) (λ _. done l)) ≡ next q (λ _ u. next (wants peek-in skip-in "parallel" u) (λ _ v. next (wants peek-in skip-in "do" v) (λ _. ending (readDirected f) mk)))
-    sign broken = refl
-    sign (done x o) = word (wants peek-in skip-in "parallel" o)
-
--- ---- what it adds
-
-module _ (k : ℕ) (s : List ℕ) (p : Progress) (T : List ℕ) (I : List ℤ) (C O T′ : List ℕ) (x y a : ℕ) (gx : Goes Any s 0 (passes (bytes "!$omp")) x) (gy : Goes Any s x (passes (bytes "parallel")) y) (g : Goes Any s y (passes (bytes "do")) a) (r : Directed) (h : Directive T s a T′ r) (kp : Keeps T T′) (n : ℕ) (hn : Numbers s (r .next) (r .rank) n) where
-  abbrev after-line : Progress
-  after-line = record { number = n; stage = 3; cells = p .cells; processors = r .processors; from = pos 0; count = 0; place = 0; depth = 0 }
-
-  module _ (st : State) (rp : Represents p T I C O st) (fo : follows (st .stage) 3 ≡ true) where
     early : st .stage < 3
     early = omega (arith, follows-most (st .stage) 3 fo, follows-not (st .stage) fo)
       where
-        follows-not : (m : ℕ) → follows m 3 ≡ true → (m ≡ 3 → ⊥)
-        follows-not m h e = let z : _≡_ {A = ℕ} 0 1 = ap (λ (b : Bool). cond b 1 0) (sym (ap (λ (j : ℕ). follows j 3) e) ∙ h) in omega arith
+        follows-not : (m : ℕ) → may-follow m 3 ≡ true → (m ≡ 3 → ⊥)
+        follows-not m h e = let z : _≡_ {A = ℕ} 0 1 = ap (λ (b : Bool). cond b 1 0) (sym (ap (λ (j : ℕ). may-follow j 3) e) ∙ h) in omega arith
 
-    rank-is : (xs : List Clause) (q : List ℕ) (zs : List Clause) → Directing (st .table) T′ r xs q zs → numbered (r .rank) ≡ numberOf st (direct xs q zs)
-    rank-is xs q zs e = ap numbered (e .rank ∙ (λ i. order (sym (names-are st xs q zs) i) (sym (limits-are st xs q zs) i))) ∙ number-by st (direct xs q zs) refl (names st (direct xs q zs)) (limits st (direct xs q zs)) refl refl
+    reads : (f : ℕ) → 3 * length s + 4 ≤ f → Goes Found s a (readClauses peek-in skip-in f) (r .next)
+    reads f b = h t [] (unmarked (H .table) t (rp .table) (rp .unclaimed early)) f (omega arith)
 
-    represents : (xs : List Clause) (q : List ℕ) (zs : List Clause) → Directing (st .table) T′ r xs q zs → r .rank ≡ 0 → Represents after-line T′ I C O (after k (direct xs q zs) st)
-    unfolding after words
-    represents xs q zs e z =
-        let t = st .table in
-        let cs = xs ++ zs in
-        let (free-all, in-limits) = good-order (frees t [] (clauseNames cs)) (within 1 8 (number q)) (sym (e .rank) ∙ z) in
-        let most = leb-true (number q) 8 (both-true (leb 1 (number q)) _ in-limits .1) in
-        let (v, w) = kp (rp .short) in
-        let (c, o) = heading-code 3 (map (classify cs) t) (number q) in
-        record {
-          stage = refl;
-          table = subst (Tabled T′) (classes-are T t cs (rp .table) (rp .unclaimed early) free-all) (e .table);
-          variable = w ∙ rp .variable ∙ rp .nameless (omega (arith, early));
-          short = v;
-          unclaimed = λ m. absurd (omega arith);
-          nameless = λ _. refl;
-          cells-so-far = rp .cells-so-far ∙ sym (classify-cells cs t);
-          filled = rp .filled ∙ (λ i. sym (loaded-classify cs t) i ++ replicate (4096 - sym (classify-cells cs t) i) (pos 0));
-          processors = omega (arith, e .processors, most);
-          from = refl;
-          count = refl;
-          few = omega arith;
-          place = sym (ap length c);
-          code = sym (ap words c);
-          opened = subst (Opened O 0 []) (sym o) tt;
-          shallow = omega arith;
-          stack = rp .stack;
-        }
+    -- by how often `num_threads` stands
+    once : (cs : List Clause) → Found cs → eqb (r .threads) 1 ≡ fits (st .opens) (direct cs)
+    once cs e = ap (λ (m : ℕ). eqb m 1) (e .threads-are) ∙ counted-once (threads-in cs)
 
-    pub direct-line : (f : ℕ) → 3 * length s + 4 ≤ f → Concludes (numberOf st) (λ l. Represents after-line T′ I C O (after k l st)) (whole (readOpening f) s) n
-    direct-line f b =
-        subst (λ (q : Parsed (List ℕ) Line). Concludes (numberOf st) (λ l. Represents after-line T′ I C O (after k l st)) q n) (sym (opening-by f s))
-        (concludes-sign (numberOf st) (λ l. Represents after-line T′ I C O (after k l st)) n s 0 x "!$omp" gx (omega arith) (λ u. next (wants peek-in skip-in "parallel" u) (λ _ v. next (wants peek-in skip-in "do" v) (λ _. ending (readDirected f) mk)))
-        (λ i. concludes-word (numberOf st) (λ l. Represents after-line T′ I C O (after k l st)) n s x y "parallel" gy i (λ v. next (wants peek-in skip-in "do" v) (λ _. ending (readDirected f) mk))
-        (λ j. concludes-word (numberOf st) (λ l. Represents after-line T′ I C O (after k l st)) n s y a "do" g j (ending (readDirected f) mk)
-        (λ m. concludes-lands (λ (xs, q, zs). Directing (st .table) T′ r xs q zs) s mk (numberOf st) (λ l. Represents after-line T′ I C O (after k l st)) (r .next) (r .rank) n hn judge (readDirected f (drop a s)) (reads .lands m))
-        lost refl)
+    -- the words before the clauses
+    opened : (f : ℕ) → (a ≤ length s → Concludes (numberOf st) good (ending (readClauses peek-in skip-in f) direct (drop a s)) n) → (length s < a → n ≡ 2)
+        → Concludes (numberOf st) good (whole (readOpening peek-in skip-in f) s) n
+    opened f on lost =
+        let last : Reader (List ℕ) Line = ending (readClauses peek-in skip-in f) direct in
+        subst (λ (q : Parsed (List ℕ) Line). Concludes (numberOf st) good q n) (sym (opening-by f s))
+        (concludes-sign (numberOf st) good n s 0 x "!$omp" gx (omega arith)
+        (λ u. next (wants peek-in skip-in "parallel" u) (λ _ v. next (wants peek-in skip-in "do" v) (λ _. last)))
+        (λ i. concludes-word (numberOf st) good n s x y "parallel" gy i (λ v. next (wants peek-in skip-in "do" v) (λ _. last))
+        (λ j. concludes-word (numberOf st) good n s y a "do" g j last on lost refl)
         (λ j. lost (omega (arith, g .lost j))) refl)
         (λ i. lost (omega (arith, g .lost (omega (arith, gy .lost i))))) refl)
-      where
-        reads : Goes (λ (xs, q, zs). Directing (st .table) T′ r xs q zs) s a (readDirected f) (r .next)
-        reads = h (st .table) (unmarked T (st .table) (rp .table) (rp .unclaimed early)) f (omega arith)
 
-        lost : length s < a → n ≡ 2
-        lost i = hn .beyond (omega (arith, reads .lost i))
+    module _ (z : r .threads ≡ 1) (hn : Numbers s (r .next) (r .rank) n) where
+      fitting : (cs : List Clause) → Found cs → fits (st .opens) (direct cs) ≡ true
+      fitting cs e = sym (once cs e) ∙ eq-eqb (r .threads) 1 z
 
-        judge : (y : List Clause × List ℕ × List Clause) → Directing (st .table) T′ r (y .0) (y .1) (y .2) → (numbered (r .rank) ≡ numberOf st (mk y)) × (numbered (r .rank) ≡ 0 → Represents after-line T′ I C O (after k (mk y) st))
-        judge (xs, q, zs) e = (rank-is xs q zs e, λ z. represents xs q zs e (numbered-zero (r .rank) z))
+      rank-is : (cs : List Clause) → Found cs → numbered (r .rank) ≡ numberOf st (direct cs)
+      rank-is cs e =
+          let o : r .rank ≡ order (frees t [] (clauseNames cs)) (all few (threads-in cs)) = e .rank-is ∙ omega arith in
+          ap numbered (o ∙ (λ i. order (sym (names-are st cs) i) (sym (limits-are st cs) i)))
+          ∙ number-by st (direct cs) (fitting cs e) (names st (direct cs)) (limits st (direct cs)) refl refl
+
+      represents : (cs : List Clause) → Found cs → r .rank ≡ 0 → good (direct cs)
+      unfolding after
+      represents cs e zero-rank =
+          let o : r .rank ≡ order (frees t [] (clauseNames cs)) (all few (threads-in cs)) = e .rank-is ∙ omega arith in
+          let (free-all, in-limits) = good-order (frees t [] (clauseNames cs)) (all few (threads-in cs)) (sym o ∙ zero-rank) in
+          let one = eqb-true (length (threads-in cs)) 1 (fitting cs e) in
+          headed H st rp (omega (arith, early)) T′ kp (H .initial) n 3 (H .progress .cells) (r .processors) (processors-by (threads-in cs))
+          (map (classify cs) t)
+          (subst (Tabled T′) (classes-are (H .table) t cs (rp .table) (rp .unclaimed early) free-all) (e .marked .table))
+          (λ m. absurd (omega arith)) (rp .cells-so-far ∙ sym (classify-cells cs t))
+          (rp .filled ∙ (λ i. sym (loaded-classify cs t) i ++ replicate (4096 - sym (classify-cells cs t) i) (pos 0)))
+          (omega (arith, e .processors-are, last-once (threads-in cs) one, most (threads-in cs) in-limits))
+        where
+          most : (ps : List (List ℕ)) → all few ps ≡ true → processors-by ps ≤ 8
+          most [] h = omega arith
+          most (p ∷ ps) h = leb-true (number p) 8 (both-true (leb 1 (number p)) _ (both-true (few p) _ h .0) .1)
+
+      concludes : (f : ℕ) → 3 * length s + 4 ≤ f → Concludes (numberOf st) good (whole (readOpening peek-in skip-in f) s) n
+      concludes f b = opened f
+          (λ m. concludes-lands Found s direct (numberOf st) good (r .next) (r .rank) n hn
+          (λ cs e. (rank-is cs e, λ q. represents cs e (numbered-zero (r .rank) q)))
+          (readClauses peek-in skip-in f (drop a s)) (reads f b .lands m))
+          (λ i. hn .beyond (omega (arith, reads f b .lost i)))
+
+    module _ (z : r .threads ≡ 1 → ⊥) (two : n ≡ 2) where
+      broken-form : (cs : List Clause) → Found cs → numberOf st (direct cs) ≡ 2
+      unfolding numberOf
+      broken-form cs e = ap (λ (c : Bool). choose (not c) (λ _. 2) (λ _. choose (not (names st (direct cs))) (λ _. 3)
+          (λ _. choose (not (limits st (direct cs))) (λ _. 4) (λ _. 0))))
+          (sym (once cs e) ∙ ne-eqb (r .threads) 1 z)
+
+      ends : (p : Parsed (List ℕ) (List Clause)) → Lands Found s p (r .next)
+          → Concludes (numberOf st) good (next p (λ cs v. next (finish peek-in skip-in v) (λ _. done (direct cs)))) n
+      unfolding Concludes
+      ends broken l = two
+      ends (done cs u) l = go (eqb (kind (peek-in u)) 0)
+        where
+          go : (b : Bool) → Concludes (numberOf st) good (next (ended b u) (λ _. done (direct cs))) n
+          go true = (two ∙ sym (broken-form cs (l .2)), λ e. absurd (omega (arith, e, two)))
+          go false = two
+
+      refuses : (f : ℕ) → 3 * length s + 4 ≤ f → Concludes (numberOf st) good (whole (readOpening peek-in skip-in f) s) n
+      refuses f b = opened f (λ m. ends (readClauses peek-in skip-in f (drop a s)) (reads f b .lands m)) (λ i. two)
+
+  -- `num_threads` stands once, or not
+  pub direct-line : r .threads ≡ 1 → Numbers s (r .next) (r .rank) n → (q : Progress) → q ≡ progress → Takes (readOpening peek-in skip-in) 3 s k H (leaves q)
+  direct-line z hn q e =
+      subst (λ (x : Progress). Takes (readOpening peek-in skip-in) 3 s k H (leaves x)) (sym e) (λ st rp sane fo. concludes st rp fo z hn)
+
+  pub direct-broken : (r .threads ≡ 1 → ⊥) → n ≡ 2 → (q : Progress) → q ≡ progress → Takes (readOpening peek-in skip-in) 3 s k H (leaves q)
+  direct-broken z two q e =
+      subst (λ (x : Progress). Takes (readOpening peek-in skip-in) 3 s k H (leaves x)) (sym e) (λ st rp sane fo. refuses st rp fo z two)

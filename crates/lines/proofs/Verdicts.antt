@@ -6,18 +6,16 @@ use Prim.Native.Nat.{ℕ, zero, suc, _+_, _≤_, _<_}
 use Prim.Native.String.{String}
 use native.Mathlib.Omega.{arith}
 use mathlib.Core.Logic.{inl, inr}
-use borrow.Author.Tests.{eq-eqb, ne-eqb, eqb-true}
+use borrow.Author.Tests.{eqb-true}
 use lib.Dec.{eqb}
 use lib.ListN.{length, drop}
 use Rattle.syntax.specs.Bytes.{bytes, choose}
 use Rattle.syntax.specs.Grammar.{Line}
 use Rattle.syntax.specs.Known.{State}
-use Rattle.syntax.specs.Conditions.{names, limits, fits, several, may-miss, follows}
+use Rattle.syntax.specs.Conditions.{names, limits, fits, several, may-miss, may-follow}
 use Rattle.syntax.proofs.Spelling.{both-true}
 use Rattle.syntax.proofs.TestLaws.{either-holds}
 use Rattle.syntax.specs.Reader.{Parsed, broken, done, Reader, next, kind, finish, wants, expects, peek-in, skip-in}
-use Rattle.lexer.specs.declared.Tok.{Tok}
-use Rattle.lexer.specs.Lex.{Lexed}
 use Rattle.lexer.specs.Places.{Lands, Goes, Any, passes}
 use Rattle.lexer.proofs.Said.{signed, lettered}
 use Rattle.lexer.proofs.PlaceLaws.{expects-passes, wants-passes}
@@ -29,12 +27,12 @@ use Rattle.lines.specs.Progress.{numberOf, numbered, Concludes, Numbers}
 pub numbers-beyond : {s : List ℕ} {next rank : ℕ} → length s < next → Numbers s next rank 2
 numbers-beyond h = record { beyond = λ _. refl; within = λ b. absurd (omega arith) }
 
-module _ {s : List ℕ} {next : ℕ} {t : Tok} (l : Lexed s next t) (b : next ≤ length s) where
-  pub numbers-more : {rank : ℕ} → (t .kind ≡ 0 → ⊥) → Numbers s next rank 2
-  numbers-more {rank} n = record { beyond = λ _. refl; within = λ _. sym (ap (λ (x : Bool). cond x (numbered rank) 2) (ne-eqb _ 0 (λ (e : kind (peek-in (drop next s)) ≡ 0). n (sym (l .kinds) ∙ e)))) }
+module _ {s : List ℕ} {next : ℕ} (b : next ≤ length s) where
+  pub numbers-more : {rank : ℕ} → eqb (kind (peek-in (drop next s))) 0 ≡ false → Numbers s next rank 2
+  numbers-more {rank} e = record { beyond = λ _. refl; within = λ _. sym (ap (λ (x : Bool). cond x (numbered rank) 2) e) }
 
-  pub numbers-end : {rank r : ℕ} → t .kind ≡ 0 → r ≡ numbered rank → Numbers s next rank r
-  numbers-end {rank} e h = record { beyond = λ k. absurd (omega arith); within = λ _. h ∙ sym (ap (λ (x : Bool). cond x (numbered rank) 2) (eq-eqb _ 0 (l .kinds ∙ e))) }
+  pub numbers-end : {rank r : ℕ} → eqb (kind (peek-in (drop next s))) 0 ≡ true → r ≡ numbered rank → Numbers s next rank r
+  numbers-end {rank} e h = record { beyond = λ k. absurd (omega arith); within = λ _. h ∙ sym (ap (λ (x : Bool). cond x (numbered rank) 2) e) }
 
 pub numbered-large : (n : ℕ) → (n ≡ 0 → ⊥) → (n ≡ 1 → ⊥) → 3 ≡ numbered n
 numbered-large zero a b = absurd (a refl)
@@ -47,7 +45,7 @@ numbered-large (suc (suc n)) a b = refl
 abbrev pub ending : {A : Type 0} → Reader (List ℕ) A → (A → Line) → Reader (List ℕ) Line
 ending R mk u = next (R u) (λ a v. next (finish peek-in skip-in v) (λ _. done (mk a)))
 
-abbrev ended : Bool → List ℕ → Parsed (List ℕ) (Unit {0})
+abbrev pub ended : Bool → List ℕ → Parsed (List ℕ) (Unit {0})
 ended b v = cond b (done tt v) broken
 
 module _ {A : Type 0} (P : A → Type 0) (s : List ℕ) (mk : A → Line) (num : Line → ℕ) (good : Line → Type 0) (m rank n : ℕ) (h : Numbers s m rank n)
@@ -55,14 +53,17 @@ module _ {A : Type 0} (P : A → Type 0) (s : List ℕ) (mk : A → Line) (num :
   pub concludes-lands : (p : Parsed (List ℕ) A) → Lands P s p m → Concludes num good (next p (λ a v. next (finish peek-in skip-in v) (λ _. done (mk a)))) n
   unfolding Concludes
   concludes-lands broken l = h .beyond (omega (arith, l))
-  concludes-lands (done a u) l = subst (λ (v : List ℕ). Concludes num good (next (finish peek-in skip-in v) (λ _. done (mk a))) n) (sym (l .0)) (go (eqb (kind (peek-in (drop m s))) 0) (h .within (l .1)))
+  concludes-lands (done a u) l =
+      subst (λ (v : List ℕ). Concludes num good (next (finish peek-in skip-in v) (λ _. done (mk a))) n) (sym (l .0))
+      (go (eqb (kind (peek-in (drop m s))) 0) (h .within (l .1)))
     where
       go : (b : Bool) → n ≡ cond b (numbered rank) 2 → Concludes num good (next (ended b (drop m s)) (λ _. done (mk a))) n
       go true e = let (x, y) = f a (l .2) in (e ∙ x, λ z. y (sym e ∙ z))
       go false e = e
 
 -- a word or a sign, and what comes after it
-module _ (num : Line → ℕ) (good : Line → Type 0) (n : ℕ) (s : List ℕ) (at k : ℕ) (t : String) (g : Goes Any s at (passes (bytes t)) k) (b : at ≤ length s) (rest : Reader (List ℕ) Line) (r : k ≤ length s → Concludes num good (rest (drop k s)) n) (o : length s < k → n ≡ 2) where
+module _ (num : Line → ℕ) (good : Line → Type 0) (n : ℕ) (s : List ℕ) (at k : ℕ) (t : String) (g : Goes Any s at (passes (bytes t)) k) (b : at ≤ length s)
+    (rest : Reader (List ℕ) Line) (r : k ≤ length s → Concludes num good (rest (drop k s)) n) (o : length s < k → n ≡ 2) where
   concludes-passed : Concludes num good (next (passes (bytes t) (drop at s)) (λ _. rest)) n
   unfolding Concludes
   concludes-passed = go (passes (bytes t) (drop at s)) (g .lands b)
@@ -75,7 +76,8 @@ module _ (num : Line → ℕ) (good : Line → Type 0) (n : ℕ) (s : List ℕ) 
   concludes-word e = subst (λ (p : Parsed (List ℕ) (Unit {0})). Concludes num good (next p (λ _. rest)) n) (sym (wants-passes t e (drop at s))) concludes-passed
 
   pub concludes-sign : signed (bytes t) ≡ true → Concludes num good (next (expects peek-in skip-in t (drop at s)) (λ _. rest)) n
-  concludes-sign e = subst (λ (p : Parsed (List ℕ) (Unit {0})). Concludes num good (next p (λ _. rest)) n) (sym (expects-passes t e (drop at s))) concludes-passed
+  concludes-sign e = subst (λ (p : Parsed (List ℕ) (Unit {0})). Concludes num good (next p (λ _. rest)) n) (sym (expects-passes t e (drop at s)))
+      concludes-passed
 
 -- ---- a line in order
 
@@ -94,15 +96,9 @@ numbered-zero zero h = refl
 numbered-zero (suc zero) h = absurd (omega (arith, h))
 numbered-zero (suc (suc n)) h = absurd (omega (arith, h))
 
--- a part in order has right names and is within the limits
-pub good-order : (a b : Bool) → order a b ≡ 0 → (a ≡ true) × (b ≡ true)
-good-order true true e = (refl, refl)
-good-order true false e = absurd (omega (arith, e))
-good-order false b e = absurd (omega (arith, e))
-
 -- ---- the order of lines
 
-pub follows-most : (k n : ℕ) → follows k n ≡ true → k ≤ n
+pub follows-most : (k n : ℕ) → may-follow k n ≡ true → k ≤ n
 follows-most k n h = elim (either-holds (eqb n (k + 1)) _ h) [
   | inl a ↦ omega (arith, eqb-true n (k + 1) a)
   | inr b ↦ elim (either-holds (several k && eqb n k) _ b) [

@@ -17,6 +17,33 @@ use Rattle.code.specs.Compile.{codeOf, placesOf}
 use Rattle.names.specs.Table.{variableOf, Tabled, Unclaimed, lengthAt, variableEntry, nameWords}
 use Rattle.lines.specs.declared.Progress.{Progress}
 
+-- ---- what a reader holds
+
+pub record Held : Type 0 where
+  -- how far the text was read
+  pub progress : Progress
+  -- the words of the table of names
+  pub table : List ℕ
+  -- the values of the cells that the data give
+  pub initial : List ℤ
+  -- the words of the code
+  pub code : List ℕ
+  -- the words of the open jumps
+  pub opens : List ℕ
+
+abbrev pub held : Progress → List ℕ → List ℤ → List ℕ → List ℕ → Held
+held p T I C O = record { progress = p; table = T; initial = I; code = C; opens = O }
+
+-- how far a text was read by a line before `do`
+abbrev pub before-do : ℕ → ℕ → ℕ → ℕ → Progress
+before-do number stage cells processors =
+    record { number = number; stage = stage; cells = cells; processors = processors; from = pos 0; count = 0; place = 0; depth = 0 }
+
+-- and by a line after it
+abbrev pub moved : Progress → ℕ → ℕ → ℕ → ℕ → Progress
+moved p number stage place depth =
+    record { number = number; stage = stage; cells = p .cells; processors = p .processors; from = p .from; count = p .count; place = place; depth = depth }
+
 -- ---- what was read
 
 -- the first d words of O are the places of the open jumps, the innermost last, each twice, and one more once `else` was met
@@ -28,33 +55,29 @@ Opened O (suc d) [] qs = ⊥
 Opened O (suc d) (o ∷ os) [] = ⊥
 Opened O (suc d) (o ∷ os) (q ∷ qs) = (getD O d 0 ≡ 2 * q + cond (isGiven (o .first)) 1 0) × Opened O d os qs
 
--- the words T are the names, the values I the cells that the data give, the words C the code, the words O the open jumps
-pub record Represents (p : Progress) (T : List ℕ) (I : List ℤ) (C O : List ℕ) (s : State) : Type 0 where
-  pub stage : p .stage ≡ s .stage
-  pub table : Tabled T (s .table)
-  pub variable : variableOf T ≡ s .variable
-  pub short : lengthAt T variableEntry ≤ nameWords
-  pub unclaimed : s .stage < 3 → Unclaimed T (length (s .table))
+-- what is held stands for what is known of the text
+pub record Represents (H : Held) (s : State) : Type 0 where
+  pub stage : H .progress .stage ≡ s .stage
+  pub table : Tabled (H .table) (s .table)
+  pub variable : variableOf (H .table) ≡ s .variable
+  pub short : lengthAt (H .table) variableEntry ≤ nameWords
+  pub unclaimed : s .stage < 3 → Unclaimed (H .table) (length (s .table))
   pub nameless : s .stage < 4 → s .variable ≡ []
-  pub cells-so-far : p .cells ≡ cells (s .table)
-  pub filled : I ≡ loaded (s .table) ++ replicate (4096 - cells (s .table)) (pos 0)
-  pub processors : p .processors ≡ s .processors
-  pub from : p .from ≡ s .from
-  pub count : p .count ≡ s .count
-  pub few : p .count ≤ 65535
-  pub place : p .place ≡ length (codeOf s)
-  pub code : take (2 * p .place) C ≡ words (codeOf s)
-  pub opened : Opened O (p .depth) (s .opens) (placesOf s)
-  pub shallow : p .depth ≤ 8
-  pub stack : 8 ≤ length O
+  pub cells-so-far : H .progress .cells ≡ cells (s .table)
+  pub filled : H .initial ≡ loaded (s .table) ++ replicate (4096 - cells (s .table)) (pos 0)
+  pub processors : H .progress .processors ≡ s .processors
+  pub from : H .progress .from ≡ s .from
+  pub count : H .progress .count ≡ s .count
+  pub few : H .progress .count ≤ 65535
+  pub place : H .progress .place ≡ length (codeOf s)
+  pub code : take (2 * H .progress .place) (H .code) ≡ words (codeOf s)
+  pub opened : Opened (H .opens) (H .progress .depth) (s .opens) (placesOf s)
+  pub shallow : H .progress .depth ≤ 8
+  pub stack : 8 ≤ length (H .opens)
 
 -- some text was read so far
 abbrev pub Underway : Progress → List ℕ → List ℕ → Type 0
-Underway p C O = (T : List ℕ) × (I : List ℤ) × (s : State) × Represents p T I C O s
-
--- a line after `do`
-abbrev pub moved : Progress → ℕ → ℕ → ℕ → ℕ → Progress
-moved p number stage place depth = record { number = number; stage = stage; cells = p .cells; processors = p .processors; from = p .from; count = p .count; place = place; depth = depth }
+Underway p C O = (T : List ℕ) × (I : List ℤ) × (s : State) × Represents (held p T I C O) s
 
 -- ---- what a line comes to
 

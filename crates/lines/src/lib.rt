@@ -7,20 +7,19 @@ ghost use lib.Dec.{leb};
 ghost use lib.ListN.{length, getD, set};
 ghost use lib.IntN.{ℤ};
 ghost use Rattle.syntax.specs.Grammar.{otherwise, end-if, inside, end-do};
-ghost use Rattle.syntax.specs.Reader.{readDeclare, readGive, readLoop, readAssign, readWhen, peek-in, skip-in};
+ghost use Rattle.syntax.specs.Reader.{readDeclare, readGive, readOpening, readClosing, readLoop, readAssign, readWhen, peek-in, skip-in};
 ghost use Rattle.code.specs.Instr.{operation, jump};
 ghost use Rattle.heading.specs.Lists.{Standing};
 ghost use Rattle.lines.specs.Lines.{Takes, reads};
-ghost use Rattle.kinds.specs.Directives.{readOpening, readClosing};
-ghost use Rattle.lines.specs.Progress.{Numbers, moved, Underway};
+ghost use Rattle.lines.specs.Progress.{held, before-do, moved, Numbers, Underway};
 use assignments::assignment;
 use bounds::do_line;
 use clauses::directive;
 use code::JUMP;
 use conditions::condition;
 use declarations::integers;
+use lexer::is_end;
 use lexer::pass;
-use lexer::token;
 use names::Table;
 use parts::Got;
 use values::data_values;
@@ -45,8 +44,7 @@ fn number_of(s: &[u8], next: usize, rank: u32) -> u32
     if s.len() < next {
         return 2;
     }
-    let t = token(s, next);
-    if t.kind != 0 {
+    if !is_end(s, next) {
         return 2;
     }
     if rank == 0 {
@@ -55,75 +53,69 @@ fn number_of(s: &[u8], next: usize, rank: u32) -> u32
     if rank == 1 { 4 } else { 3 }
 }
 
-// ---- 1. integer
-
-pub fn integer_line(s: &[u8], p: Progress, table: &mut Table) -> Progress
-    requires { ⌜ (length (now s) ≤ 2048) × (p .cells ≤ 4096) ⌝ }
-    ensures { λ r. ⌜ ((k : ℕ) (I : List ℤ) (C O : List ℕ) → Takes (readDeclare peek-in skip-in) 1 (now (s .entry)) k p (now (table .entry)) I C O r (now (table .exit)) I C O) ⌝ }
+// How far a text was read by a line before `do`.
+pub fn before_do(number: u32, stage: u32, cells: u32, processors: u32) -> Progress
+    ensures { λ r. ⌜ r ≡ before-do number stage cells processors ⌝ }
 {
-    let a = pass(s, 0, b"integer");
-    let r = integers(s, a, table, p.cells, 0);
     Progress {
-        number: number_of(s, r.next, r.rank),
-        stage: 1,
-        cells: r.cells,
-        processors: 0,
+        number,
+        stage,
+        cells,
+        processors,
         from: 0,
         count: 0,
         place: 0,
         depth: 0,
     }
+}
+
+// ---- 1. integer
+
+pub fn integer_line(s: &[u8], p: Progress, table: &mut Table) -> Progress
+    requires { ⌜ (length (now s) ≤ 2048) × (p .cells ≤ 4096) ⌝ }
+    ensures { λ r. ⌜ ((k : ℕ) (I : List ℤ) (C O : List ℕ) → Takes (readDeclare peek-in skip-in) 1 (now (s .entry)) k
+        (held p (now (table .entry)) I C O) (held r (now (table .exit)) I C O)) ⌝ }
+{
+    let a = pass(s, 0, b"integer");
+    let r = integers(s, a, table, p.cells, 0);
+    before_do(number_of(s, r.next, r.rank), 1, r.cells, 0)
 }
 
 // ---- 2. data
 
 pub fn data_line(s: &[u8], p: Progress, table: &mut Table, initial: &mut [i32]) -> Progress
     requires { ⌜ (length (now s) ≤ 2048) × (length (now initial) ≡ 4096) × Standing (now table) ⌝ }
-    ensures { λ r. ⌜ ((k : ℕ) (C O : List ℕ) → Takes (readGive peek-in skip-in) 2 (now (s .entry)) k p (now (table .entry)) (now (initial .entry)) C O r (now (table .exit)) (now (initial .exit)) C O) ⌝ }
+    ensures { λ r. ⌜ ((k : ℕ) (C O : List ℕ) → Takes (readGive peek-in skip-in) 2 (now (s .entry)) k
+        (held p (now (table .entry)) (now (initial .entry)) C O) (held r (now (table .exit)) (now (initial .exit)) C O)) ⌝ }
 {
     let a = pass(s, 0, b"data");
     let r = data_values(s, a, table, initial);
-    let cells = p.cells;
-    Progress {
-        number: number_of(s, r.next, r.rank),
-        stage: 2,
-        cells,
-        processors: 0,
-        from: 0,
-        count: 0,
-        place: 0,
-        depth: 0,
-    }
+    before_do(number_of(s, r.next, r.rank), 2, p.cells, 0)
 }
 
-// ---- 3. the directive
+// ---- 3. the directive, with `num_threads` exactly once
 
 pub fn directive_line(s: &[u8], p: Progress, table: &mut Table) -> Progress
     requires { ⌜ (length (now s) ≤ 2048) × Standing (now table) ⌝ }
-    ensures { λ r. ⌜ ((k : ℕ) (I : List ℤ) (C O : List ℕ) → Takes readOpening 3 (now (s .entry)) k p (now (table .entry)) I C O r (now (table .exit)) I C O) ⌝ }
+    ensures { λ r. ⌜ ((k : ℕ) (I : List ℤ) (C O : List ℕ) → Takes (readOpening peek-in skip-in) 3 (now (s .entry)) k
+        (held p (now (table .entry)) I C O) (held r (now (table .exit)) I C O)) ⌝ }
 {
     let a = pass(s, 0, b"!$omp");
     let b = pass(s, a, b"parallel");
     let c = pass(s, b, b"do");
     let r = directive(s, c, table);
-    let cells = p.cells;
-    Progress {
-        number: number_of(s, r.next, r.rank),
-        stage: 3,
-        cells,
-        processors: r.processors,
-        from: 0,
-        count: 0,
-        place: 0,
-        depth: 0,
+    if r.threads != 1 {
+        return before_do(2, 3, p.cells, r.processors);
     }
+    before_do(number_of(s, r.next, r.rank), 3, p.cells, r.processors)
 }
 
 // ---- 4. do
 
 pub fn loop_line(s: &[u8], p: Progress, table: &mut Table) -> Progress
     requires { ⌜ length (now s) ≤ 2048 ⌝ }
-    ensures { λ r. ⌜ ((k : ℕ) (I : List ℤ) (C O : List ℕ) → Takes (readLoop peek-in skip-in) 4 (now (s .entry)) k p (now (table .entry)) I C O r (now (table .exit)) I C O) ⌝ }
+    ensures { λ r. ⌜ ((k : ℕ) (I : List ℤ) (C O : List ℕ) → Takes (readLoop peek-in skip-in) 4 (now (s .entry)) k
+        (held p (now (table .entry)) I C O) (held r (now (table .exit)) I C O)) ⌝ }
 {
     let a = pass(s, 0, b"do");
     let r = do_line(s, a, table);
@@ -144,7 +136,7 @@ pub fn loop_line(s: &[u8], p: Progress, table: &mut Table) -> Progress
 // ---- lines after do
 
 // How far a text was read, with this line's number and stage, and another place and depth.
-fn onward(p: Progress, number: u32, stage: u32, place: usize, depth: usize) -> Progress
+pub fn onward(p: Progress, number: u32, stage: u32, place: usize, depth: usize) -> Progress
     ensures { λ r. ⌜ r ≡ moved p number stage place depth ⌝ }
 {
     let cells = p.cells;
@@ -188,7 +180,8 @@ fn nested(rank: u32, depth: usize) -> u32
 
 pub fn assign_line(s: &[u8], line: u32, p: Progress, table: &Table, code: &mut [u32]) -> Progress
     requires { ⌜ (length (now s) ≤ 2048) × (line ≤ 2049) × (2 * (p .place + 2 * length (now s)) ≤ length (now code)) ⌝ }
-    ensures { λ r. ⌜ ((I : List ℤ) (O : List ℕ) → Takes (readAssign peek-in skip-in) 5 (now (s .entry)) line p (now (table .entry)) I (now (code .entry)) O r (now (table .entry)) I (now (code .exit)) O) ⌝ }
+    ensures { λ r. ⌜ ((I : List ℤ) (O : List ℕ) → Takes (readAssign peek-in skip-in) 5 (now (s .entry)) line
+        (held p (now (table .entry)) I (now (code .entry)) O) (held r (now (table .entry)) I (now (code .exit)) O)) ⌝ }
 {
     let depth = p.depth;
     let before = p.place;
@@ -207,7 +200,9 @@ pub fn if_line(
     opens: &mut [u32; 8],
 ) -> Progress
     requires { ⌜ (length (now s) ≤ 2048) × (line ≤ 2049) × (2 * (p .place + 2 * length (now s)) ≤ length (now code)) × (p .place ≤ 32768) × (p .depth ≤ 8) ⌝ }
-    ensures { λ r. ⌜ ((I : List ℤ) → Takes (readWhen peek-in skip-in) 5 (now (s .entry)) line p (now (table .entry)) I (now (code .entry)) (now (opens .entry)) r (now (table .entry)) I (now (code .exit)) (now (opens .exit))) ⌝ }
+    ensures { λ r. ⌜ ((I : List ℤ) → Takes (readWhen peek-in skip-in) 5 (now (s .entry)) line
+        (held p (now (table .entry)) I (now (code .entry)) (now (opens .entry)))
+        (held r (now (table .entry)) I (now (code .exit)) (now (opens .exit)))) ⌝ }
 {
     let depth = p.depth;
     let before = p.place;
@@ -253,7 +248,8 @@ pub fn else_line(
     opens: &mut [u32; 8],
 ) -> Progress
     requires { ⌜ (at ≤ length (now s)) × (p .place ≤ 4096) × (2 * (p .place + 1) ≤ length (now code)) × Underway p (now code) (now opens) ⌝ }
-    ensures { λ r. ⌜ ((k : ℕ) (T : List ℕ) (I : List ℤ) → Takes (reads (inside otherwise) at) 5 (now (s .entry)) k p T I (now (code .entry)) (now (opens .entry)) r T I (now (code .exit)) (now (opens .exit))) ⌝ }
+    ensures { λ r. ⌜ ((k : ℕ) (T : List ℕ) (I : List ℤ) → Takes (reads (inside otherwise) at) 5 (now (s .entry)) k
+        (held p T I (now (code .entry)) (now (opens .entry))) (held r T I (now (code .exit)) (now (opens .exit)))) ⌝ }
 {
     let depth = p.depth;
     let place = p.place;
@@ -274,7 +270,8 @@ pub fn else_line(
 // `end if`
 pub fn end_if_line(s: &[u8], at: usize, p: Progress, code: &mut [u32], opens: &[u32; 8]) -> Progress
     requires { ⌜ (at ≤ length (now s)) × (p .place ≤ 4096) × (2 * p .place ≤ length (now code)) × Underway p (now code) (now opens) ⌝ }
-    ensures { λ r. ⌜ ((j : Bool) (k : ℕ) (T : List ℕ) (I : List ℤ) → Takes (reads (inside (end-if j)) at) 5 (now (s .entry)) k p T I (now (code .entry)) (now (opens .entry)) r T I (now (code .exit)) (now (opens .entry))) ⌝ }
+    ensures { λ r. ⌜ ((j : Bool) (k : ℕ) (T : List ℕ) (I : List ℤ) → Takes (reads (inside (end-if j)) at) 5 (now (s .entry)) k
+        (held p T I (now (code .entry)) (now (opens .entry))) (held r T I (now (code .exit)) (now (opens .entry)))) ⌝ }
 {
     let depth = p.depth;
     let place = p.place;
@@ -290,7 +287,8 @@ pub fn end_if_line(s: &[u8], at: usize, p: Progress, code: &mut [u32], opens: &[
 
 pub fn end_do_line(s: &[u8], at: usize, p: Progress) -> Progress
     requires { ⌜ at ≤ length (now s) ⌝ }
-    ensures { λ r. ⌜ ((j : Bool) (k : ℕ) (T : List ℕ) (I : List ℤ) (C O : List ℕ) → Takes (reads (end-do j) at) 6 (now (s .entry)) k p T I C O r T I C O) ⌝ }
+    ensures { λ r. ⌜ ((j : Bool) (k : ℕ) (T : List ℕ) (I : List ℤ) (C O : List ℕ) → Takes (reads (end-do j) at) 6 (now (s .entry)) k
+        (held p T I C O) (held r T I C O)) ⌝ }
 {
     let depth = p.depth;
     let place = p.place;
@@ -302,7 +300,8 @@ pub fn end_do_line(s: &[u8], at: usize, p: Progress) -> Progress
 
 pub fn close_line(s: &[u8], p: Progress) -> Progress
     requires { ⌜ length (now s) ≤ 2048 ⌝ }
-    ensures { λ r. ⌜ ((k : ℕ) (T : List ℕ) (I : List ℤ) (C O : List ℕ) → Takes readClosing 7 (now (s .entry)) k p T I C O r T I C O) ⌝ }
+    ensures { λ r. ⌜ ((k : ℕ) (T : List ℕ) (I : List ℤ) (C O : List ℕ) → Takes (λ _. readClosing peek-in skip-in) 7 (now (s .entry)) k
+        (held p T I C O) (held r T I C O)) ⌝ }
 {
     let a = pass(s, 0, b"!$omp");
     let b = pass(s, a, b"end");

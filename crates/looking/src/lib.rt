@@ -17,8 +17,10 @@ pub fn look(
     view: &mut [u32],
 ) -> Completed
     ensures { λ r. ⌜ r ≡ lookOf (readText (now (text .entry))) (now (cells .entry)) (length (now (workspace .entry))) (now (schedule .entry)) (length (now (view .entry))) ⌝ }
-    ensures { λ _. ⌜ now (view .exit) ≡ viewShown (readText (now (text .entry))) (now (cells .entry)) (length (now (workspace .entry))) (now (schedule .entry)) (now (view .entry)) ⌝ }
-    ensures { λ _. ⌜ now (workspace .exit) ≡ lookWorkspace (readText (now (text .entry))) (now (cells .entry)) (now (workspace .entry)) (now (schedule .entry)) (length (now (view .entry))) ⌝ }
+    ensures { λ _. ⌜ now (view .exit)
+        ≡ viewShown (readText (now (text .entry))) (now (cells .entry)) (length (now (workspace .entry))) (now (schedule .entry)) (now (view .entry)) ⌝ }
+    ensures { λ _. ⌜ now (workspace .exit)
+        ≡ lookWorkspace (readText (now (text .entry))) (now (cells .entry)) (now (workspace .entry)) (now (schedule .entry)) (length (now (view .entry))) ⌝ }
 {
     let mut code = [0; code::WORDS];
     let mut classes = [0; 4096];

@@ -43,12 +43,17 @@ first-zeros zero k h = refl
 first-zeros (suc n) zero h = absurd (omega arith)
 first-zeros (suc n) (suc k) h = ap (λ (u : List ℤ). pos 0 ∷ u) (first-zeros n k (omega arith))
 
-pub prints-lent : {a : List ℕ} {r : ℕ} (v : Verdict) (k : Checked) (n : ℕ) → k ≡ checkOf v → n ≡ lentFor k → Prints (printedOver v (take n (replicate 128 (pos 0)))) a r → Prints (printed v) a r
+pub prints-lent : {a : List ℕ} {r : ℕ} (v : Verdict) (k : Checked) (n : ℕ) → k ≡ checkOf v → n ≡ lentFor k
+    → Prints (printedOver v (take n (replicate 128 (pos 0)))) a r → Prints (printed v) a r
 unfolding printed
 prints-lent v k n e q u = record {
   within = u .within;
   counted = u .counted;
-  bytes = u .bytes ∙ ap (printedOver v) (first-zeros n 128 (omega (arith, lent-few k)) ∙ ap (λ (j : ℕ). replicate j (pos 0)) q ∙ ap (λ (c : Checked). replicate (lentFor c) (pos 0)) e);
+  bytes =
+      u .bytes
+      ∙ ap (printedOver v)
+      (first-zeros n 128 (omega (arith, lent-few k)) ∙ ap (λ (j : ℕ). replicate j (pos 0)) q
+      ∙ ap (λ (c : Checked). replicate (lentFor c) (pos 0)) e);
 }
 
 -- ---- a run that completes
@@ -61,7 +66,8 @@ exact : (a b c : Bool) → _≡_ {A = ℕ} (cond a (cond b (cond c 0 7) 6) 5) 0 
 exact true b c e = refl
 exact false b c e = absurd (omega arith)
 
-module _ (text : List ℕ) (R : Reading) (T : List ℕ) (I : List ℤ) (C : List ℕ) (h : Reads (read text) R T I C) (l m : List ℤ) (few : length l ≤ 128) (same : length m ≡ length l) where
+module _ (text : List ℕ) (R : Reading) (T : List ℕ) (I : List ℤ) (C : List ℕ) (h : Reads (read text) R T I C) (l m : List ℤ) (few : length l ≤ 128)
+    (same : length m ≡ length l) where
   held-good : (s : State) → read text ≡ good s → Tabled T (s .table) → length l ≡ cells (s .table) → Holds T m (s .table)
   held-good s e t n = record {
     tabled = t;
@@ -79,9 +85,12 @@ module _ (text : List ℕ) (R : Reading) (T : List ℕ) (I : List ℤ) (C : List
       go (refused n k) e q c = absurd c
       go (good s) e q c =
           let z = completes-taken (runNumber s (length l) lentWords []) (answered s (settles s l .answer)) c in
-          held-good s e (q .1 .1 .table) (eqb-true (length l) (cells (s .table)) (exact (eqb (length l) (cells (s .table))) (leb (needed (cells (s .table)) (s .processors)) lentWords) true z))
+          held-good s e (q .1 .1 .table)
+          (eqb-true (length l) (cells (s .table))
+          (exact (eqb (length l) (cells (s .table))) (leb (needed (cells (s .table)) (s .processors)) lentWords) true z))
 
-  pub prints : (m₀ : List ℤ) → l ≡ cellsLoaded (read text) m₀ → (answer : Ran) → answer ≡ runOf (read text) l lentWords [] → m ≡ cellsRun (read text) l lentWords [] → (b a : List ℕ) (r : ℕ) → Reports answer T m b a r → Prints (printedOver (read text) m₀) a r
+  pub prints : (m₀ : List ℤ) → l ≡ cellsLoaded (read text) m₀ → (answer : Ran) → answer ≡ runOf (read text) l lentWords []
+      → m ≡ cellsRun (read text) l lentWords [] → (b a : List ℕ) (r : ℕ) → Reports answer T m b a r → Prints (printedOver (read text) m₀) a r
   unfolding printedOver
   prints m₀ el answer ea em b a r u = record {
     within = u .within;

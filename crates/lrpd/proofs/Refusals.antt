@@ -31,7 +31,8 @@ module _ (s : State) where
       let e = ne-eqb (length m) (cells (s .table)) n in
       let same : cellsLoaded (good s) m ≡ m = ap (λ (b : Bool). taken (cond b 0 5) (loaded (s .table)) m) e in
       let words = leb (needed (cells (s .table)) (s .processors)) lentWords in
-      let answer : runOf (good s) m lentWords [] ≡ Refused 5 0 = ap (λ (b : Bool). let j = cond b (cond words 0 6) 5 in taken j (answered s (settles s m .answer)) (Refused j 0)) e in
+      let answer : runOf (good s) m lentWords [] ≡ Refused 5 0 = ap
+      (λ (b : Bool). let j = cond b (cond words 0 6) 5 in taken j (answered s (settles s m .answer)) (Refused j 0)) e in
       ap (λ (l : List ℤ). report (runOf (good s) l lentWords []) (s .table) (cellsRun (good s) l lentWords [])) same
       ∙ ap (λ (r : Ran). report r (s .table) (cellsRun (good s) m lentWords [])) answer
 

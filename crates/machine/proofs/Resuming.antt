@@ -54,7 +54,8 @@ resume-at [] p s v = refl
 resume-at (i ∷ rest) zero s v = perform-ext i _ _ _ _ s v (λ t. refl) (λ n t. resume-suc i rest n (0 + 1 + n) t v (omega arith))
 resume-at (i ∷ rest) (suc p) s v =
     resume-at rest p s v
-    ∙ perform-ext (getD rest p end) _ _ _ _ s v (λ t. resume-suc i rest (p + 1) (suc p + 1) t v (omega arith)) (λ n t. resume-suc i rest (p + 1 + n) (suc p + 1 + n) t v (omega arith))
+    ∙ perform-ext (getD rest p end) _ _ _ _ s v (λ t. resume-suc i rest (p + 1) (suc p + 1) t v (omega arith))
+    (λ n t. resume-suc i rest (p + 1 + n) (suc p + 1 + n) t v (omega arith))
 
 module _ (code : List ℕ) (v : ℤ) where
   abbrev pub from : ℕ → List ℤ → Act

@@ -11,11 +11,12 @@ use lib.Seq.{getD-set-same, getD-set-other}
 use Rattle.rules.specs.Cells.{listed}
 use Rattle.rules.proofs.CellsLaws.{listed-length, listed-same}
 use Rattle.syntax.specs.Bytes.{same}
+use Rattle.rules.specs.Numbers.{class-number}
 use Rattle.syntax.specs.Known.{Entry, known, find, nowhere}
 use Rattle.syntax.proofs.Spelling.{same-true}
 use Rattle.lexer.proofs.Laws.{same-lengths}
 use Rattle.syntax.specs.Conditions.{isGiven}
-use Rattle.names.specs.Table.{wordAt, nameAt, classOf, Tabled, Found, Knows, Stands, clauseAt, countIn, factsAt, firstAt, lengthAt, sizeAt, nameWords, lengthWord, entryWords}
+use Rattle.names.specs.Table.{wordAt, nameAt, Tabled, Found, Knows, Stands, isClaimed, countIn, factsAt, firstAt, lengthAt, sizeAt, nameWords, lengthWord, entryWords}
 use Rattle.names.specs.declared.Named.{Named}
 
 -- ---- one name
@@ -24,7 +25,9 @@ use Rattle.names.specs.declared.Named.{Named}
 pub same-listed : (w : List ℕ) (f : ℕ → ℕ) → ((k : ℕ) → k < length w → getD w k 0 ≡ f k) → same w (listed (length w) f) ≡ true
 unfolding listed
 same-listed [] f h = refl
-same-listed (x ∷ w) f h = ap (λ (b : Bool). b && same w (listed (length w) (λ k. f (suc k)))) (eq-eqb x (f 0) (h 0 (omega arith))) ∙ same-listed w (λ k. f (suc k)) (λ k b. h (suc k) (omega arith))
+same-listed (x ∷ w) f h =
+    ap (λ (b : Bool). b && same w (listed (length w) (λ k. f (suc k)))) (eq-eqb x (f 0) (h 0 (omega arith)))
+    ∙ same-listed w (λ k. f (suc k)) (λ k b. h (suc k) (omega arith))
 
 -- and one that differs
 pub same-differs : (w : List ℕ) (f : ℕ → ℕ) (k : ℕ) → k < length w → (getD w k 0 ≡ f k → ⊥) → same w (listed (length w) f) ≡ false
@@ -58,12 +61,15 @@ listed-bytes [] = refl
 listed-bytes (x ∷ w) = ap (λ (t : List ℕ). x ∷ t) (listed-bytes w)
 
 -- k bytes of w stand in entry i, and then their number is written
-pub name-written : (T : List ℕ) (i : ℕ) (w : List ℕ) (k : ℕ) → k ≡ length w → i * entryWords + lengthWord < length T → ((j : ℕ) → j < k → wordAt T i j ≡ getD w j 0) → k ≤ nameWords → nameAt (set T (i * entryWords + lengthWord) k) i ≡ w
+pub name-written : (T : List ℕ) (i : ℕ) (w : List ℕ) (k : ℕ) → k ≡ length w → i * entryWords + lengthWord < length T
+    → ((j : ℕ) → j < k → wordAt T i j ≡ getD w j 0) → k ≤ nameWords → nameAt (set T (i * entryWords + lengthWord) k) i ≡ w
 unfolding nameAt
 name-written T i w k e h f b =
-    let n : lengthAt (set T (i * entryWords + lengthWord) k) i ≡ length w = ap (λ (p : ℕ). getD (set T (i * entryWords + lengthWord) k) p 0) (omega arith) ∙ getD-set-same T (i * entryWords + lengthWord) k 0 h ∙ e in
+    let n : lengthAt (set T (i * entryWords + lengthWord) k) i ≡ length w =
+    ap (λ (p : ℕ). getD (set T (i * entryWords + lengthWord) k) p 0) (omega arith) ∙ getD-set-same T (i * entryWords + lengthWord) k 0 h ∙ e in
     ap (λ (m : ℕ). listed m (λ j. wordAt (set T (i * entryWords + lengthWord) k) i j)) n
-    ∙ listed-same (length w) (λ j. wordAt (set T (i * entryWords + lengthWord) k) i j) (λ j. getD w j 0) (λ j l. set-elsewhere T (i * entryWords + lengthWord) (entryWords * i + j) k (omega arith) ∙ f j (omega arith))
+    ∙ listed-same (length w) (λ j. wordAt (set T (i * entryWords + lengthWord) k) i j) (λ j. getD w j 0)
+    (λ j l. set-elsewhere T (i * entryWords + lengthWord) (entryWords * i + j) k (omega arith) ∙ f j (omega arith))
     ∙ listed-bytes w
 
 -- ---- found from the front
@@ -81,7 +87,8 @@ find-none w (e ∷ t) h =
     (or-false p (r .0), ap (λ (c : Bool). cond c e (find w t)) p ∙ r .1)
 
 -- or the i-th
-find-there : (w : List ℕ) (t : List Entry) (i : ℕ) → i < length t → ((k : ℕ) → k < i → same w (getD t k nowhere .name) ≡ false) → same w (getD t i nowhere .name) ≡ true → (known w t ≡ true) × (find w t ≡ getD t i nowhere)
+find-there : (w : List ℕ) (t : List Entry) (i : ℕ) → i < length t → ((k : ℕ) → k < i → same w (getD t k nowhere .name) ≡ false)
+    → same w (getD t i nowhere .name) ≡ true → (known w t ≡ true) × (find w t ≡ getD t i nowhere)
 unfolding find
 find-there w [] i b h e = absurd (omega arith)
 find-there w (x ∷ t) zero b h e = (ap (λ (c : Bool). c || known w t) e, ap (λ (c : Bool). cond c x (find w t)) e)
@@ -110,7 +117,8 @@ module _ (T : List ℕ) (t : List Entry) (d : Tabled T t) (w : List ℕ) (i : �
   many : countIn T ≡ length t
   many = omega (arith, d .count, d .few)
 
-  pub knows-none : countIn T ≤ i → Knows t w (record { known = false; index = i; subscripted = false; given = false; clause = 0; first = 0; size = 0 })
+  pub knows-none : countIn T ≤ i
+      → Knows t w (record { known = false; index = i; subscripted = false; given = false; claimed = false; class = 0; first = 0; size = 0 })
   knows-none h =
       let r = found-none T t d (countIn T) many w i f h in
       let e = sym (r .1) in
@@ -120,18 +128,27 @@ module _ (T : List ℕ) (t : List Entry) (d : Tabled T t) (w : List ℕ) (i : �
         size = ap (λ (x : Entry). x .size) e;
         subscripted = ap (λ (x : Entry). x .subscripted) e;
         given = ap (λ (x : Entry). isGiven (x .given)) e;
-        class = ap (λ (x : Entry). x .class) e;
+        class = ap (λ (x : Entry). class-number (x .class)) e;
       }
 
-  pub stands-there : i < countIn T → (facts : ℕ) → facts ≡ factsAt T i → (r : Named) → r .index ≡ i → r .clause ≡ facts / 4 → Stands T t w r
+  pub stands-there : i < countIn T → (facts : ℕ) → facts ≡ factsAt T i → (r : Named) → r .index ≡ i → r .claimed ≡ eqb (facts / 4 % 2) 1 → Stands T t w r
   stands-there h facts ef r ei ec = record {
     within = omega (arith, many, ei);
     name = ap (λ (k : ℕ). getD t k nowhere .name) ei ∙ sym (d .rows i (omega (arith, many)) .name) ∙ sym (same-true w (nameAt T i) (f .there h));
-    clause = ec ∙ ap (λ (n : ℕ). n / 4) ef ∙ ap (λ (k : ℕ). clauseAt T k) (sym ei);
+    claimed = ec ∙ ap (λ (n : ℕ). eqb (n / 4 % 2) 1) ef ∙ ap (isClaimed T) (sym ei);
   }
 
   pub knows-there : i < countIn T → (facts first size : ℕ) → facts ≡ factsAt T i → first ≡ firstAt T i → size ≡ sizeAt T i
-      → Knows t w (record { known = true; index = i; subscripted = eqb (facts % 2) 1; given = eqb (facts / 2 % 2) 1; clause = facts / 4; first = first; size = size })
+      → Knows t w (record {
+        known = true;
+        index = i;
+        subscripted = eqb (facts % 2) 1;
+        given = eqb (facts / 2 % 2) 1;
+        claimed = eqb (facts / 4 % 2) 1;
+        class = facts / 8;
+        first = first;
+        size = size;
+      })
   knows-there h facts first size ef ei es =
       let r = found-there T t d (countIn T) many w i f h in
       let o = d .rows i (omega (arith, many)) in
@@ -142,5 +159,5 @@ module _ (T : List ℕ) (t : List Entry) (d : Tabled T t) (w : List ℕ) (i : �
         size = es ∙ o .size ∙ ap (λ (x : Entry). x .size) e;
         subscripted = ap (λ (n : ℕ). eqb (n % 2) 1) ef ∙ o .subscripted ∙ ap (λ (x : Entry). x .subscripted) e;
         given = ap (λ (n : ℕ). eqb (n / 2 % 2) 1) ef ∙ o .given ∙ ap (λ (x : Entry). isGiven (x .given)) e;
-        class = ap (λ (n : ℕ). classOf (n / 4)) ef ∙ o .class ∙ ap (λ (x : Entry). x .class) e;
+        class = ap (λ (n : ℕ). n / 8) ef ∙ o .class ∙ ap (λ (x : Entry). class-number (x .class)) e;
       }

@@ -2,7 +2,6 @@
 use mathlib.Core.Path.{_≡_, refl, sym, _∙_, ap, ap₂, subst}
 use mathlib.Core.Bool.{Bool, true, false, cond}
 use mathlib.Core.List.{List, [], _∷_, _++_, map}
-use mathlib.Core.Option.{some}
 use Prim.Native.Nat.{ℕ, zero, suc, _+_, _*_, _/_, _%_, _≤_, _<_}
 use native.Mathlib.Decide.{decLt, ℕ-discrete}
 use native.Mathlib.Omega.{arith}
@@ -10,15 +9,17 @@ use lib.Dec.{eqb}
 use lib.IntN.{ℤ}
 use lib.ListN.{length, getD, set, length-set, length-map, length-append}
 use lib.Seq.{getD-set-same, getD-append-seam}
-use Rattle.rules.specs.Loop.{Class, shared}
+use Rattle.rules.specs.Loop.{Class}
+use Rattle.rules.specs.Numbers.{class-number}
 use Rattle.rules.specs.Cells.{listed}
 use Rattle.rules.proofs.CellsLaws.{listed-length, listed-same}
 use Rattle.syntax.specs.Bytes.{same}
-use Rattle.syntax.specs.Known.{Entry, named, known, find, nowhere, give-to}
+use Rattle.syntax.specs.Known.{Entry, named, known, find, nowhere, with-data, give-to, with-class}
 use Rattle.syntax.specs.Conditions.{isGiven}
+use Rattle.syntax.specs.Sane.{Each}
 use Rattle.syntax.proofs.Table.{find-each}
-use Rattle.syntax.proofs.TestLaws.{Each, neither-holds, same-refl, same-comm-false}
-use Rattle.names.specs.Table.{wordAt, nameAt, classOf, Row, Tabled, Put, declared, Added, Gave, class-to, Classed, clauseAt, countIn, factsAt, firstAt, lengthAt, numberIn, sizeAt, tableWords, variableEntry, nameWords, lengthWord, firstWord, sizeWord, factsWord, entryWords, mostNames, numberWord}
+use Rattle.syntax.proofs.TestLaws.{neither-holds, same-refl, same-comm-false}
+use Rattle.names.specs.Table.{wordAt, nameAt, Row, Tabled, Put, declared, Added, Gave, class-to, Classed, classAt, countIn, factsAt, firstAt, lengthAt, numberIn, sizeAt, tableWords, variableEntry, nameWords, lengthWord, firstWord, sizeWord, factsWord, entryWords, mostNames, numberWord}
 use Rattle.names.proofs.Laws.{set-elsewhere}
 
 -- ---- one entry
@@ -40,7 +41,7 @@ module _ (T T′ : List ℕ) (i : ℕ) (e : Entry) (o : Row T i e) where
 
   -- all but the facts are as they were
   pub row-with : (e′ : Entry) → ((k : ℕ) → k < factsWord → wordAt T′ i k ≡ wordAt T i k) → e′ .name ≡ e .name → e′ .first ≡ e .first → e′ .size ≡ e .size
-      → eqb (factsAt T′ i % 2) 1 ≡ e′ .subscripted → eqb (factsAt T′ i / 2 % 2) 1 ≡ isGiven (e′ .given) → classOf (clauseAt T′ i) ≡ e′ .class → Row T′ i e′
+      → eqb (factsAt T′ i % 2) 1 ≡ e′ .subscripted → eqb (factsAt T′ i / 2 % 2) 1 ≡ isGiven (e′ .given) → classAt T′ i ≡ class-number (e′ .class) → Row T′ i e′
   row-with e′ h en ef es hs hg hc = record {
     name = name-kept T T′ i short-word (λ k l. h k (omega arith)) ∙ o .name ∙ sym en;
     first = h firstWord (omega arith) ∙ o .first ∙ sym ef;
@@ -58,7 +59,7 @@ module _ (T T′ : List ℕ) (i : ℕ) (e : Entry) (o : Row T i e) where
       row-with e (λ k l. h k (omega arith)) refl refl refl
       (ap (λ (n : ℕ). eqb (n % 2) 1) f ∙ o .subscripted)
       (ap (λ (n : ℕ). eqb (n / 2 % 2) 1) f ∙ o .given)
-      (ap (λ (n : ℕ). classOf (n / 4)) f ∙ o .class)
+      (ap (λ (n : ℕ). n / 8) f ∙ o .class)
 
 -- ---- the facts of one entry
 
@@ -88,13 +89,15 @@ module _ (T : List ℕ) (i facts : ℕ) (b : i < mostNames) where
   variable-kept h = name-kept T with-facts variableEntry h (λ k l. others-kept variableEntry k (omega arith) (λ e. omega arith))
 
   -- the table with other facts for entry i stands for the names with another entry i
-  module _ (t : List Entry) (d : Tabled T t) (h : i < length t) (f : Entry → Entry) (a : (e : Entry) → Alike e (f e)) (others : (j : ℕ) → j < length t → (j ≡ i → ⊥) → f (getD t j nowhere) ≡ getD t j nowhere)
-      (hs : eqb (facts % 2) 1 ≡ f (getD t i nowhere) .subscripted) (hg : eqb (facts / 2 % 2) 1 ≡ isGiven (f (getD t i nowhere) .given)) (hc : classOf (facts / 4) ≡ f (getD t i nowhere) .class) where
+  module _ (t : List Entry) (d : Tabled T t) (h : i < length t) (f : Entry → Entry) (a : (e : Entry) → Alike e (f e))
+      (others : (j : ℕ) → j < length t → (j ≡ i → ⊥) → f (getD t j nowhere) ≡ getD t j nowhere)
+      (hs : eqb (facts % 2) 1 ≡ f (getD t i nowhere) .subscripted) (hg : eqb (facts / 2 % 2) 1 ≡ isGiven (f (getD t i nowhere) .given))
+      (hc : facts / 8 ≡ class-number (f (getD t i nowhere) .class)) where
     row-of : (j : ℕ) → j < length t → Row with-facts j (f (getD t j nowhere))
     row-of j l = elim (ℕ-discrete j i) [
       | yes q ↦ simp q (let w = facts-here (d .long) in let e = getD t i nowhere in
           row-with T with-facts i e (d .rows i h) (f e) rest-kept (a e .0) (a e .1) (a e .2)
-          (ap (λ (n : ℕ). eqb (n % 2) 1) w ∙ hs) (ap (λ (n : ℕ). eqb (n / 2 % 2) 1) w ∙ hg) (ap (λ (n : ℕ). classOf (n / 4)) w ∙ hc))
+          (ap (λ (n : ℕ). eqb (n % 2) 1) w ∙ hs) (ap (λ (n : ℕ). eqb (n / 2 % 2) 1) w ∙ hg) (ap (λ (n : ℕ). n / 8) w ∙ hc))
       | no n ↦ simp (others j l n) (row-kept T with-facts j (getD t j nowhere) (d .rows j l) (λ k m. others-kept j k m n))
     ]
 
@@ -124,18 +127,24 @@ module _ (T : List ℕ) (i facts : ℕ) (b : i < mostNames) where
 -- ---- data, clauses
 
 -- the parts of the facts
-with-data : (q r : ℕ) → r < 2 → ((q * 4 + 2 + r) % 2 ≡ r) × ((q * 4 + 2 + r) / 2 % 2 ≡ 1) × ((q * 4 + 2 + r) / 4 ≡ q)
-with-data q r h = (omega arith, omega arith, omega arith)
+given-facts : (q r : ℕ) → r < 2 → ((q * 4 + 2 + r) % 2 ≡ r) × ((q * 4 + 2 + r) / 2 % 2 ≡ 1) × ((q * 4 + 2 + r) / 4 ≡ q)
+given-facts q r h = (omega arith, omega arith, omega arith)
 
-in-clause : (q f : ℕ) → ((q * 4 + f % 4) % 2 ≡ f % 2) × ((q * 4 + f % 4) / 2 % 2 ≡ f / 2 % 2) × ((q * 4 + f % 4) / 4 ≡ q)
-in-clause q f = (omega arith, omega arith, omega arith)
+given-class : (f : ℕ) → (f / 4 * 4 + 2 + f % 2) / 8 ≡ f / 8
+given-class f = omega arith
+
+claimed-facts : (c f : ℕ)
+    → ((c * 8 + 4 + f % 4) % 2 ≡ f % 2) × ((c * 8 + 4 + f % 4) / 2 % 2 ≡ f / 2 % 2) × ((c * 8 + 4 + f % 4) / 4 % 2 ≡ 1)
+    × ((c * 8 + 4 + f % 4) / 8 ≡ c)
+claimed-facts c f = (omega arith, omega arith, omega arith, omega arith)
 
 untouched : (b : Bool) (x e : Entry) → b ≡ false → cond b x e ≡ e
 untouched b x e h = ap (λ (y : Bool). cond y x e) h
 
 module _ (T : List ℕ) (i : ℕ) (b : i < mostNames) (facts : ℕ) (ef : facts ≡ factsAt T i) where
   -- the others have another name than entry i
-  other-name : (t : List Entry) → Tabled T t → i < length t → (j : ℕ) → j < length t → (j ≡ i → ⊥) → same (getD t i nowhere .name) (getD t j nowhere .name) ≡ false
+  other-name : (t : List Entry) → Tabled T t → i < length t → (j : ℕ) → j < length t → (j ≡ i → ⊥)
+      → same (getD t i nowhere .name) (getD t j nowhere .name) ≡ false
   other-name t d h j l n = elim (decLt j i) [
     | yes p ↦ d .distinct j i p h
     | no p ↦ same-comm-false (getD t j nowhere .name) (getD t i nowhere .name) (d .distinct i j (omega arith) l)
@@ -148,50 +157,52 @@ module _ (T : List ℕ) (i : ℕ) (b : i < mostNames) (facts : ℕ) (ef : facts 
         let e = getD t i nowhere in
         let o = d .rows i h in
         let here : named (e .name) e ≡ true = same-refl (e .name) in
-        let g = ap (λ (x : Bool). cond x (record { name = e .name; first = e .first; subscripted = e .subscripted; size = e .size; class = e .class; given = some vs }) e) here in
-        let q = with-data (facts / 4) (facts % 2) (omega arith) in
+        let g = ap (λ (x : Bool). cond x (with-data vs e) e) here in
+        let q = given-facts (facts / 4) (facts % 2) (omega arith) in
         let n0 = q .0 ∙ ap (λ (n : ℕ). n % 2) ef in
         let n1 = q .1 in
-        let n2 = q .2 ∙ ap (λ (n : ℕ). n / 4) ef in
+        let n2 = given-class facts ∙ ap (λ (n : ℕ). n / 8) ef in
         tabled-with T i (facts / 4 * 4 + 2 + facts % 2) b t d h (give-to (e .name) vs)
         (λ x. kept (e .name) vs x (named (e .name) x))
         (λ j l n. untouched _ _ (getD t j nowhere) (other-name t d h j l n))
         (ap (λ (n : ℕ). eqb n 1) n0 ∙ o .subscripted ∙ sym (ap (λ (x : Entry). x .subscripted) g))
         (ap (λ (n : ℕ). eqb n 1) n1 ∙ sym (ap (λ (x : Entry). isGiven (x .given)) g))
-        (ap classOf n2 ∙ o .class ∙ sym (ap (λ (x : Entry). x .class) g));
+        (n2 ∙ o .class ∙ sym (ap (λ (x : Entry). class-number (x .class)) g));
     unclaimed = λ h n u j l. elim (ℕ-discrete j i) [
-      | yes q ↦ ap (λ (k : ℕ). clauseAt (set T (i * entryWords + factsWord) (facts / 4 * 4 + 2 + facts % 2)) k) q ∙ ap (λ (x : ℕ). x / 4) (facts-here T i (facts / 4 * 4 + 2 + facts % 2) b h) ∙ with-data (facts / 4) (facts % 2) (omega arith) .2 ∙ ap (λ (x : ℕ). x / 4) ef ∙ ap (λ (k : ℕ). clauseAt T k) (sym q) ∙ u j l
-      | no m ↦ ap (λ (x : ℕ). x / 4) (others-kept T i (facts / 4 * 4 + 2 + facts % 2) b j factsWord (omega arith) m) ∙ u j l
+      | yes q ↦
+          let low : factsAt T i < 4 = subst (λ (k : ℕ). factsAt T k < 4) q (u j l) in
+          subst (λ (k : ℕ). factsAt (set T (i * entryWords + factsWord) (facts / 4 * 4 + 2 + facts % 2)) k < 4) (sym q)
+          (omega (arith, facts-here T i (facts / 4 * 4 + 2 + facts % 2) b h, ef, low))
+      | no m ↦ omega (arith, others-kept T i (facts / 4 * 4 + 2 + facts % 2) b j factsWord (omega arith) m, u j l)
     ];
   }
     where
-      kept : (x : List ℕ) (vs : List ℤ) (e : Entry) (y : Bool) → Alike e (cond y (record { name = e .name; first = e .first; subscripted = e .subscripted; size = e .size; class = e .class; given = some vs }) e)
+      kept : (x : List ℕ) (vs : List ℤ) (e : Entry) (y : Bool) → Alike e (cond y (with-data vs e) e)
       kept x vs e true = (refl, refl, refl, refl)
       kept x vs e false = (refl, refl, refl, refl)
 
-  pub classed : (clause : ℕ) → clause ≤ 3 → Classed T i clause (set T (i * entryWords + factsWord) (clause * 4 + facts % 4))
-  classed clause m = record {
+  pub classed : (class : ℕ) → Classed T i class (set T (i * entryWords + factsWord) (class * 8 + 4 + facts % 4))
+  classed class = record {
     variable = variable-kept T i _ b;
-    here = λ l. ap (λ (n : ℕ). n / 4) (facts-here T i (clause * 4 + facts % 4) b l) ∙ omega arith;
-    others = λ j n. others-kept T i (clause * 4 + facts % 4) b j factsWord (omega arith) n;
-    table = λ t d h.
+    here = λ l. ap (λ (n : ℕ). eqb (n / 4 % 2) 1) (facts-here T i (class * 8 + 4 + facts % 4) b l) ∙ ap (λ (n : ℕ). eqb n 1) (claimed-facts class facts .2);
+    others = λ j n. others-kept T i (class * 8 + 4 + facts % 4) b j factsWord (omega arith) n;
+    table = λ t k ek d h.
         let e = getD t i nowhere in
         let o = d .rows i h in
         let here : named (e .name) e ≡ true = same-refl (e .name) in
-        let g = ap (λ (x : Bool). cond x (record { name = e .name; first = e .first; subscripted = e .subscripted; size = e .size; class = classOf clause; given = e .given }) e) here in
-        let q = in-clause clause facts in
+        let g = ap (λ (x : Bool). cond x (with-class k e) e) here in
+        let q = claimed-facts class facts in
         let n0 = q .0 ∙ ap (λ (n : ℕ). n % 2) ef in
         let n1 = q .1 ∙ ap (λ (n : ℕ). n / 2 % 2) ef in
-        let n2 = q .2 in
-        tabled-with T i (clause * 4 + facts % 4) b t d h (class-to (e .name) (classOf clause))
-        (λ x. kept (e .name) (classOf clause) x (named (e .name) x))
+        tabled-with T i (class * 8 + 4 + facts % 4) b t d h (class-to (e .name) k)
+        (λ x. kept (e .name) k x (named (e .name) x))
         (λ j l n. untouched _ _ (getD t j nowhere) (other-name t d h j l n))
         (ap (λ (n : ℕ). eqb n 1) n0 ∙ o .subscripted ∙ sym (ap (λ (x : Entry). x .subscripted) g))
         (ap (λ (n : ℕ). eqb n 1) n1 ∙ o .given ∙ sym (ap (λ (x : Entry). isGiven (x .given)) g))
-        (ap classOf n2 ∙ sym (ap (λ (x : Entry). x .class) g));
+        (q .3 ∙ ek ∙ sym (ap (λ (x : Entry). class-number (x .class)) g));
   }
     where
-      kept : (x : List ℕ) (c : Class) (e : Entry) (y : Bool) → Alike e (cond y (record { name = e .name; first = e .first; subscripted = e .subscripted; size = e .size; class = c; given = e .given }) e)
+      kept : (x : List ℕ) (c : Class) (e : Entry) (y : Bool) → Alike e (cond y (with-class c e) e)
       kept x c e true = (refl, refl, refl, refl)
       kept x c e false = (refl, refl, refl, refl)
 
@@ -207,7 +218,8 @@ unknown-at w [] h i l = absurd (omega arith)
 unknown-at w (x ∷ t) h zero l = neither-holds (same w (x .name)) (known w t) h .0
 unknown-at w (x ∷ t) h (suc i) l = unknown-at w t (neither-holds (same w (x .name)) (known w t) h .1) i (omega arith)
 
-module _ (T w : List ℕ) (n first size : ℕ) (sub : Bool) (T₁ : List ℕ) (p : Put T n w T₁) (en : n ≡ countIn T) (bn : n < mostNames) (short : length w ≤ nameWords) (facts : ℕ) (ef : facts ≡ cond sub 1 0) where
+module _ (T w : List ℕ) (n first size : ℕ) (sub : Bool) (T₁ : List ℕ) (p : Put T n w T₁) (en : n ≡ countIn T) (bn : n < mostNames)
+    (short : length w ≤ nameWords) (facts : ℕ) (ef : facts ≡ cond sub 1 0) where
   abbrev T₂ : List ℕ
   T₂ = set T₁ (n * entryWords + firstWord) first
 
@@ -233,21 +245,27 @@ module _ (T w : List ℕ) (n first size : ℕ) (sub : Bool) (T₁ : List ℕ) (p
   more-long = length-set T₄ numberWord (n + 1) ∙ long₄
 
   -- of the words only these changed
-  elsewhere : (q : ℕ) → (q ≡ n * entryWords + firstWord → ⊥) → (q ≡ n * entryWords + sizeWord → ⊥) → (q ≡ n * entryWords + factsWord → ⊥) → (q ≡ numberWord → ⊥) → getD more-names q 0 ≡ getD T₁ q 0
-  elsewhere q a b c d = set-elsewhere T₄ numberWord q (n + 1) d ∙ set-elsewhere T₃ (n * entryWords + factsWord) q facts c ∙ set-elsewhere T₂ (n * entryWords + sizeWord) q size b ∙ set-elsewhere T₁ (n * entryWords + firstWord) q first a
+  elsewhere : (q : ℕ) → (q ≡ n * entryWords + firstWord → ⊥) → (q ≡ n * entryWords + sizeWord → ⊥) → (q ≡ n * entryWords + factsWord → ⊥)
+      → (q ≡ numberWord → ⊥) → getD more-names q 0 ≡ getD T₁ q 0
+  elsewhere q a b c d =
+      set-elsewhere T₄ numberWord q (n + 1) d ∙ set-elsewhere T₃ (n * entryWords + factsWord) q facts c
+      ∙ set-elsewhere T₂ (n * entryWords + sizeWord) q size b ∙ set-elsewhere T₁ (n * entryWords + firstWord) q first a
 
   -- and these are
   module _ (l : tableWords ≤ length T₁) where
     first-here : firstAt more-names n ≡ first
     first-here =
         let q : entryWords * n + firstWord ≡ n * entryWords + firstWord = omega arith in
-        set-elsewhere T₄ numberWord (entryWords * n + firstWord) (n + 1) (omega arith) ∙ set-elsewhere T₃ (n * entryWords + factsWord) (entryWords * n + firstWord) facts (omega arith) ∙ set-elsewhere T₂ (n * entryWords + sizeWord) (entryWords * n + firstWord) size (omega arith)
+        set-elsewhere T₄ numberWord (entryWords * n + firstWord) (n + 1) (omega arith)
+        ∙ set-elsewhere T₃ (n * entryWords + factsWord) (entryWords * n + firstWord) facts (omega arith)
+        ∙ set-elsewhere T₂ (n * entryWords + sizeWord) (entryWords * n + firstWord) size (omega arith)
         ∙ ap (λ (p : ℕ). getD T₂ p 0) q ∙ getD-set-same T₁ (n * entryWords + firstWord) first 0 (omega arith)
 
     size-here : sizeAt more-names n ≡ size
     size-here =
         let q : entryWords * n + sizeWord ≡ n * entryWords + sizeWord = omega arith in
-        set-elsewhere T₄ numberWord (entryWords * n + sizeWord) (n + 1) (omega arith) ∙ set-elsewhere T₃ (n * entryWords + factsWord) (entryWords * n + sizeWord) facts (omega arith)
+        set-elsewhere T₄ numberWord (entryWords * n + sizeWord) (n + 1) (omega arith)
+        ∙ set-elsewhere T₃ (n * entryWords + factsWord) (entryWords * n + sizeWord) facts (omega arith)
         ∙ ap (λ (p : ℕ). getD T₃ p 0) q ∙ getD-set-same T₂ (n * entryWords + sizeWord) size 0 (omega (arith, long₂))
 
     facts-there : factsAt more-names n ≡ facts
@@ -274,7 +292,8 @@ module _ (T w : List ℕ) (n first size : ℕ) (sub : Bool) (T₁ : List ℕ) (p
 
     old : (i : ℕ) → i < length t → Row more-names i (getD t i nowhere)
     old i l = row-kept T more-names i (getD t i nowhere) (d .rows i l) (λ k m.
-        elsewhere (entryWords * i + k) (omega (arith, at-end)) (omega (arith, at-end)) (omega (arith, at-end)) (omega (arith, at-end)) ∙ p .before (entryWords * i + k) (omega (arith, at-end)))
+        elsewhere (entryWords * i + k) (omega (arith, at-end)) (omega (arith, at-end)) (omega (arith, at-end)) (omega (arith, at-end))
+        ∙ p .before (entryWords * i + k) (omega (arith, at-end)))
 
     new : Row more-names n e
     new =
@@ -282,12 +301,15 @@ module _ (T w : List ℕ) (n first size : ℕ) (sub : Bool) (T₁ : List ℕ) (p
         let x = p .name (d .long) in
         let fh = facts-there long₁ in
         record {
-          name = name-kept T₁ more-names n (omega (arith, g, ap length x)) (λ k m. elsewhere (entryWords * n + k) (omega arith) (omega arith) (omega arith) (omega arith)) ∙ x;
+          name =
+              name-kept T₁ more-names n (omega (arith, g, ap length x))
+              (λ k m. elsewhere (entryWords * n + k) (omega arith) (omega arith) (omega arith) (omega arith))
+              ∙ x;
           first = first-here long₁;
           size = size-here long₁;
           subscripted = ap (λ (q : ℕ). eqb (q % 2) 1) (fh ∙ ef) ∙ is-sub sub;
           given = ap (λ (q : ℕ). eqb (q / 2 % 2) 1) (fh ∙ ef) ∙ not-given sub;
-          class = ap (λ (q : ℕ). classOf (q / 4)) (fh ∙ ef) ∙ in-none sub;
+          class = ap (λ (q : ℕ). q / 8) (fh ∙ ef) ∙ in-none sub;
           short = short;
         }
       where
@@ -299,15 +321,17 @@ module _ (T w : List ℕ) (n first size : ℕ) (sub : Bool) (T₁ : List ℕ) (p
         not-given true = refl
         not-given false = refl
 
-        in-none : (b : Bool) → classOf (cond b 1 0 / 4) ≡ shared
+        in-none : (b : Bool) → cond b 1 0 / 8 ≡ 0
         in-none true = refl
         in-none false = refl
 
     -- an entry is an old one or the new one
-    each : (P : ℕ → Entry → Type 0) → ((i : ℕ) → i < length t → P i (getD t i nowhere)) → P n e → (i : ℕ) → i < length (t ++ (e ∷ [])) → P i (getD (t ++ (e ∷ [])) i nowhere)
+    each : (P : ℕ → Entry → Type 0) → ((i : ℕ) → i < length t → P i (getD t i nowhere)) → P n e → (i : ℕ) → i < length (t ++ (e ∷ []))
+        → P i (getD (t ++ (e ∷ [])) i nowhere)
     each P o h i l = elim (decLt i (length t)) [
       | yes b ↦ subst (P i) (sym (getD-left t (e ∷ []) i b)) (o i b)
-      | no b ↦ let q : i ≡ length t = omega (arith, many) in subst (λ (j : ℕ). P j (getD (t ++ (e ∷ [])) j nowhere)) (sym q) (subst (P (length t)) (sym (getD-append-seam t e [] nowhere)) (subst (λ (j : ℕ). P j e) at-end h))
+      | no b ↦ let q : i ≡ length t = omega (arith, many) in subst (λ (j : ℕ). P j (getD (t ++ (e ∷ [])) j nowhere)) (sym q)
+          (subst (P (length t)) (sym (getD-append-seam t e [] nowhere)) (subst (λ (j : ℕ). P j e) at-end h))
     ]
 
     pub tabled-more : first + size ≤ 4096 → Tabled more-names (t ++ (e ∷ []))
@@ -326,17 +350,23 @@ module _ (T w : List ℕ) (n first size : ℕ) (sub : Bool) (T₁ : List ℕ) (p
   pub added : Added T w first size sub more-names
   added = record {
     full = λ h. absurd (omega arith);
-    variable = λ h. name-kept T more-names variableEntry h (λ k m. elsewhere (entryWords * variableEntry + k) (omega arith) (omega arith) (omega arith) (omega arith) ∙ p .after (entryWords * variableEntry + k) (omega arith));
+    variable = λ h. name-kept T more-names variableEntry h (λ k m. elsewhere (entryWords * variableEntry + k) (omega arith) (omega arith)
+        (omega arith) (omega arith)
+        ∙ p .after (entryWords * variableEntry + k) (omega arith));
     table = λ t d f u b. tabled-more t d f u b;
     unclaimed = λ t d f v j l. elim (ℕ-discrete j n) [
-      | yes q ↦ ap (λ (k : ℕ). clauseAt more-names k) q ∙ ap (λ (x : ℕ). x / 4) (facts-there (omega (arith, p .long, d .long)) ∙ ef) ∙ none-in sub
-      | no m ↦ ap (λ (x : ℕ). x / 4) (elsewhere (entryWords * j + factsWord) (omega arith) (omega arith) (omega arith) (omega (arith, d .count)) ∙ p .before (entryWords * j + factsWord) (omega (arith, d .count))) ∙ v j (omega (arith, d .count))
+      | yes q ↦ subst (λ (k : ℕ). factsAt more-names k < 4) (sym q) (omega (arith, facts-there (omega (arith, p .long, d .long)), ef, one-at-most sub))
+      | no m ↦
+          let kept =
+          elsewhere (entryWords * j + factsWord) (omega arith) (omega arith) (omega arith) (omega (arith, d .count))
+          ∙ p .before (entryWords * j + factsWord) (omega (arith, d .count)) in
+          omega (arith, kept, v j (omega (arith, d .count)))
     ];
   }
     where
-      none-in : (b : Bool) → cond b 1 0 / 4 ≡ 0
-      none-in true = refl
-      none-in false = refl
+      one-at-most : (b : Bool) → cond b 1 0 < 2
+      one-at-most true = omega arith
+      one-at-most false = omega arith
 
 -- a full table
 pub full : (T w : List ℕ) (first size : ℕ) (sub : Bool) → mostNames ≤ countIn T → Added T w first size sub T

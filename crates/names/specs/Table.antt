@@ -3,14 +3,15 @@ use mathlib.Core.Path.{_≡_}
 use mathlib.Core.Bool.{Bool, true, false, cond}
 use mathlib.Core.List.{List, [], _∷_, _++_, map}
 use mathlib.Core.Option.{none}
-use Prim.Native.Nat.{ℕ, zero, suc, _+_, _*_, _/_, _%_, _≤_, _<_, min}
+use Prim.Native.Nat.{ℕ, _+_, _*_, _/_, _%_, _≤_, _<_, min}
 use lib.Dec.{eqb}
 use lib.ListN.{length, getD}
 use lib.IntN.{ℤ}
-use Rattle.rules.specs.Loop.{Class, shared, lastprivate, reduction}
+use Rattle.rules.specs.Loop.{Class, shared}
+use Rattle.rules.specs.Numbers.{class-number}
 use Rattle.rules.specs.Cells.{listed}
 use Rattle.syntax.specs.Bytes.{same}
-use Rattle.syntax.specs.Known.{Entry, named, known, find, nowhere, give-to}
+use Rattle.syntax.specs.Known.{Entry, named, known, find, nowhere, give-to, with-class}
 use Rattle.syntax.specs.Conditions.{isGiven}
 use Rattle.names.specs.declared.Named.{Named}
 
@@ -64,9 +65,12 @@ sizeAt T i = wordAt T i sizeWord
 abbrev pub factsAt : List ℕ → ℕ → ℕ
 factsAt T i = wordAt T i factsWord
 
--- 0 none, 1 shared, 2 lastprivate, 3 reduction
-abbrev pub clauseAt : List ℕ → ℕ → ℕ
-clauseAt T i = factsAt T i / 4
+-- facts: 1 it takes a subscript, 2 it was given data, 4 it stands in a clause, 8 times the number of its class
+abbrev pub isClaimed : List ℕ → ℕ → Bool
+isClaimed T i = eqb (factsAt T i / 4 % 2) 1
+
+abbrev pub classAt : List ℕ → ℕ → ℕ
+classAt T i = factsAt T i / 8
 
 -- the number of names, and how many of them are looked at
 abbrev pub numberIn : List ℕ → ℕ
@@ -84,13 +88,6 @@ nameAt T i = listed (lengthAt T i) (λ k. wordAt T i k)
 abbrev pub variableOf : List ℕ → List ℕ
 variableOf T = nameAt T variableEntry
 
--- facts: 1 it takes a subscript, 2 it was given data, 4, 8 and 12 it stands in a clause: shared, lastprivate, reduction
-abbrev pub classOf : ℕ → Class
-classOf zero = shared
-classOf (suc zero) = shared
-classOf (suc (suc zero)) = lastprivate
-classOf (suc (suc (suc n))) = reduction
-
 -- entry i stands for e
 pub record Row (T : List ℕ) (i : ℕ) (e : Entry) : Type 0 where
   pub name : nameAt T i ≡ e .name
@@ -98,7 +95,7 @@ pub record Row (T : List ℕ) (i : ℕ) (e : Entry) : Type 0 where
   pub size : sizeAt T i ≡ e .size
   pub subscripted : eqb (factsAt T i % 2) 1 ≡ e .subscripted
   pub given : eqb (factsAt T i / 2 % 2) 1 ≡ isGiven (e .given)
-  pub class : classOf (clauseAt T i) ≡ e .class
+  pub class : classAt T i ≡ class-number (e .class)
   pub short : length (e .name) ≤ nameWords
 
 -- the table stands for these names
@@ -110,9 +107,9 @@ pub record Tabled (T : List ℕ) (t : List Entry) : Type 0 where
   pub distinct : (i j : ℕ) → i < j → j < length t → same (getD t j nowhere .name) (getD t i nowhere .name) ≡ false
   pub bounded : (i : ℕ) → i < length t → getD t i nowhere .first + getD t i nowhere .size ≤ 4096
 
--- none of the first n names stands in a clause
+-- none of the first n names stands in a clause, and each is shared
 abbrev pub Unclaimed : List ℕ → ℕ → Type 0
-Unclaimed T n = (i : ℕ) → i < n → clauseAt T i ≡ 0
+Unclaimed T n = (i : ℕ) → i < n → factsAt T i < 4
 
 -- i is the first entry with the name w, of n entries; n where there is none
 pub record Found (T : List ℕ) (n : ℕ) (w : List ℕ) (i : ℕ) : Type 0 where
@@ -145,19 +142,16 @@ pub record Gave (T : List ℕ) (i : ℕ) (T′ : List ℕ) : Type 0 where
   pub table : (t : List Entry) (vs : List ℤ) → Tabled T t → i < length t → Tabled T′ (map (give-to (getD t i nowhere .name) vs) t)
   pub unclaimed : tableWords ≤ length T → (n : ℕ) → Unclaimed T n → Unclaimed T′ n
 
--- the entry with the name x stands in a clause for c
+-- the entry with the name x has the class c
 abbrev pub class-to : List ℕ → Class → Entry → Entry
-class-to x c e =
-    cond (named x e)
-    (record { name = e .name; first = e .first; subscripted = e .subscripted; size = e .size; class = c; given = e .given })
-    e
+class-to x c e = cond (named x e) (with-class c e) e
 
--- T′ is T with entry i in a clause
-pub record Classed (T : List ℕ) (i clause : ℕ) (T′ : List ℕ) : Type 0 where
+-- T′ is T with entry i in a clause, and with the class of that number
+pub record Classed (T : List ℕ) (i class : ℕ) (T′ : List ℕ) : Type 0 where
   pub variable : lengthAt T variableEntry ≤ nameWords → variableOf T′ ≡ variableOf T
-  pub here : tableWords ≤ length T → clauseAt T′ i ≡ clause
+  pub here : tableWords ≤ length T → isClaimed T′ i ≡ true
   pub others : (j : ℕ) → (j ≡ i → ⊥) → factsAt T′ j ≡ factsAt T j
-  pub table : (t : List Entry) → Tabled T t → i < length t → Tabled T′ (map (class-to (getD t i nowhere .name) (classOf clause)) t)
+  pub table : (t : List Entry) (k : Class) → class ≡ class-number k → Tabled T t → i < length t → Tabled T′ (map (class-to (getD t i nowhere .name) k) t)
 
 -- what is known of the name w
 pub record Knows (t : List Entry) (w : List ℕ) (r : Named) : Type 0 where
@@ -166,10 +160,10 @@ pub record Knows (t : List Entry) (w : List ℕ) (r : Named) : Type 0 where
   pub size : r .size ≡ find w t .size
   pub subscripted : r .subscripted ≡ find w t .subscripted
   pub given : r .given ≡ isGiven (find w t .given)
-  pub class : classOf (r .clause) ≡ find w t .class
+  pub class : r .class ≡ class-number (find w t .class)
 
 -- and where it stands
 pub record Stands (T : List ℕ) (t : List Entry) (w : List ℕ) (r : Named) : Type 0 where
   pub within : r .index < length t
   pub name : getD t (r .index) nowhere .name ≡ w
-  pub clause : r .clause ≡ clauseAt T (r .index)
+  pub claimed : r .claimed ≡ isClaimed T (r .index)

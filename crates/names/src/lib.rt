@@ -6,7 +6,7 @@ ghost use Prim.Native.Nat.{_≤_, _<_, _+_, _*_, _/_, _%_};
 ghost use lib.ListN.{length};
 ghost use Rattle.syntax.specs.Bytes.{same};
 ghost use Rattle.syntax.specs.Known.{Entry};
-ghost use Rattle.names.specs.Table.{nameWords, entryWords, mostNames, variableEntry, wordAt, lengthAt, firstAt, sizeAt, clauseAt, nameAt, Tabled, Found, Knows, Stands, Put, Added, Gave, Classed, countIn};
+ghost use Rattle.names.specs.Table.{nameWords, entryWords, mostNames, variableEntry, wordAt, lengthAt, firstAt, sizeAt, classAt, nameAt, Tabled, Found, Knows, Stands, Put, Added, Gave, Classed, countIn};
 
 // The layout, in words. Of an entry: the bytes of its name from 0 on, how many bytes, the first cell, how many cells, facts.
 const LENGTH: usize = 32;
@@ -30,14 +30,15 @@ pub const WORDS: usize = 613;
 
 pub type Table = [u32; WORDS];
 
-// What is known of a name: whether it is declared and where it stands in the table; whether it takes a subscript and was given data; the clause
-// it stands in (0 none, 1 shared, 2 lastprivate, 3 reduction); its first cell and how many it has.
+// What is known of a name: whether it is declared and where it stands in the table; whether it takes a subscript, was given data and stands in a
+// clause; the number of its class; its first cell and how many it has.
 pub struct Named {
     pub known: bool,
     pub index: usize,
     pub subscripted: bool,
     pub given: bool,
-    pub clause: u32,
+    pub claimed: bool,
+    pub class: u32,
     pub first: u32,
     pub size: u32,
 }
@@ -96,12 +97,12 @@ pub fn end_of(table: &Table, i: usize) -> usize
     sum(table[ENTRY * i + FIRST], table[ENTRY * i + SIZE])
 }
 
-// The clause that entry i stands in.
-pub fn clause_of(table: &Table, i: usize) -> u32
+// The number of the class of entry i.
+pub fn class_of(table: &Table, i: usize) -> u32
     requires { ⌜ i ≤ variableEntry ⌝ }
-    ensures { λ r. ⌜ r ≡ clauseAt (now (table .entry)) i ⌝ }
+    ensures { λ r. ⌜ r ≡ classAt (now (table .entry)) i ⌝ }
 {
-    table[ENTRY * i + FACTS] / 4
+    table[ENTRY * i + FACTS] / 8
 }
 
 // ---- names
@@ -153,7 +154,8 @@ fn position(table: &Table, w: &[u8]) -> usize
 // What is known of the name w.
 pub fn find(table: &Table, w: &[u8]) -> Named
     requires { ⌜ length (now w) ≤ nameWords ⌝ }
-    ensures { λ r. ⌜ (r .index ≤ mostNames) × ((t : List Entry) → Tabled (now (table .entry)) t → Knows t (now (w .entry)) r) × ((t : List Entry) → Tabled (now (table .entry)) t → r .known ≡ true → Stands (now (table .entry)) t (now (w .entry)) r) ⌝ }
+    ensures { λ r. ⌜ (r .index ≤ mostNames) × ((t : List Entry) → Tabled (now (table .entry)) t → Knows t (now (w .entry)) r)
+        × ((t : List Entry) → Tabled (now (table .entry)) t → r .known ≡ true → Stands (now (table .entry)) t (now (w .entry)) r) ⌝ }
 {
     let i = position(table, w);
     if count(table) <= i {
@@ -162,7 +164,8 @@ pub fn find(table: &Table, w: &[u8]) -> Named
             index: i,
             subscripted: false,
             given: false,
-            clause: 0,
+            claimed: false,
+            class: rules::SHARED,
             first: 0,
             size: 0,
         };
@@ -174,7 +177,8 @@ pub fn find(table: &Table, w: &[u8]) -> Named
         index: i,
         subscripted: facts % 2 == 1,
         given: facts / 2 % 2 == 1,
-        clause: facts / 4,
+        claimed: facts / 4 % 2 == 1,
+        class: facts / 8,
         first: table[base + FIRST],
         size: table[base + SIZE],
     }
@@ -227,11 +231,11 @@ pub fn give(table: &mut Table, i: usize)
     table[base + FACTS] = with_data(table[base + FACTS]);
 }
 
-// Entry i stands in a clause.
-pub fn classify(table: &mut Table, i: usize, clause: u32)
-    requires { ⌜ (i < mostNames) × (clause ≤ 3) ⌝ }
-    ensures { λ _. ⌜ Classed (now (table .entry)) i clause (now (table .exit)) ⌝ }
+// Entry i stands in a clause, and has the class of that number.
+pub fn classify(table: &mut Table, i: usize, class: u32)
+    requires { ⌜ (i < mostNames) × (class ≤ 2) ⌝ }
+    ensures { λ _. ⌜ Classed (now (table .entry)) i class (now (table .exit)) ⌝ }
 {
     let base = i * ENTRY;
-    table[base + FACTS] = clause * 4 + table[base + FACTS] % 4;
+    table[base + FACTS] = class * 8 + 4 + table[base + FACTS] % 4;
 }

@@ -16,8 +16,9 @@ use Rattle.rules.specs.Choose.{pick}
 use Rattle.rules.specs.ChooseLaws.{pick-same, pick-other}
 use Rattle.rules.specs.Loop.{Class}
 use Rattle.rules.specs.Log.{reads, writes, updates, access}
+use Rattle.rules.specs.Numbers.{class-number}
 use Rattle.shadow.specs.Tables.{Own, Tables, note}
-use Rattle.tables.specs.Layout.{row-at, own-at, class-number, bit, flags-of, RowHeld, Holds}
+use Rattle.tables.specs.Layout.{row-at, own-at, bit, flags-of, RowHeld, Holds}
 use Rattle.noting.specs.Changes.{Placed, one-more, read-noted, counted, written, updated}
 use Rattle.noting.proofs.Words.{read-length, read-met, read-exposed, read-other, counted-length, counted-other, counted-pairs, counted-cells, counted-touched, counted-placed, written-length, written-met, written-writers, written-flags, written-value, written-wrote, written-other, updated-length, updated-flags, updated-sum, updated-other}
 use Rattle.tables.proofs.Flags.{bit-most, flags-updated, pick-bit}
@@ -56,10 +57,12 @@ unless-is : {a m a′ m′ : ℕ} (g : ℕ) → a ≡ a′ → m ≡ m′ → pi
 unless-is {m′ = m′} g e h = rw (e, h, add-one g, add-one m′)
 
 -- one more cell unless it was updated or written
-cells-is : {f w m w′ m′ : ℕ} (k : Class) (cr up : Bool) → f ≡ flags-of k cr up → w ≡ w′ → m ≡ m′ → pick (f / 2 % 2) 1 m (pick w 0 (m + 1) m) ≡ cond up m′ (pick w′ 0 (suc m′) m′)
+cells-is : {f w m w′ m′ : ℕ} (k : Class) (cr up : Bool) → f ≡ flags-of k cr up → w ≡ w′ → m ≡ m′
+    → pick (f / 2 % 2) 1 m (pick w 0 (m + 1) m) ≡ cond up m′ (pick w′ 0 (suc m′) m′)
 cells-is {m′ = m′} k cr up e g h = rw (e, g, h, add-one m′, flags-updated k cr up) (pick-bit up _ _)
 
-module _ (n p : ℕ) (class : ℕ → Class) (entry : ℕ → ℤ) (W : List ℕ) (t : Tables) (h : Holds n p class entry W t) (γ π : ℕ → ℕ) (nought : ℤ) (i c : ℕ) (b : c < n) (a : π (γ i) < p) where
+module _ (n p : ℕ) (class : ℕ → Class) (entry : ℕ → ℤ) (W : List ℕ) (t : Tables) (h : Holds n p class entry W t) (γ π : ℕ → ℕ) (nought : ℤ) (i c : ℕ)
+    (b : c < n) (a : π (γ i) < p) where
   abbrev row : ℕ
   row = row-at p c
 
@@ -133,19 +136,26 @@ module _ (n p : ℕ) (class : ℕ → Class) (entry : ℕ → ℤ) (W : List ℕ
       (other row (omega arith) (omega arith) (omega arith) (omega arith) (omega arith) ∙ still row (omega arith) (omega arith))
       (written-met X row own g v placed-counted ∙ one-more-is g wrote exposed (still (row + 1) (omega arith) (omega arith) ∙ r .met))
       (written-writers X row own g v placed-counted ∙ unless-is g wrote (still (row + 2) (omega arith) (omega arith) ∙ r .writers))
-      (written-flags X row own g v placed-counted ∙ rw (exposed, flags, add-one g) (pick-flags (class c) (t .rows c .crossed) (t .rows c .updated) (o .exposed) (suc g)))
+      (written-flags X row own g v placed-counted
+      ∙ rw (exposed, flags, add-one g) (pick-flags (class c) (t .rows c .crossed) (t .rows c .updated) (o .exposed) (suc g)))
       (record {
         value = ap value (written-value X row own g v placed-counted) ∙ value-word v f;
         wrote = written-wrote X row own g v placed-counted ∙ add-one g;
         exposed = other (own + 2) (omega arith) (omega arith) (omega arith) (omega arith) (omega arith) ∙ exposed;
-        sum = ap value (other (own + 3) (omega arith) (omega arith) (omega arith) (omega arith) (omega arith) ∙ still (own + 3) (omega arith) (omega arith)) ∙ x .sum;
+        sum =
+            ap value
+            (other (own + 3) (omega arith) (omega arith) (omega arith) (omega arith) (omega arith) ∙ still (own + 3) (omega arith) (omega arith))
+            ∙ x .sum;
         touched = other (own + 4) (omega arith) (omega arith) (omega arith) (omega arith) (omega arith) ∙ counted-touched W row own i placed ∙ add-one i;
       })
       (λ j (y : row + 4 ≤ j) s.
-      other j (omega arith) (omega arith) (omega arith) (outside-other own s (omega arith) (omega arith)) (outside-other (own + 1) s (omega arith) (omega arith))
+      other j (omega arith) (omega arith) (omega arith) (outside-other own s (omega arith) (omega arith))
+      (outside-other (own + 1) s (omega arith) (omega arith))
       ∙ still j (omega arith) (outside-other (own + 4) s (omega arith) (omega arith))))
       (λ k (y : 2 ≤ k) s.
-      other k (outside-other (row + 1) s (omega arith) (omega arith)) (outside-other (row + 2) s (omega arith) (omega arith)) (outside-other (row + 3) s (omega arith) (omega arith)) (outside-other own s (omega arith) (omega arith)) (outside-other (own + 1) s (omega arith) (omega arith))
+      other k (outside-other (row + 1) s (omega arith) (omega arith)) (outside-other (row + 2) s (omega arith) (omega arith))
+      (outside-other (row + 3) s (omega arith) (omega arith)) (outside-other own s (omega arith) (omega arith))
+      (outside-other (own + 1) s (omega arith) (omega arith))
       ∙ still k (omega arith) (outside-other (own + 4) s (omega arith) (omega arith)))
       _ _
       (other 0 (omega arith) (omega arith) (omega arith) (omega arith) (omega arith) ∙ pairs-after)
@@ -168,10 +178,13 @@ module _ (n p : ℕ) (class : ℕ → Class) (entry : ℕ → ℤ) (W : List ℕ
         value = ap value (other own (omega arith) (omega arith) ∙ still own (omega arith) (omega arith)) ∙ x .value;
         wrote = other (own + 1) (omega arith) (omega arith) ∙ still (own + 1) (omega arith) (omega arith) ∙ x .wrote;
         exposed = other (own + 2) (omega arith) (omega arith) ∙ still (own + 2) (omega arith) (omega arith) ∙ x .exposed;
-        sum = ap value (updated-sum X row own v placed-counted) ∙ value-word _ (sum-fits v _) ∙ ap (sum v) (ap value (still (own + 3) (omega arith) (omega arith)) ∙ x .sum);
+        sum =
+            ap value (updated-sum X row own v placed-counted) ∙ value-word _ (sum-fits v _)
+            ∙ ap (sum v) (ap value (still (own + 3) (omega arith) (omega arith)) ∙ x .sum);
         touched = other (own + 4) (omega arith) (omega arith) ∙ counted-touched W row own i placed ∙ add-one i;
       })
-      (λ j (y : row + 4 ≤ j) s. other j (omega arith) (outside-other (own + 3) s (omega arith) (omega arith)) ∙ still j (omega arith) (outside-other (own + 4) s (omega arith) (omega arith))))
+      (λ j (y : row + 4 ≤ j) s. other j (omega arith) (outside-other (own + 3) s (omega arith) (omega arith))
+      ∙ still j (omega arith) (outside-other (own + 4) s (omega arith) (omega arith))))
       (λ k (y : 2 ≤ k) s.
       other k (outside-other (row + 3) s (omega arith) (omega arith)) (outside-other (own + 3) s (omega arith) (omega arith))
       ∙ still k (omega arith) (outside-other (own + 4) s (omega arith) (omega arith)))

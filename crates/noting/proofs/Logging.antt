@@ -11,17 +11,16 @@ use Rattle.rules.specs.Loop.{Loop, Partition}
 use Rattle.rules.specs.Log.{reads, writes, updates, Access, access, Log, only}
 use Rattle.rules.specs.Steps.{latest}
 use Rattle.rules.specs.Proper.{Proper}
-use Rattle.rules.proofs.TrialRun.{whose}
-use Rattle.shadow.specs.Tables.{tables, note}
-use Rattle.shadow.proofs.Change.{Latest}
-use Rattle.shadow.proofs.Counts.{Inside}
-use Rattle.shadow.proofs.Shows.{worker, table, Ascending, Shows}
+use Rattle.rules.specs.Owner.{whose}
+use Rattle.shadow.specs.Tables.{tables, note, table}
+use Rattle.shadow.specs.Orderly.{Latest, Inside, worker, Ascending}
+use Rattle.shadow.proofs.Shows.{Shows}
 use Rattle.shadow.proofs.Bounds.{tables-bounded}
 use Rattle.tables.specs.Layout.{row-at, own-at, Holds}
 use Rattle.noting.specs.Changes.{Ready, read-noted, counted, written, updated, own-seen}
 use Rattle.noting.proofs.Accesses.{holds-read, holds-write, holds-update}
 use Rattle.noting.proofs.Room.{ready}
-use Rattle.tables.proofs.Logged.{Logged}
+use Rattle.tables.specs.Logged.{Logged}
 use Rattle.noting.proofs.OwnValue.{own-value-held}
 
 -- cells are 32-bit numbers
@@ -33,20 +32,29 @@ module _ (l : Loop) (δ : Partition) (f : l .plus ≡ sum) where
     row = row-at (δ .processors) c
 
     -- the words X that go with p's own part
-    more : (e : Access) (X : ℕ → List ℕ) → Holds (l .size) (δ .processors) (l .class) (l .entry) (X (own-at row (worker l δ i))) (note (δ .group) (whose δ) sum (l .zero) e (table l δ g)) → Logged l δ (e ∷ g) (X (own-at row p))
+    more : (e : Access) (X : ℕ → List ℕ)
+        → Holds (l .size) (δ .processors) (l .class) (l .entry) (X (own-at row (worker l δ i)))
+        (note (δ .group) (whose δ) sum (l .zero) e (table l δ g))
+        → Logged l δ (e ∷ g) (X (own-at row p))
     unfolding tables
     more e X x =
         subst (λ (q : ℕ). Logged l δ (e ∷ g) (X (own-at row q))) w
-        (subst (λ (m : ℤ → ℤ → ℤ). Holds (l .size) (δ .processors) (l .class) (l .entry) (X (own-at row (worker l δ i))) (note (δ .group) (whose δ) m (l .zero) e (table l δ g))) (sym f) x)
+        (subst
+        (λ (m : ℤ → ℤ → ℤ). Holds (l .size) (δ .processors) (l .class) (l .entry) (X (own-at row (worker l δ i)))
+        (note (δ .group) (whose δ) m (l .zero) e (table l δ g)))
+        (sym f) x)
 
     pub logged-read : (v : ℤ) → Logged l δ (access reads i c v ∷ g) (read-noted W row (own-at row p) (δ .group i))
-    logged-read v = more (access reads i c v) (λ own. read-noted W row own (δ .group i)) (holds-read (l .size) (δ .processors) (l .class) (l .entry) W (table l δ g) h (δ .group) (whose δ) (l .zero) i c b a v)
+    logged-read v = more (access reads i c v) (λ own. read-noted W row own (δ .group i))
+        (holds-read (l .size) (δ .processors) (l .class) (l .entry) W (table l δ g) h (δ .group) (whose δ) (l .zero) i c b a v)
 
     pub logged-write : (v : ℤ) → SFits w32 v → Logged l δ (access writes i c v ∷ g) (written (counted W row (own-at row p) i) row (own-at row p) (δ .group i) v)
-    logged-write v s = more (access writes i c v) (λ own. written (counted W row own i) row own (δ .group i) v) (holds-write (l .size) (δ .processors) (l .class) (l .entry) W (table l δ g) h (δ .group) (whose δ) (l .zero) i c b a v s)
+    logged-write v s = more (access writes i c v) (λ own. written (counted W row own i) row own (δ .group i) v)
+        (holds-write (l .size) (δ .processors) (l .class) (l .entry) W (table l δ g) h (δ .group) (whose δ) (l .zero) i c b a v s)
 
     pub logged-update : (v : ℤ) → Logged l δ (access updates i c v ∷ g) (updated (counted W row (own-at row p) i) row (own-at row p) v)
-    logged-update v = more (access updates i c v) (λ own. updated (counted W row own i) row own v) (holds-update (l .size) (δ .processors) (l .class) (l .entry) W (table l δ g) h (δ .group) (whose δ) (l .zero) i c b a v)
+    logged-update v = more (access updates i c v) (λ own. updated (counted W row own i) row own v)
+        (holds-update (l .size) (δ .processors) (l .class) (l .entry) W (table l δ g) h (δ .group) (whose δ) (l .zero) i c b a v)
 
 -- ---- what is read off
 

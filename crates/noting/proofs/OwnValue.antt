@@ -13,7 +13,8 @@ use Rattle.shadow.specs.Tables.{Row, own-value}
 use Rattle.tables.specs.Layout.{own-at, RowHeld}
 use Rattle.noting.specs.Changes.{own-seen}
 
-pub own-value-held : (p : ℕ) (k : Class) (e : ℤ) (W : List ℕ) (row : ℕ) (r : Row) → RowHeld p k e W row r → (q g : ℕ) → q < p → own-seen W row (own-at row q) g ≡ Option·getD (own-value g (r .own q)) e
+pub own-value-held : (p : ℕ) (k : Class) (e : ℤ) (W : List ℕ) (row : ℕ) (r : Row) → RowHeld p k e W row r → (q g : ℕ) → q < p
+    → own-seen W row (own-at row q) g ≡ Option·getD (own-value g (r .own q)) e
 own-value-held p k e W row r x q g b =
     let o = x .own q b in
     rw (add-one g, o .wrote) (elim (ℕ-discrete (r .own q .wrote) (suc g)) [

@@ -12,7 +12,8 @@ use Rattle.noting.specs.Changes.{Ready}
 use Rattle.tables.proofs.Held.{rows-apart}
 
 -- "N to 4,096; P 1 to 8; n to 65,535"
-pub ready : (l : Loop) (δ : Partition) (p : ℕ) (class : ℕ → Class) (entry : ℕ → ℤ) (W : List ℕ) (t : Tables) → Holds (l .size) p class entry W t → Bounded l δ t → l .size ≤ 4096 → l .iterations ≤ 65535 → δ .groups ≤ 65535
+pub ready : (l : Loop) (δ : Partition) (p : ℕ) (class : ℕ → Class) (entry : ℕ → ℤ) (W : List ℕ) (t : Tables) → Holds (l .size) p class entry W t
+    → Bounded l δ t → l .size ≤ 4096 → l .iterations ≤ 65535 → δ .groups ≤ 65535
     → (c q : ℕ) → c < l .size → q < p → Ready W (row-at p c) (own-at (row-at p c) q)
 ready l δ p class entry W t h d s i g c q a b = record {
   placed = record { first = omega arith; apart = omega arith; inside = omega (arith, rows-apart p c (l .size) a, h .size) };

@@ -54,7 +54,8 @@ module _ (W : List ℕ) (row own i : ℕ) where
     unfolding counted
     counted-pairs = unset cells-set (own + 4) 0 _ (omega arith) ∙ unset pairs-set 1 0 _ (omega arith) ∙ hit W 0 _ (omega (arith, p .inside))
 
-    pub counted-cells : getD (counted W row own i) 1 0 ≡ pick (getD W (row + 3) 0 / 2 % 2) 1 (getD W 1 0) (pick (getD W (row + 2) 0) 0 (getD W 1 0 + 1) (getD W 1 0))
+    pub counted-cells : getD (counted W row own i) 1 0
+        ≡ pick (getD W (row + 3) 0 / 2 % 2) 1 (getD W 1 0) (pick (getD W (row + 2) 0) 0 (getD W 1 0 + 1) (getD W 1 0))
     unfolding counted
     counted-cells = unset cells-set (own + 4) 1 _ (omega arith) ∙ hit pairs-set 1 _ (simp length-set (omega (arith, p .inside)))
 
@@ -67,7 +68,8 @@ module _ (W : List ℕ) (row own i : ℕ) where
 
   -- then the cell's own words can be marked
   pub counted-ready : (g : ℕ) → Ready W row own → g < 4294967295
-      → (Placed (counted W row own i) row own) × (getD (counted W row own i) (row + 1) 0 < 4294967295) × (getD (counted W row own i) (row + 2) 0 < 4294967295) × (g < 4294967295)
+      → (Placed (counted W row own i) row own) × (getD (counted W row own i) (row + 1) 0 < 4294967295)
+      × (getD (counted W row own i) (row + 2) 0 < 4294967295) × (g < 4294967295)
   counted-ready g r h =
       let p = r .placed in
       let a = p .first in
@@ -130,9 +132,11 @@ module _ (W : List ℕ) (row own g : ℕ) (v : ℤ) (p : Placed W row own) where
   unfolding written row-written own-written
   written-wrote = hit write4 (own + 1) _ (simp length-set (omega (arith, p .inside)))
 
-  pub written-other : (k : ℕ) → (k ≡ row + 1 → ⊥) → (k ≡ row + 2 → ⊥) → (k ≡ row + 3 → ⊥) → (k ≡ own → ⊥) → (k ≡ own + 1 → ⊥) → getD (written W row own g v) k 0 ≡ getD W k 0
+  pub written-other : (k : ℕ) → (k ≡ row + 1 → ⊥) → (k ≡ row + 2 → ⊥) → (k ≡ row + 3 → ⊥) → (k ≡ own → ⊥) → (k ≡ own + 1 → ⊥)
+      → getD (written W row own g v) k 0 ≡ getD W k 0
   unfolding written row-written own-written
-  written-other k a b c d e = unset write4 (own + 1) k _ e ∙ unset write3 own k _ d ∙ unset write2 (row + 3) k _ c ∙ unset write1 (row + 2) k _ b ∙ unset W (row + 1) k _ a
+  written-other k a b c d e =
+      unset write4 (own + 1) k _ e ∙ unset write3 own k _ d ∙ unset write2 (row + 3) k _ c ∙ unset write1 (row + 2) k _ b ∙ unset W (row + 1) k _ a
 
 -- ---- an update
 

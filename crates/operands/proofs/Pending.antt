@@ -60,7 +60,8 @@ unfolding with1 pendings
 with1-taken a zero k h = absurd (omega arith)
 with1-taken a (suc d) k h = let e : suc d - 1 ≡ d = omega arith in rw e
 
-pub with2-taken : (a : List ℤ) (d : ℕ) (k : ℤ → ℤ → List ℤ → Act) → 2 ≤ d → with2 (pendings a d) k ≡ k (getD a (d - 2) (pos 0)) (getD a (d - 2 + 1) (pos 0)) (pendings a (d - 2))
+pub with2-taken : (a : List ℤ) (d : ℕ) (k : ℤ → ℤ → List ℤ → Act) → 2 ≤ d
+    → with2 (pendings a d) k ≡ k (getD a (d - 2) (pos 0)) (getD a (d - 2 + 1) (pos 0)) (pendings a (d - 2))
 unfolding with2 pendings
 with2-taken a zero k h = absurd (omega arith)
 with2-taken a (suc zero) k h = absurd (omega arith)

@@ -27,7 +27,8 @@ use Rattle.operands.proofs.Pending.{with2-taken}
 
 module _ (tree : (ℕ → List ℤ → Act) → Act) (place : ℕ) (a : List ℤ) (d : ℕ) (h : length a ≡ 32) where
   -- it makes a move
-  pub moves : (m : Move) → d + coming m ≤ 32 → {r : Performed} → r ≡ stopped place d m → ((go : ℕ → List ℤ → Act) → tree go ≡ left m (go place) (pendings a d)) → Performs tree place a r
+  pub moves : (m : Move) → d + coming m ≤ 32 → {r : Performed} → r ≡ stopped place d m
+      → ((go : ℕ → List ℤ → Act) → tree go ≡ left m (go place) (pendings a d)) → Performs tree place a r
   unfolding then
   moves m k e f = subst (Performs tree place a) (sym e) (record { meaning = f; size = h; room = k; forward = omega arith })
 
@@ -37,12 +38,14 @@ module _ (tree : (ℕ → List ℤ → Act) → Act) (place : ℕ) (a : List ℤ
   ends k e f = moves End (omega arith) e f
 
   -- it goes on at a place
-  pub goes : (p : ℕ) → d ≤ 32 → place ≤ p → {r : Performed} → r ≡ onward p d → ((go : ℕ → List ℤ → Act) → tree go ≡ go p (pendings a d)) → Performs tree place a r
+  pub goes : (p : ℕ) → d ≤ 32 → place ≤ p → {r : Performed} → r ≡ onward p d → ((go : ℕ → List ℤ → Act) → tree go ≡ go p (pendings a d))
+      → Performs tree place a r
   unfolding then
   goes p k f e g = subst (Performs tree place a) (sym e) (record { meaning = g; size = h; room = omega arith; forward = f })
 
   -- it leaves x on d values
-  pub pushes : (x : ℤ) (b : List ℤ) (n : ℕ) → d < 32 → Pushed a d x b n → {r : Performed} → r ≡ onward place n → ((go : ℕ → List ℤ → Act) → tree go ≡ go place (x ∷ pendings a d)) → Performs tree place b r
+  pub pushes : (x : ℤ) (b : List ℤ) (n : ℕ) → d < 32 → Pushed a d x b n → {r : Performed} → r ≡ onward place n
+      → ((go : ℕ → List ℤ → Act) → tree go ≡ go place (x ∷ pendings a d)) → Performs tree place b r
   unfolding then
   pushes x b n k p e f = subst (Performs tree place b) (sym e) (record {
     meaning = λ go. f go ∙ ap (go place) (sym (p .values));
@@ -52,20 +55,24 @@ module _ (tree : (ℕ → List ℤ → Act) → Act) (place : ℕ) (a : List ℤ
   })
 
 -- it does what another does
-pub like : {tree other : (ℕ → List ℤ → Act) → Act} (place : ℕ) (b : List ℤ) {r : Performed} → ((go : ℕ → List ℤ → Act) → tree go ≡ other go) → Performs other place b r → Performs tree place b r
+pub like : {tree other : (ℕ → List ℤ → Act) → Act} (place : ℕ) (b : List ℤ) {r : Performed} → ((go : ℕ → List ℤ → Act) → tree go ≡ other go)
+    → Performs other place b r → Performs tree place b r
 like place b e p = record { meaning = λ go. e go ∙ p .meaning go; size = p .size; room = p .room; forward = p .forward }
 
 -- ---- values through the machine's bits
 
 -- a result of two numbers that were read
-pub read2 : (f : ℤ → ℤ → ℤ) {x y r : ℤ} → SFits w32 x → SFits w32 y → SFits w32 (f x y) → r ≡ f (toZ w32 (ofZ w32 x)) (toZ w32 (ofZ w32 y)) → toZ w32 (ofZ w32 r) ≡ f x y
+pub read2 : (f : ℤ → ℤ → ℤ) {x y r : ℤ} → SFits w32 x → SFits w32 y → SFits w32 (f x y) → r ≡ f (toZ w32 (ofZ w32 x)) (toZ w32 (ofZ w32 y))
+    → toZ w32 (ofZ w32 r) ≡ f x y
 read2 f {x} {y} p q s e = landed (e ∙ (λ i. f (toZ-ofZ w32 x p i) (toZ-ofZ w32 y q i))) s
 
 -- ---- arithmetic
 
 -- two values replaced by one
-pub computes : (i : Instr) (f : ℤ → ℤ → ℤ) → ((on : List ℤ → Act) (past : ℕ → List ℤ → Act) (s : List ℤ) (v : ℤ) → perform i on past s v ≡ with2 s (λ x y t. on (f x y ∷ t)))
-    → (place depth : ℕ) (a b : List ℤ) (n : ℕ) (z v : ℤ) → Holding a depth → 2 ≤ depth → Pushed a (depth - 2) z b n → z ≡ f (getD a (depth - 2) (pos 0)) (getD a (depth - 2 + 1) (pos 0))
+pub computes : (i : Instr) (f : ℤ → ℤ → ℤ)
+    → ((on : List ℤ → Act) (past : ℕ → List ℤ → Act) (s : List ℤ) (v : ℤ) → perform i on past s v ≡ with2 s (λ x y t. on (f x y ∷ t)))
+    → (place depth : ℕ) (a b : List ℤ) (n : ℕ) (z v : ℤ) → Holding a depth → 2 ≤ depth → Pushed a (depth - 2) z b n
+    → z ≡ f (getD a (depth - 2) (pos 0)) (getD a (depth - 2 + 1) (pos 0))
     → {r : Performed} → r ≡ onward place n → Performs (does i place depth a v) place b r
 computes i f m place depth a b n z v h k p e o =
     pushes (does i place depth a v) place a (depth - 2) (h .size) z b n (omega (arith, h .most)) p o
@@ -81,7 +88,8 @@ divides-by line f x y k = go (same y (pos 0))
     go false = refl
 
 -- the quotient of the two values from d on
-pub settles : (tree : (ℕ → List ℤ → Act) → Act) (place d line : ℕ) (a b : List ℤ) {r : Performed} {q : Divided} (f : ℤ → ℤ → ℤ) {x y : ℤ} → SFits w32 x → SFits w32 y
+pub settles : (tree : (ℕ → List ℤ → Act) → Act) (place d line : ℕ) (a b : List ℤ) {r : Performed} {q : Divided} (f : ℤ → ℤ → ℤ) {x y : ℤ}
+    → SFits w32 x → SFits w32 y
     → q ≡ divided f (toZ w32 (ofZ w32 x)) (toZ w32 (ofZ w32 y)) → Performs (λ go. with-quotient q line (λ z. go place (z ∷ pendings a d))) place b r
     → ((go : ℕ → List ℤ → Act) → tree go ≡ divides line f x y (λ z. go place (z ∷ pendings a d))) → Performs tree place b r
 settles tree place d line a b {r} {q} f {x} {y} p o e m t =
@@ -89,12 +97,14 @@ settles tree place d line a b {r} {q} f {x} {y} p o e m t =
     like place b (λ go. t go ∙ divides-by line f x y _ ∙ ap (λ (u : Divided). with-quotient u line (λ z. go place (z ∷ pendings a d))) g) m
 
 -- a branch, by the relation of its number
-pub branches : (n : ℕ) (t u : Act) {o : Relation} {x y : ℤ} {b : Bool} → SFits w32 x → SFits w32 y → o ≡ relation-of n → related o (toZ w32 (ofZ w32 x)) (toZ w32 (ofZ w32 y)) ≡ b
+pub branches : (n : ℕ) (t u : Act) {o : Relation} {x y : ℤ} {b : Bool} → SFits w32 x → SFits w32 y → o ≡ relation-of n
+    → related o (toZ w32 (ofZ w32 x)) (toZ w32 (ofZ w32 y)) ≡ b
     → cond (related (relation-of n) x y) t u ≡ cond b t u
 branches n t u {x = x} {y = y} p q e h = ap (λ (c : Bool). cond c t u) ((λ i. related (sym e i) (sym (toZ-ofZ w32 x p) i) (sym (toZ-ofZ w32 y q) i)) ∙ h)
 
 -- ---- one of two words
 
 -- the words' instruction
-pub performs-as : {i j : Instr} (place d : ℕ) (a b : List ℤ) (v : ℤ) {r : Performed} → j ≡ i → Performs (does i place d a v) place b r → Performs (does j place d a v) place b r
+pub performs-as : {i j : Instr} (place d : ℕ) (a b : List ℤ) (v : ℤ) {r : Performed} → j ≡ i → Performs (does i place d a v) place b r
+    → Performs (does j place d a v) place b r
 performs-as place d a b v {r} e p = subst (λ (k : Instr). Performs (does k place d a v) place b r) (sym e) p

@@ -19,7 +19,8 @@ module _ (s : Served) (M : List ℤ) (W : List ℕ) (W′ : List ℕ) where
   unfolding ConcludesBy
   concluded-finished a b e w = subst (λ (x : Served). ConcludesBy x M W (Rerun a b) M W′) (sym e) (refl, refl, w)
 
-  pub concluded-faulted : (n t : ℕ) (v u : ℤ) (M′ : List ℤ) → s ≡ Faulted n t v → u ≡ v → Restores 1 M W M′ → W′ ≡ replicate (length W) 0 → ConcludesBy s M W (Failed n t u) M′ W′
+  pub concluded-faulted : (n t : ℕ) (v u : ℤ) (M′ : List ℤ) → s ≡ Faulted n t v → u ≡ v → Restores 1 M W M′ → W′ ≡ replicate (length W) 0
+      → ConcludesBy s M W (Failed n t u) M′ W′
   unfolding ConcludesBy
   concluded-faulted n t v u M′ e eu h w = subst (λ (x : Served). ConcludesBy x M W (Failed n t u) M′ W′) (sym e) (ap (λ (y : ℤ). Failed n t y) eu, h, w)
 

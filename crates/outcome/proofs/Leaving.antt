@@ -9,7 +9,8 @@ use lib.IntN.{ℤ}
 use Rattle.rules.specs.Loop.{Loop, Partition}
 use Rattle.rules.specs.Blocks.{singles}
 use Rattle.rules.specs.Steps.{State, Stopped}
-use Rattle.shadow.proofs.Shows.{table, Shows, tables-right}
+use Rattle.shadow.proofs.Shows.{Shows, tables-right}
+use Rattle.shadow.specs.Tables.{table}
 use Rattle.findings.proofs.Logged.{logged-pairs, logged-cells, logged-marks, logged-obstacle}
 use Rattle.trial.specs.declared.Worker.{Worker}
 use Rattle.trial.specs.declared.Setting.{Setting}
@@ -38,8 +39,11 @@ module _ (code : List ℕ) (g : Setting) (l : Loop) (M : List ℤ) (W : List ℕ
       from : 0 < getD ws q nobody .fault → Stopped δ s q
       from y =
           let t = run-turn code g l M W ws s q r b in
-          let lt = r .halted q b y in
-          (lt, is-fault (s .places q .act) (getD ws q nobody .fault) (getD ws q nobody .line) (turn-fault code g l M W s q (getD ws q nobody) t (omega arith) lt))
+          let lt = r .halted q b y in (
+            lt,
+            is-fault (s .places q .act) (getD ws q nobody .fault) (getD ws q nobody .line)
+                (turn-fault code g l M W s q (getD ws q nobody) t (omega arith) lt),
+          )
 
   pub run-leaves : Leaves code g l s M W ws
   unfolding singles

@@ -16,13 +16,13 @@ use Rattle.rules.specs.Loop.{Act, fault, Loop, Partition}
 use Rattle.rules.specs.Blocks.{singles}
 use Rattle.rules.specs.Log.{only}
 use Rattle.rules.specs.Obstacles.{ObstacleAt, Obstructed}
-use Rattle.rules.specs.Merge.{pairs, written-cells}
 use Rattle.rules.specs.Steps.{State, Faulty, IsFault}
-use Rattle.shadow.proofs.Shows.{table, Shows, tables-right, obstructed-right}
-use Rattle.tables.specs.Layout.{row-at, pairs-word, cells-word, entry-word}
+use Rattle.shadow.proofs.Shows.{Shows, tables-right, obstructed-right}
+use Rattle.shadow.specs.Tables.{table}
+use Rattle.tables.specs.Layout.{row-at, entry-word}
 use Rattle.findings.specs.Findings.{blocked-of}
 use Rattle.tables.proofs.Held.{rows-apart}
-use Rattle.findings.proofs.Logged.{logged-obstacle, logged-merged, logged-entry, logged-pairs, logged-cells}
+use Rattle.findings.proofs.Logged.{logged-obstacle, logged-merged, logged-entry}
 use Rattle.trial.specs.declared.Worker.{Worker}
 use Rattle.trial.specs.declared.Setting.{Setting}
 use Rattle.trial.specs.Standing.{dealt, Standing, Kept}
@@ -48,11 +48,15 @@ pub set-more : (f : ℕ → ℤ) (M₀ : List ℤ) (c : ℕ) (M : List ℤ) → 
 unfolding cellOf
 set-more f M₀ c M h b = record {
   size = simp length-set (h .size);
-  done = λ j d. elim (ℕ-discrete j c) [ yes e ↦ rw e (getD-set-same M c (f c) (pos 0) b) | no n ↦ getD-set-other M c j (f c) (pos 0) n ∙ h .done j (omega arith) ];
+  done = λ j d. elim (ℕ-discrete j c) [
+    | yes e ↦ rw e (getD-set-same M c (f c) (pos 0) b)
+    | no n ↦ getD-set-other M c j (f c) (pos 0) n ∙ h .done j (omega arith)
+  ];
   rest = λ j d. getD-set-other M c j (f c) (pos 0) (omega arith) ∙ h .rest j (omega arith);
 }
 
-pub set-all : (f : ℕ → ℤ) (M₀ : List ℤ) (c : ℕ) (M : List ℤ) → Setting-to f M₀ c M → c ≡ length M₀ → (g : ℕ → ℤ) → ((j : ℕ) → j < length M₀ → f j ≡ g j) → M ≡ listed (length M₀) g
+pub set-all : (f : ℕ → ℤ) (M₀ : List ℤ) (c : ℕ) (M : List ℤ) → Setting-to f M₀ c M → c ≡ length M₀ → (g : ℕ → ℤ)
+    → ((j : ℕ) → j < length M₀ → f j ≡ g j) → M ≡ listed (length M₀) g
 set-all f M₀ c M h e g k =
     sym (listed-cells M)
     ∙ ap (λ (n : ℕ). listed n (cellOf M)) (h .size)
@@ -70,13 +74,6 @@ module _ (k : ℕ) (l : Loop) (M : List ℤ) (W : List ℕ) (s : State) (h : Sta
 
   shows : Shows l δ (s .log) (table l δ (s .log))
   shows = tables-right l δ (h .suits .proper) (s .log) (h .orderly .inside) (h .orderly .ascending)
-
-  -- both write counts
-  pub standing-pairs : pairs-word W ≡ pairs l (s .log)
-  standing-pairs = logged-pairs l δ (s .log) W (h .words) shows
-
-  pub standing-cells : cells-word W ≡ written-cells l (s .log)
-  standing-cells = logged-cells l δ (s .log) W (h .words) shows
 
   -- a cell's obstacle
   pub standing-obstacle : (c : ℕ) → c < length M → ObstacleAt (l .class c) (λ i. only (δ .group) i (s .log)) c ↔ (blocked-at W k c ≡ true)
@@ -108,9 +105,6 @@ module _ (k : ℕ) (l : Loop) (M : List ℤ) (W : List ℕ) (s : State) (h : Sta
 
 -- the values at entry
 module _ (k : ℕ) (l : Loop) (M : List ℤ) (W : List ℕ) (h : Kept k l M W) where
-  pub kept-low : (c : ℕ) → c < length M → (c ≤ 4096) × (k ≤ 8)
-  kept-low c b = let u = h .suits in (omega (arith, h .size, u .cells-most), u .most)
-
   pub kept-room : (c : ℕ) → c < length M → row-at k c < length W
   unfolding singles
   kept-room c b = omega (arith, h .words .size, rows-apart k c (l .size) (omega (arith, h .size)))
@@ -125,7 +119,8 @@ pub is-fault : (a : Act) (n t : ℕ) → a ≡ fault n t → IsFault a
 is-fault a n t e = rw e tt
 
 -- after the end, a fault in the records is a fault met
-pub fails-right : (code : List ℕ) (g : Setting) (l : Loop) (M : List ℤ) (W : List ℕ) (ws : List Worker) (s : State) → Run code g l M W ws s → AllOver g ws → (r : Bool) → Fails (g .processors) ws r → Faulty (dealt l (g .processors)) s ↔ (r ≡ true)
+pub fails-right : (code : List ℕ) (g : Setting) (l : Loop) (M : List ℤ) (W : List ℕ) (ws : List Worker) (s : State) → Run code g l M W ws s
+    → AllOver g ws → (r : Bool) → Fails (g .processors) ws r → Faulty (dealt l (g .processors)) s ↔ (r ≡ true)
 unfolding singles
 fails-right code g l M W ws s u o r f = (to r refl, from)
   where
@@ -143,5 +138,12 @@ fails-right code g l M W ws s u o r f = (to r refl, from)
     from e =
         let (q, b, y) = f .some e in
         let t = run-turn code g l M W ws s q u b in
-        let lt = u .halted q b y in
-        (q, b, (lt, is-fault (s .places q .act) (getD ws q nobody .fault) (getD ws q nobody .line) (turn-fault code g l M W s q (getD ws q nobody) t (omega arith) lt)))
+        let lt = u .halted q b y in (
+          q,
+          b,
+          (
+            lt,
+            is-fault (s .places q .act) (getD ws q nobody .fault) (getD ws q nobody .line)
+                (turn-fault code g l M W s q (getD ws q nobody) t (omega arith) lt),
+          ),
+        )

@@ -26,11 +26,14 @@ use Rattle.trial.specs.Running.{Held, nobody}
 pub record Leaves (code : List ℕ) (g : Setting) (l : Loop) (s : State) (M : List ℤ) (W : List ℕ) (ws : List Worker) : Type 0 where
   pub cells : M ≡ listed (l .size) (s .cells)
   -- what each processor wrote last, and what it added
-  pub private : (c q : ℕ) → c < l .size → q < g .processors → private-of W (own-at (row-at (g .processors) c) q) ≡ written c (block (dealt l (g .processors)) q (s .log))
-  pub sums : (c q : ℕ) → c < l .size → q < g .processors → value (sum-word W (own-at (row-at (g .processors) c) q)) ≡ total l c (block (dealt l (g .processors)) q (s .log))
+  pub private : (c q : ℕ) → c < l .size → q < g .processors
+      → private-of W (own-at (row-at (g .processors) c) q) ≡ written c (block (dealt l (g .processors)) q (s .log))
+  pub sums : (c q : ℕ) → c < l .size → q < g .processors
+      → value (sum-word W (own-at (row-at (g .processors) c) q)) ≡ total l c (block (dealt l (g .processors)) q (s .log))
   pub marked : (c : ℕ) → c < l .size → marks-of W (row-at (g .processors) c) ≡ marks (dealt l (g .processors) .group) c (s .log)
   pub records : (q : ℕ) → q < g .processors → Held code g l (getD ws q nobody) (s .places q)
   pub pair-count : pairs-word W ≡ pairs l (s .log)
   pub cell-count : cells-word W ≡ written-cells l (s .log)
   pub faults : (q : ℕ) → q < g .processors → Stopped (dealt l (g .processors)) s q ↔ (0 < getD ws q nobody .fault)
-  pub obstacles : (c : ℕ) → c < l .size → ObstacleAt (l .class c) (λ i. only (dealt l (g .processors) .group) i (s .log)) c ↔ (blocked-of W (row-at (g .processors) c) ≡ true)
+  pub obstacles : (c : ℕ) → c < l .size
+      → ObstacleAt (l .class c) (λ i. only (dealt l (g .processors) .group) i (s .log)) c ↔ (blocked-of W (row-at (g .processors) c) ≡ true)

@@ -10,25 +10,16 @@ use lib.Seq.{sets}
 use Rattle.syntax.specs.Known.{Entry}
 use Rattle.syntax.specs.Conditions.{Mention}
 use Rattle.syntax.specs.Reader.{Parsed, broken, done, next, skip-in}
-use Rattle.code.specs.Instr.{Instr, negate, operation, argument, words}
+use Rattle.code.specs.Instr.{Instr, words}
 use Rattle.code.specs.Compile.{codeLead}
 use Rattle.parts.specs.Answer.{worst, Reads}
-use Rattle.lexer.specs.Places.{leadOf}
-use Rattle.parts.specs.Parts.{stands, Sealed, unread, other, closes, Emits}
+use Rattle.parts.specs.Parts.{stands, leadBy, Sealed, unread, other, closes, Emits}
+use Rattle.parts.specs.declared.Joint.{Joint}
+use Rattle.code.proofs.Words.{words-append, words-length}
 use Rattle.parts.specs.declared.Got.{Got}
 use Rattle.parts.specs.declared.Got.the-variants.{Broken, Done}
 
--- ---- words, ranks and stores
-
-pub words-append : (is js : List Instr) → words (is ++ js) ≡ words is ++ words js
-unfolding words
-words-append [] js = refl
-words-append (i ∷ is) js = ap (λ (ws : List ℕ). operation i ∷ argument i ∷ ws) (words-append is js)
-
-pub words-length : (is : List Instr) → length (words is) ≡ 2 * length is
-unfolding words
-words-length [] = refl
-words-length (i ∷ is) = omega (arith, words-length is)
+-- ---- ranks and stores
 
 pub worst-append : (t : List Entry) (v : List ℕ) (ms ns : List Mention) → worst t v (ms ++ ns) ≡ max (worst t v ms) (worst t v ns)
 unfolding worst
@@ -73,7 +64,8 @@ module _ {place most : ℕ} {b : List ℕ} {is : List Instr} {k p q : ℕ} {m : 
 
 module _ {C : Type 0} (c : C → List Instr) (k : C → ℕ) (s : List ℕ) (place most : ℕ) (b a : List ℕ) (r : Got) where
   -- what is read, and the place after it
-  pub reads-done : {n p q : ℕ} {is : List Instr} {j : ℕ} (z : C) → n ≤ length s → Since place most b is j p q a → c z ≡ is → k z ≡ j → r ≡ Done n p q → Reads c k s (done z (drop n s)) place most b a r
+  pub reads-done : {n p q : ℕ} {is : List Instr} {j : ℕ} (z : C) → n ≤ length s → Since place most b is j p q a → c z ≡ is → k z ≡ j → r ≡ Done n p q
+      → Reads c k s (done z (drop n s)) place most b a r
   unfolding Reads
   reads-done {n} z h so ec ek er =
       let e : length s - length (drop n s) ≡ n = omega (arith, length-drop n s) in (
@@ -83,9 +75,11 @@ module _ {C : Type 0} (c : C → List Instr) (k : C → ℕ) (s : List ℕ) (pla
       )
 
   -- a reader, and what comes after it: where the reader stopped, its instructions and its rank are added to those before it
-  pub reads-next : {B : Type 0} (c₁ : B → List Instr) (k₁ : B → ℕ) (P : Parsed (List ℕ) B) (K : B → List ℕ → Parsed (List ℕ) C) {is : List Instr} {j p q : ℕ} {m : List ℕ} (m′ : List ℕ) (g : Got)
+  pub reads-next : {B : Type 0} (c₁ : B → List Instr) (k₁ : B → ℕ) (P : Parsed (List ℕ) B) (K : B → List ℕ → Parsed (List ℕ) C) {is : List Instr}
+      {j p q : ℕ} {m : List ℕ} (m′ : List ℕ) (g : Got)
       → Since place most b is j p q m → Reads c₁ k₁ s P p q m m′ g
-      → ((y : B) (n p′ q′ : ℕ) → n ≤ length s → g ≡ Done n p′ q′ → Since place most b (is ++ c₁ y) (max j (k₁ y)) p′ q′ m′ → Reads c k s (K y (drop n s)) place most b a r)
+      → ((y : B) (n p′ q′ : ℕ) → n ≤ length s → g ≡ Done n p′ q′ → Since place most b (is ++ c₁ y) (max j (k₁ y)) p′ q′ m′
+      → Reads c k s (K y (drop n s)) place most b a r)
       → (g ≡ Broken → r ≡ Broken) → Reads c k s (next P K) place most b a r
   unfolding Reads
   reads-next c₁ k₁ broken K m′ g so h go stop = stop h
@@ -108,7 +102,8 @@ sealed-broken (closes h k) e = absurd (let z : _≡_ {A = ℕ} 0 1 = cc in omega
 
 -- what an answer tells of what was read
 module _ {A : Type 0} (c : A → List Instr) (k : A → ℕ) (s : List ℕ) (place most : ℕ) (b a : List ℕ) (r : Got) where
-  pub read-done : (P : Parsed (List ℕ) A) (n p q : ℕ) → Reads c k s P place most b a r → r ≡ Done n p q → (x : A) × (P ≡ done x (drop n s)) × Since place most b (c x) (k x) p q a
+  pub read-done : (P : Parsed (List ℕ) A) (n p q : ℕ) → Reads c k s P place most b a r → r ≡ Done n p q
+      → (x : A) × (P ≡ done x (drop n s)) × Since place most b (c x) (k x) p q a
   unfolding Reads
   read-done broken n p q h e = absurd (let z : _≡_ {A = ℕ} 0 1 = cc in omega arith)
   read-done (done x u) n p q h e =
@@ -123,9 +118,12 @@ module _ {A : Type 0} (c : A → List Instr) (k : A → ℕ) (s : List ℕ) (pla
   read-broken (done x u) h e = absurd (let z : _≡_ {A = ℕ} 0 1 = cc (h .1) in omega arith)
 
 -- a reader and a sign, and what comes after them
-pub reads-sealed : {B C : Type 0} (c : C → List Instr) (k : C → ℕ) (s : List ℕ) (place most : ℕ) (b a : List ℕ) (r : Got) (c₁ : B → List Instr) (k₁ : B → ℕ) (P : Parsed (List ℕ) B) (K : B → List ℕ → Parsed (List ℕ) C)
-    {is : List Instr} {j p q : ℕ} {m : List ℕ} (m′ : List ℕ) (g : Got) {g′ : Got} {ch : ℕ} → Since place most b is j p q m → Reads c₁ k₁ s P p q m m′ g → Sealed ch s g g′
-    → ((y : B) (n p′ q′ : ℕ) → n ≤ length s → g′ ≡ Done n p′ q′ → Since place most b (is ++ c₁ y) (max j (k₁ y)) p′ q′ m′ → Reads c k s (K y (drop n s)) place most b a r)
+pub reads-sealed : {B C : Type 0} (c : C → List Instr) (k : C → ℕ) (s : List ℕ) (place most : ℕ) (b a : List ℕ) (r : Got) (c₁ : B → List Instr)
+    (k₁ : B → ℕ) (P : Parsed (List ℕ) B) (K : B → List ℕ → Parsed (List ℕ) C)
+    {is : List Instr} {j p q : ℕ} {m : List ℕ} (m′ : List ℕ) (g : Got) {g′ : Got} {ch : ℕ} → Since place most b is j p q m
+    → Reads c₁ k₁ s P p q m m′ g → Sealed ch s g g′
+    → ((y : B) (n p′ q′ : ℕ) → n ≤ length s → g′ ≡ Done n p′ q′ → Since place most b (is ++ c₁ y) (max j (k₁ y)) p′ q′ m′
+    → Reads c k s (K y (drop n s)) place most b a r)
     → (g′ ≡ Broken → r ≡ Broken) → Reads c k s (next P (λ y u. next (cond (stands ch u) (done (tt {0}) (skip-in u)) broken) (λ _. K y))) place most b a r
 reads-sealed c k s place most b a r c₁ k₁ P K m′ g {g′} {ch} so h se go stop =
     reads-next c k s place most b a r c₁ k₁ P (λ y u. next (cond (stands ch u) (done (tt {0}) (skip-in u)) broken) (λ _. K y)) m′ g so h
@@ -144,7 +142,8 @@ pub emits-done : (k : ℕ) (ws : List ℕ) (g : Got) (m a : List ℕ) (n p d : �
 unfolding Emits
 emits-done k ws g m a n p d e h = subst (λ (x : Got). Emits k ws x m a (Done n (p + k) d)) (sym e) (refl, h)
 
-pub done-emits : (k : ℕ) (ws : List ℕ) (g : Got) (m a : List ℕ) (r : Got) (n p d : ℕ) → Emits k ws g m a r → g ≡ Done n p d → (r ≡ Done n (p + k) d) × (a ≡ sets m (2 * p) ws)
+pub done-emits : (k : ℕ) (ws : List ℕ) (g : Got) (m a : List ℕ) (r : Got) (n p d : ℕ) → Emits k ws g m a r → g ≡ Done n p d
+    → (r ≡ Done n (p + k) d) × (a ≡ sets m (2 * p) ws)
 unfolding Emits
 done-emits k ws g m a r n p d h e = subst (λ (x : Got). Emits k ws x m a r) e h
 
@@ -153,31 +152,25 @@ unfolding Emits
 emits-none Broken m = refl
 emits-none (Done n p q) m = (ap (λ (i : ℕ). Done n i q) (sym (add-zero p)), refl)
 
--- a leading minus is one instruction, and any other lead none
-pub emits-lead : (sign : ℕ) (g : Got) (m : List ℕ) → sign < 2 → Emits (length (codeLead (leadOf sign))) (words (codeLead (leadOf sign))) g m m g
-unfolding words
-emits-lead zero g m h = emits-none g m
-emits-lead (suc zero) g m h = emits-none g m
-emits-lead (suc (suc n)) g m h = absurd (omega arith)
-
-pub lead-minus : (sign : ℕ) → 2 ≤ sign → codeLead (leadOf sign) ≡ negate ∷ []
-lead-minus zero h = absurd (omega arith)
-lead-minus (suc zero) h = absurd (omega arith)
-lead-minus (suc (suc n)) h = refl
-
-pub emits-minus : (sign : ℕ) (g : Got) (m a : List ℕ) (r : Got) → 2 ≤ sign → Emits 1 (7 ∷ 0 ∷ []) g m a r → Emits (length (codeLead (leadOf sign))) (words (codeLead (leadOf sign))) g m a r
-unfolding words
-emits-minus sign g m a r h k = subst (λ (is : List Instr). Emits (length is) (words is) g m a r) (sym (lead-minus sign h)) k
+-- the instruction of a lead, or none, by which lead it is
+pub emits-lead : {j k : Joint} (g : Got) (m a : List ℕ) (r : Got) → j ≡ k → Emits (length (codeLead (leadBy k))) (words (codeLead (leadBy k))) g m a r
+    → Emits (length (codeLead (leadBy j))) (words (codeLead (leadBy j))) g m a r
+emits-lead g m a r e = subst (λ (i : Joint). Emits (length (codeLead (leadBy i))) (words (codeLead (leadBy i))) g m a r) (sym e)
 
 -- the same under another name
-pub reads-as : {A B : Type 0} (c : A → List Instr) (k : A → ℕ) (c′ : B → List Instr) (k′ : B → ℕ) (s : List ℕ) (place most : ℕ) (b a : List ℕ) (r : Got) (x : A) (y : B) (u : List ℕ)
+pub reads-as : {A B : Type 0} (c : A → List Instr) (k : A → ℕ) (c′ : B → List Instr) (k′ : B → ℕ) (s : List ℕ) (place most : ℕ) (b a : List ℕ)
+    (r : Got) (x : A) (y : B) (u : List ℕ)
     → c′ y ≡ c x → k′ y ≡ k x → Reads c k s (done x u) place most b a r → Reads c′ k′ s (done y u) place most b a r
 unfolding Reads
-reads-as c k c′ k′ s place most b a r x y u ec ek h =
-    (h .0, h .1 ∙ (λ i. Done (length s - length u) (place + length (sym ec i)) (max most (sym ek i))), h .2 ∙ ap (λ (l : List Instr). sets b (2 * place) (words l)) (sym ec))
+reads-as c k c′ k′ s place most b a r x y u ec ek h = (
+  h .0,
+  h .1 ∙ (λ i. Done (length s - length u) (place + length (sym ec i)) (max most (sym ek i))),
+  h .2 ∙ ap (λ (l : List Instr). sets b (2 * place) (words l)) (sym ec),
+)
 
 -- two readers, with instructions after the first
-module _ {A B C : Type 0} (c₁ : A → List Instr) (k₁ : A → ℕ) (c₂ : B → List Instr) (k₂ : B → ℕ) (c : C → List Instr) (k : C → ℕ) (mk : A → B → C) (js : List Instr)
+module _ {A B C : Type 0} (c₁ : A → List Instr) (k₁ : A → ℕ) (c₂ : B → List Instr) (k₂ : B → ℕ) (c : C → List Instr) (k : C → ℕ) (mk : A → B → C)
+    (js : List Instr)
     (hc : (x : A) (y : B) → c (mk x y) ≡ (c₁ x ++ js) ++ c₂ y) (hk : (x : A) (y : B) → k (mk x y) ≡ max (k₁ x) (k₂ y)) where
   pub in-turn : (s : List ℕ) (place most : ℕ) (b m m′ a : List ℕ) (g g′ r : Got) (P : Parsed (List ℕ) A) (Q : List ℕ → Parsed (List ℕ) B)
       → Reads c₁ k₁ s P place most b m g → Emits (length js) (words js) g m m′ g′

@@ -14,7 +14,7 @@ use Rattle.syntax.specs.Conditions.{refers}
 use Rattle.syntax.specs.Reader.{done, skip-in}
 use Rattle.code.specs.Instr.{Instr, push, words}
 use Rattle.lexer.specs.declared.Tok.{Tok}
-use Rattle.lexer.specs.Lex.{part, Lexed}
+use Rattle.lexer.specs.Lex.{kind-number, part, Lexed}
 use Rattle.names.specs.Table.{variableOf, Tabled}
 use Rattle.parts.specs.Answer.{rank-of, Reads, Within}
 use Rattle.parts.specs.Parts.{textAt, Emits, Ranked, readsOf, Fetches, pushes, literalRank, Pushes, Loads}
@@ -36,10 +36,10 @@ limited m n e = elim (decLe m 2147483647) [
 ]
 
 module _ {s : List ℕ} {at : ℕ} {t : Tok} (l : Lexed s at t) where
-  token-within : (t .kind ≡ 0 → ⊥) → (place q : ℕ) (r : Got) → r ≡ Done (t .stop) (place + 1) q → Within s at place (suc at) r
+  token-within : (kind-number (t .kind) ≡ 0 → ⊥) → (place q : ℕ) (r : Got) → r ≡ Done (t .stop) (place + 1) q → Within s at place (suc at) r
   unfolding Within
   token-within n place q r e =
-      let lt = l .some n in
+      let lt = l .some (λ z. n (ap kind-number z)) in
       subst (Within s at place (suc at)) (sym e) (omega (arith, l .from), l .within, omega (arith, l .from))
 
   -- what is read is one token
@@ -48,7 +48,8 @@ module _ {s : List ℕ} {at : ℕ} {t : Tok} (l : Lexed s at t) where
   reads-token c k place most b a r z so ec ek er =
       subst (λ (u : List ℕ). Reads c k s (done z u) place most b a r) (sym (l .next)) (reads-done c k s place most b a r z (l .within) so ec ek er)
 
-  pub literal-pushes : (t .kind ≡ 0 → ⊥) → (place most n q : ℕ) (b a : List ℕ) (r : Got) → n ≡ min (number (part s (t .start) (t .stop))) 2147483648 → q ≡ max most (cond (leb n 2147483647) 0 1)
+  pub literal-pushes : (kind-number (t .kind) ≡ 0 → ⊥) → (place most n q : ℕ) (b a : List ℕ) (r : Got)
+      → n ≡ min (number (part s (t .start) (t .stop))) 2147483648 → q ≡ max most (cond (leb n 2147483647) 0 1)
       → Emits 1 (0 ∷ n ∷ []) (Done (t .stop) place q) b a r → Pushes s at place most b a r
   unfolding words Emits
   literal-pushes nz place most n q b a r en eq em =
@@ -60,14 +61,17 @@ module _ {s : List ℕ} {at : ℕ} {t : Tok} (l : Lexed s at t) where
         within = token-within nz place q r (em .0);
       }
 
-  pub name-loads : (t .kind ≡ 0 → ⊥) → (T : List ℕ) (place most line q : ℕ) (b a : List ℕ) (r : Got) → Fetches T s at line false (Done (t .stop) place q) b a r → Ranked T (textAt s at) false most q → Loads T s at line place most b a r
+  pub name-loads : (kind-number (t .kind) ≡ 0 → ⊥) → (T : List ℕ) (place most line q : ℕ) (b a : List ℕ) (r : Got)
+      → Fetches T s at line false (Done (t .stop) place q) b a r → Ranked T (textAt s at) false most q → Loads T s at line place most b a r
   unfolding Emits
   name-loads nz T place most line q b a r h ra = record {
     reads = λ e d.
         let v = variableOf T in
         let x = textAt s at in
         let em = fetches-emits T s at line false (Done (t .stop) place q) b a r h e d in
-        reads-token (λ y. readsOf e v line y false ∷ []) (λ y. rank-of e v (refers y false)) place most b a r x (since-rank (since-emit (since-none place most b) (readsOf e v line x false ∷ []) (em .1)) _ (ra e d))
+        reads-token (λ y. readsOf e v line y false ∷ [])
+        (λ y. rank-of e v (refers y false)) place most b a r x
+        (since-rank (since-emit (since-none place most b) (readsOf e v line x false ∷ []) (em .1)) _ (ra e d))
         refl (omega arith) (em .0);
     within = token-within nz place q r (h .emits .0);
   }

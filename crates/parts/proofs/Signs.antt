@@ -12,10 +12,12 @@ use Rattle.syntax.specs.Bytes.{bytes, same, sign, word-of}
 use Rattle.syntax.specs.Reader.{kind, isDigits, says, peek-in, skip-in}
 use Rattle.syntax.proofs.Spelling.{is-true}
 use Rattle.lexer.specs.declared.Tok.{Tok}
-use Rattle.lexer.specs.Lex.{part, Lexed}
+use Rattle.lexer.specs.Lex.{part, kind-number, Lexed}
 use Rattle.lexer.proofs.Laws.{same-lengths}
 use Rattle.lexer.proofs.Said.{sees-said}
 use Rattle.parts.specs.Parts.{Passes, Sign, stands, Joins, begins, Begins, Sealed, unread, other, closes}
+use Rattle.parts.specs.declared.Joint.the-variants.{Neither, First, Second}
+use Rattle.parts.specs.declared.Beginning.the-variants.{Nothing, Literal, Bracket, Quotient, Name, Element}
 use Rattle.parts.specs.declared.Got.{Got}
 use Rattle.parts.specs.declared.Got.the-variants.{Broken, Done}
 
@@ -31,7 +33,11 @@ module _ (s : List ℕ) (c a e : ℕ) (h : e ≤ length s) where
       and-true (eqb c (getD s a 0)) ∙ (λ i. same (c ∷ []) (take (sym k i) (sym (drop-cons s a 0 (omega arith)) i)))
 
   pub same-no-byte : (e - a ≡ 1 → ⊥) → false ≡ same (c ∷ []) (part s a e)
-  same-no-byte n = sym (same-lengths (c ∷ []) (part s a e) (λ (k : 1 ≡ length (part s a e)). n (omega (arith, length-take (e - a) (drop a s), length-drop a s))))
+  same-no-byte n = sym (same-lengths (c ∷ []) (part s a e) (λ (k : 1 ≡ length (part s a e)). n (omega (
+    arith,
+    length-take (e - a) (drop a s),
+    length-drop a s,
+  ))))
 
 -- ---- tokens passed over
 
@@ -39,13 +45,13 @@ pub passes-none : {s : List ℕ} {at : ℕ} → at ≤ length s → Passes 0 s a
 passes-none h = record { left = refl; from = omega arith; within = h }
 
 module _ {s : List ℕ} {at : ℕ} {t : Tok} (l : Lexed s at t) where
-  pub passes-token : (t .kind ≡ 0 → ⊥) → Passes 1 s at (t .stop)
-  passes-token n = record { left = sym (l .next); from = omega (arith, l .from, l .some n); within = l .within }
+  pub passes-token : (kind-number (t .kind) ≡ 0 → ⊥) → Passes 1 s at (t .stop)
+  passes-token n = record { left = sym (l .next); from = omega (arith, l .from, l .some (λ z. n (ap kind-number z))); within = l .within }
 
   -- a sign that stands there is a token
   pub passes-sign : (c : ℕ) → stands c (drop at s) ≡ true → Passes 1 s at (t .stop)
   passes-sign c e =
-      let k : 4 ≡ t .kind = sym (ap kind (is-true (sign (c ∷ [])) (peek-in (drop at s)) e)) ∙ l .kinds in
+      let k : 4 ≡ kind-number (t .kind) = sym (ap kind (is-true (sign (c ∷ [])) (peek-in (drop at s)) e)) ∙ l .kinds in
       passes-token (λ z. omega arith)
 
 pub passes-two : {s : List ℕ} {at n n′ : ℕ} → Passes 1 s at n → Passes 1 s n n′ → Passes 2 s at n′
@@ -59,57 +65,73 @@ module _ {s : List ℕ} {at : ℕ} {t : Tok} (l : Lexed s at t) where
   sign-seen c h e f = sees-said l (c ∷ []) h ∙ sym e ∙ f
 
   module _ (a b : ℕ) where
-    pub joins-first : stands a (drop at s) ≡ true → Joins a b s at (record { what = 1; next = t .stop })
-    joins-first e = record { what = rw e; next = passes-sign l a e }
+    pub joins-first : stands a (drop at s) ≡ true → Joins a b s at (record { joint = First; next = t .stop })
+    joins-first e = record { joint = rw e; next = passes-sign l a e }
 
-    pub joins-second : stands a (drop at s) ≡ false → stands b (drop at s) ≡ true → Joins a b s at (record { what = 2; next = t .stop })
-    joins-second e f = record { what = rw (e, f); next = passes-sign l b f }
+    pub joins-second : stands a (drop at s) ≡ false → stands b (drop at s) ≡ true → Joins a b s at (record { joint = Second; next = t .stop })
+    joins-second e f = record { joint = rw (e, f); next = passes-sign l b f }
 
-pub joins-none : {s : List ℕ} {at : ℕ} (a b : ℕ) → at ≤ length s → stands a (drop at s) ≡ false → stands b (drop at s) ≡ false → Joins a b s at (record { what = 0; next = at })
-joins-none a b h e f = record { what = rw (e, f); next = passes-none h }
+pub joins-none : {s : List ℕ} {at : ℕ} (a b : ℕ) → at ≤ length s → stands a (drop at s) ≡ false → stands b (drop at s) ≡ false
+    → Joins a b s at (record { joint = Neither; next = at })
+joins-none a b h e f = record { joint = rw (e, f); next = passes-none h }
 
 -- ---- how a factor begins
 
 -- by the tests of the definition
-begins-by : (u : List ℕ) {n o r p k : Bool} → isDigits peek-in skip-in u ≡ n → stands 40 u ≡ o → says peek-in skip-in "rdiv" u ≡ r → stands 40 (skip-in u) ≡ p → eqb (kind (peek-in u)) 1 ≡ k
-    → cond n 1 (cond o 2 (cond r (cond p 3 0) (cond k (cond p 5 4) 0))) ≡ begins u
-begins-by u en eo er ep ek = λ i. cond (sym en i) 1 (cond (sym eo i) 2 (cond (sym er i) (cond (sym ep i) 3 0) (cond (sym ek i) (cond (sym ep i) 5 4) 0)))
+begins-by : (u : List ℕ) {n o r p k : Bool} → isDigits peek-in skip-in u ≡ n → stands 40 u ≡ o → says peek-in skip-in "rdiv" u ≡ r
+    → stands 40 (skip-in u) ≡ p → eqb (kind (peek-in u)) 1 ≡ k
+    → cond n Literal (cond o Bracket (cond r (cond p Quotient Nothing) (cond k (cond p Element Name) Nothing))) ≡ begins u
+begins-by u en eo er ep ek =
+    λ i. cond (sym en i) Literal
+    (cond (sym eo i) Bracket (cond (sym er i) (cond (sym ep i) Quotient Nothing) (cond (sym ek i) (cond (sym ep i) Element Name) Nothing)))
 
 module _ {s : List ℕ} {at : ℕ} {t : Tok} (l : Lexed s at t) where
-  kind-yes : (k : ℕ) → t .kind ≡ k → eqb (kind (peek-in (drop at s))) k ≡ true
+  kind-yes : (k : ℕ) → kind-number (t .kind) ≡ k → eqb (kind (peek-in (drop at s))) k ≡ true
   kind-yes k e = eq-eqb _ k (l .kinds ∙ e)
 
-  kind-no : (k : ℕ) → (t .kind ≡ k → ⊥) → eqb (kind (peek-in (drop at s))) k ≡ false
+  kind-no : (k : ℕ) → (kind-number (t .kind) ≡ k → ⊥) → eqb (kind (peek-in (drop at s))) k ≡ false
   kind-no k n = ne-eqb _ k (λ e. n (sym (l .kinds) ∙ e))
 
-  pub begins-literal : t .kind ≡ 3 → Begins s at (record { what = 1; next = t .stop })
-  begins-literal e = record { what = begins-by (drop at s) (kind-yes 3 e) refl refl refl refl; next = passes-token l (λ z. omega arith) }
+  pub begins-literal : kind-number (t .kind) ≡ 3 → Begins s at (record { beginning = Literal; next = t .stop })
+  begins-literal e = record { beginning = begins-by (drop at s) (kind-yes 3 e) refl refl refl refl; next = passes-token l (λ z. omega arith) }
 
-  module _ (n3 : t .kind ≡ 3 → ⊥) where
-    pub begins-bracket : stands 40 (drop at s) ≡ true → Begins s at (record { what = 2; next = t .stop })
-    begins-bracket o = record { what = begins-by (drop at s) (kind-no 3 n3) o refl refl refl; next = passes-sign l 40 o }
+  module _ (n3 : kind-number (t .kind) ≡ 3 → ⊥) where
+    pub begins-bracket : stands 40 (drop at s) ≡ true → Begins s at (record { beginning = Bracket; next = t .stop })
+    begins-bracket o = record { beginning = begins-by (drop at s) (kind-no 3 n3) o refl refl refl; next = passes-sign l 40 o }
 
     module _ (o : stands 40 (drop at s) ≡ false) {u : Tok} (lu : Lexed s (t .stop) u) {b : Bool} (p : stands 40 (drop (t .stop) s) ≡ b) where
-      then-by : {r k : Bool} → says peek-in skip-in "rdiv" (drop at s) ≡ r → eqb (kind (peek-in (drop at s))) 1 ≡ k → cond r (cond b 3 0) (cond k (cond b 5 4) 0) ≡ begins (drop at s)
+      then-by : {r k : Bool} → says peek-in skip-in "rdiv" (drop at s) ≡ r → eqb (kind (peek-in (drop at s))) 1 ≡ k → cond r (cond b Quotient Nothing)
+          (cond k (cond b Element Name) Nothing) ≡ begins (drop at s)
       then-by er ek = begins-by (drop at s) (kind-no 3 n3) o er (ap (stands 40) (l .next) ∙ p) ek
 
-      pub begins-rdiv : says peek-in skip-in "rdiv" (drop at s) ≡ true → b ≡ true → Begins s at (record { what = 3; next = u .stop })
+      pub begins-rdiv : says peek-in skip-in "rdiv" (drop at s) ≡ true → b ≡ true → Begins s at (record { beginning = Quotient; next = u .stop })
       begins-rdiv er eb =
-          let k : 2 ≡ t .kind = sym (ap kind (is-true (word-of (bytes "rdiv")) (peek-in (drop at s)) er)) ∙ l .kinds in
-          record { what = sym (ap (λ (c : Bool). cond c 3 0) eb) ∙ then-by er refl; next = passes-two (passes-token l (λ z. omega arith)) (passes-sign lu 40 (p ∙ eb)) }
+          let k : 2 ≡ kind-number (t .kind) = sym (ap kind (is-true (word-of (bytes "rdiv")) (peek-in (drop at s)) er)) ∙ l .kinds in
+          record {
+            beginning = sym (ap (λ (c : Bool). cond c Quotient Nothing) eb) ∙ then-by er refl;
+            next = passes-two (passes-token l (λ z. omega arith)) (passes-sign lu 40 (p ∙ eb));
+          }
 
-      pub begins-rdiv-alone : at ≤ length s → says peek-in skip-in "rdiv" (drop at s) ≡ true → b ≡ false → Begins s at (record { what = 0; next = at })
-      begins-rdiv-alone h er eb = record { what = sym (ap (λ (c : Bool). cond c 3 0) eb) ∙ then-by er refl; next = passes-none h }
+      pub begins-rdiv-alone : at ≤ length s → says peek-in skip-in "rdiv" (drop at s) ≡ true → b ≡ false
+          → Begins s at (record { beginning = Nothing; next = at })
+      begins-rdiv-alone h er eb = record { beginning = sym (ap (λ (c : Bool). cond c Quotient Nothing) eb) ∙ then-by er refl; next = passes-none h }
 
       module _ (nr : says peek-in skip-in "rdiv" (drop at s) ≡ false) where
-        pub begins-element : t .kind ≡ 1 → b ≡ true → Begins s at (record { what = 5; next = u .stop })
-        begins-element e eb = record { what = sym (ap (λ (c : Bool). cond c 5 4) eb) ∙ then-by nr (kind-yes 1 e); next = passes-two (passes-token l (λ z. omega arith)) (passes-sign lu 40 (p ∙ eb)) }
+        pub begins-element : kind-number (t .kind) ≡ 1 → b ≡ true → Begins s at (record { beginning = Element; next = u .stop })
+        begins-element e eb =
+            record {
+              beginning = sym (ap (λ (c : Bool). cond c Element Name) eb) ∙ then-by nr (kind-yes 1 e);
+              next = passes-two (passes-token l (λ z. omega arith)) (passes-sign lu 40 (p ∙ eb));
+            }
 
-        pub begins-name : t .kind ≡ 1 → b ≡ false → Begins s at (record { what = 4; next = t .stop })
-        begins-name e eb = record { what = sym (ap (λ (c : Bool). cond c 5 4) eb) ∙ then-by nr (kind-yes 1 e); next = passes-token l (λ z. omega arith) }
+        pub begins-name : kind-number (t .kind) ≡ 1 → b ≡ false → Begins s at (record { beginning = Name; next = t .stop })
+        begins-name e eb = record {
+          beginning = sym (ap (λ (c : Bool). cond c Element Name) eb) ∙ then-by nr (kind-yes 1 e);
+          next = passes-token l (λ z. omega arith);
+        }
 
-        pub begins-none : at ≤ length s → (t .kind ≡ 1 → ⊥) → Begins s at (record { what = 0; next = at })
-        begins-none h n1 = record { what = then-by nr (kind-no 1 n1); next = passes-none h }
+        pub begins-none : at ≤ length s → (kind-number (t .kind) ≡ 1 → ⊥) → Begins s at (record { beginning = Nothing; next = at })
+        begins-none h n1 = record { beginning = then-by nr (kind-no 1 n1); next = passes-none h }
 
 -- ---- a sign after what was read
 

@@ -11,7 +11,8 @@ use Rattle.parts.specs.declared.Got.the-variants.{Broken, Done}
 
 -- ---- after a reader
 
-pub within-done : (s : List ℕ) (at place lo : ℕ) (g : Got) (n p q : ℕ) → Within s at place lo g → g ≡ Done n p q → (lo ≤ n) × (n ≤ length s) × (p + at ≤ place + n)
+pub within-done : (s : List ℕ) (at place lo : ℕ) (g : Got) (n p q : ℕ) → Within s at place lo g → g ≡ Done n p q
+    → (lo ≤ n) × (n ≤ length s) × (p + at ≤ place + n)
 unfolding Within
 within-done s at place lo g n p q h e = subst (Within s at place lo) e h
 
@@ -20,16 +21,19 @@ unfolding Within
 within-broken s at place lo = tt
 
 -- as a reader that began elsewhere sees it
-pub within-from : (s : List ℕ) (at place lo at′ place′ lo′ : ℕ) (g : Got) → lo′ ≤ lo → place + at′ ≤ place′ + at → Within s at place lo g → Within s at′ place′ lo′ g
+pub within-from : (s : List ℕ) (at place lo at′ place′ lo′ : ℕ) (g : Got) → lo′ ≤ lo → place + at′ ≤ place′ + at → Within s at place lo g
+    → Within s at′ place′ lo′ g
 unfolding Within
 within-from s at place lo at′ place′ lo′ Broken le le′ h = tt
 within-from s at place lo at′ place′ lo′ (Done n p q) le le′ h = (omega arith, h .1, omega arith)
 
 -- and as the first of two readers sees where the second stops
-pub within-then : (s : List ℕ) (at place lo : ℕ) (g : Got) (n p q : ℕ) (r : Got) → Within s at place lo g → g ≡ Done n p q → Within s n p n r → Within s at place lo r
+pub within-then : (s : List ℕ) (at place lo : ℕ) (g : Got) (n p q : ℕ) (r : Got) → Within s at place lo g → g ≡ Done n p q → Within s n p n r
+    → Within s at place lo r
 within-then s at place lo g n p q r h e k = let w = within-done s at place lo g n p q h e in within-from s n p n at place lo r (w .0) (w .2) k
 
-pub within-emits : (k : ℕ) (ws : List ℕ) (g : Got) (m a : List ℕ) (r : Got) (s : List ℕ) (at place lo : ℕ) → Emits k ws g m a r → Within s at place lo g → Within s at (place + k) lo r
+pub within-emits : (k : ℕ) (ws : List ℕ) (g : Got) (m a : List ℕ) (r : Got) (s : List ℕ) (at place lo : ℕ) → Emits k ws g m a r
+    → Within s at place lo g → Within s at (place + k) lo r
 unfolding Within Emits
 within-emits k ws Broken m a r s at place lo e h = subst (Within s at (place + k) lo) (sym e) tt
 within-emits k ws (Done n p q) m a r s at place lo e h = subst (Within s at (place + k) lo) (sym (e .0)) (h .0, h .1, omega arith)

@@ -7,7 +7,7 @@ use lib.Dec.{leb, eqb}
 use lib.ListN.{length, drop}
 use lib.Seq.{sets}
 use Rattle.syntax.specs.Bytes.{letter, digit, same, sign}
-use Rattle.syntax.specs.Grammar.{number}
+use Rattle.syntax.specs.Grammar.{number, Lead, bare, plus, minus}
 use Rattle.syntax.specs.Known.{Entry, find}
 use Rattle.syntax.specs.Conditions.{refers, digits, small}
 use Rattle.syntax.specs.Reader.{done, is, kind, text, sees, says, isDigits, peek-in, skip-in}
@@ -16,7 +16,12 @@ use Rattle.names.specs.Table.{variableOf, Tabled}
 use Rattle.parts.specs.Answer.{rank-of, Reads, Within}
 use Rattle.parts.specs.declared.Got.{Got}
 use Rattle.parts.specs.declared.Got.the-variants.{Broken, Done}
-use Rattle.parts.specs.declared.Seen.{Seen}
+use Rattle.parts.specs.declared.Joint.{Joint}
+use Rattle.parts.specs.declared.Joint.the-variants.{Neither, First, Second}
+use Rattle.parts.specs.declared.Joined.{Joined}
+use Rattle.parts.specs.declared.Beginning.{Beginning}
+use Rattle.parts.specs.declared.Beginning.the-variants.{Nothing, Literal, Bracket, Quotient, Name, Element}
+use Rattle.parts.specs.declared.Begun.{Begun}
 use Rattle.parts.specs.declared.Words.{Words}
 
 -- ---- tokens
@@ -47,36 +52,54 @@ Sign c = not (letter c) && not (digit c) ≡ true
 abbrev pub stands : ℕ → List ℕ → Bool
 stands c u = is (sign (c ∷ [])) (peek-in u)
 
--- 1 the first of two, 2 the second, 0 neither
-abbrev pub either : Bool → Bool → ℕ
-either p q = cond p 1 (cond q 2 0)
-
--- which of two signs stands at a place; the place after it, or the place itself
-pub record Joins (a b : ℕ) (s : List ℕ) (at : ℕ) (r : Seen) : Type 0 where
-  pub what : r .what ≡ either (stands a (drop at s)) (stands b (drop at s))
-  pub next : Passes (min (r .what) 1) s at (r .next)
-
--- how a factor begins: 1 a literal, 2 a bracket, 3 rdiv and a bracket, 4 a name, 5 a name and a bracket, 0 none of these
-abbrev pub begins : List ℕ → ℕ
-begins u =
-    cond (isDigits peek-in skip-in u) 1
-    (cond (sees peek-in skip-in "(" u) 2
-    (cond (says peek-in skip-in "rdiv" u)
-    (cond (sees peek-in skip-in "(" (skip-in u)) 3 0)
-    (cond (eqb (kind (peek-in u)) 1) (cond (sees peek-in skip-in "(" (skip-in u)) 5 4) 0)))
+-- which of two signs stands there
+abbrev pub either : Bool → Bool → Joint
+either p q = cond p First (cond q Second Neither)
 
 -- with how many tokens
-abbrev pub begun : ℕ → ℕ
-begun zero = 0
-begun (suc zero) = 1
-begun (suc (suc zero)) = 1
-begun (suc (suc (suc zero))) = 2
-begun (suc (suc (suc (suc zero)))) = 1
-begun (suc (suc (suc (suc (suc n))))) = 2
+abbrev pub joined : Joint → ℕ
+joined Neither = 0
+joined First = 1
+joined Second = 1
 
-pub record Begins (s : List ℕ) (at : ℕ) (r : Seen) : Type 0 where
-  pub what : r .what ≡ begins (drop at s)
-  pub next : Passes (begun (r .what)) s at (r .next)
+-- x after the first of two signs, y after the second
+abbrev pub chosen : {A : Type 0} → Joint → A → A → A
+chosen Neither x y = y
+chosen First x y = x
+chosen Second x y = y
+
+-- the lead of an expression, by + and -
+abbrev pub leadBy : Joint → Lead
+leadBy Neither = bare
+leadBy First = plus
+leadBy Second = minus
+
+-- which of two signs stands at a place; the place after it, or the place itself
+pub record Joins (a b : ℕ) (s : List ℕ) (at : ℕ) (r : Joined) : Type 0 where
+  pub joint : r .joint ≡ either (stands a (drop at s)) (stands b (drop at s))
+  pub next : Passes (joined (r .joint)) s at (r .next)
+
+-- how a factor begins
+abbrev pub begins : List ℕ → Beginning
+begins u =
+    cond (isDigits peek-in skip-in u) Literal
+    (cond (sees peek-in skip-in "(" u) Bracket
+    (cond (says peek-in skip-in "rdiv" u)
+    (cond (sees peek-in skip-in "(" (skip-in u)) Quotient Nothing)
+    (cond (eqb (kind (peek-in u)) 1) (cond (sees peek-in skip-in "(" (skip-in u)) Element Name) Nothing)))
+
+-- with how many tokens
+abbrev pub begun : Beginning → ℕ
+begun Nothing = 0
+begun Literal = 1
+begun Bracket = 1
+begun Quotient = 2
+begun Name = 1
+begun Element = 2
+
+pub record Begins (s : List ℕ) (at : ℕ) (r : Begun) : Type 0 where
+  pub beginning : r .beginning ≡ begins (drop at s)
+  pub next : Passes (begun (r .beginning)) s at (r .next)
 
 -- the place after what was read lies in the line
 unfoldable pub Inside : List ℕ → Got → Type 0
@@ -105,7 +128,9 @@ readsOf t v line x b = cond b (load-at (find x t .first) (find x t .size) line) 
 
 -- w are the words of that instruction
 abbrev pub Worded : List ℕ → ℕ → List ℕ → Bool → Words → Type 0
-Worded T line x b w = (t : List Entry) → Tabled T t → (w .operation ≡ operation (readsOf t (variableOf T) line x b)) × (w .argument ≡ argument (readsOf t (variableOf T) line x b))
+Worded T line x b w =
+    (t : List Entry) → Tabled T t
+    → (w .operation ≡ operation (readsOf t (variableOf T) line x b)) × (w .argument ≡ argument (readsOf t (variableOf T) line x b))
 
 -- a first cell and a length in one argument, where both are within the limits
 abbrev pub spanOf : ℕ → ℕ → ℕ
@@ -146,5 +171,6 @@ pub record Pushes (s : List ℕ) (at place most : ℕ) (before after : List ℕ)
 -- a name without a subscript at a place
 pub record Loads (T s : List ℕ) (at line place most : ℕ) (before after : List ℕ) (r : Got) : Type 0 where
   pub reads : (t : List Entry) → Tabled T t
-      → Reads (λ x. readsOf t (variableOf T) line x false ∷ []) (λ x. rank-of t (variableOf T) (refers x false)) s (done (textAt s at) (skip-in (drop at s))) place most before after r
+      → Reads (λ x. readsOf t (variableOf T) line x false ∷ []) (λ x. rank-of t (variableOf T) (refers x false)) s
+      (done (textAt s at) (skip-in (drop at s))) place most before after r
   pub within : Within s at place (suc at) r

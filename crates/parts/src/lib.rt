@@ -3,14 +3,13 @@ ghost use mathlib.Core.Path.{_≡_};
 ghost use mathlib.Core.List.{[], _∷_};
 ghost use mathlib.Core.Bool.{cond};
 ghost use Prim.Native.Nat.{suc, _≤_, _+_, _*_, max};
-ghost use lib.Dec.{eqb, leb};
+ghost use lib.Dec.{leb};
 ghost use lib.ListN.{length, set};
 ghost use Rattle.syntax.specs.Bytes.{same};
 ghost use Rattle.code.specs.Instr.{add, subtract, multiply, divide, operation as operationOf, words};
 ghost use Rattle.code.specs.Compile.{codeLead};
 ghost use Rattle.lexer.specs.Lex.{part};
-ghost use Rattle.lexer.specs.Places.{leadOf};
-ghost use Rattle.parts.specs.Parts.{kindAt, textAt, Sign, Joins, Begins, Inside, Sealed, Ranks, Ranked, Worded, spanOf, Room, Emits, Fetches, Pushes, Loads};
+ghost use Rattle.parts.specs.Parts.{kindAt, textAt, Sign, leadBy, chosen, Joins, Begins, Inside, Sealed, Ranks, Ranked, Worded, spanOf, Room, Emits, Fetches, Pushes, Loads};
 ghost use Rattle.names.specs.Table.{nameWords};
 use code::ADD;
 use code::DIVIDE;
@@ -22,9 +21,11 @@ use code::NEGATE;
 use code::PUSH;
 use code::PUSH_V;
 use code::SUBTRACT;
+use lexer::Kind;
 use lexer::Tok;
 use lexer::literal;
 use lexer::reads;
+use lexer::same_kind;
 use lexer::token;
 use names::Table;
 use names::VARIABLE;
@@ -37,9 +38,32 @@ pub enum Got {
     Done { at: usize, place: usize, rank: u32 },
 }
 
-// What stands at a place, by a number, and the place after it.
-pub struct Seen {
-    pub what: u32,
+// Which of two signs stands at a place.
+pub enum Joint {
+    Neither,
+    First,
+    Second,
+}
+
+// A sign or none, and the place after it.
+pub struct Joined {
+    pub joint: Joint,
+    pub next: usize,
+}
+
+// How a factor begins: with a literal, a bracket, rdiv and a bracket, a name, a name and a bracket, or none of these.
+pub enum Beginning {
+    Nothing,
+    Literal,
+    Bracket,
+    Quotient,
+    Name,
+    Element,
+}
+
+// A beginning, and the place after it.
+pub struct Begun {
+    pub beginning: Beginning,
     pub next: usize,
 }
 
@@ -116,45 +140,48 @@ fn is_sign(s: &[u8], t: Tok, c: u8) -> bool
     c == s[a]
 }
 
-// Which of two signs stands at a place: 1 the first, 2 the second, 0 neither.
-pub fn join(s: &[u8], at: usize, a: u8, b: u8) -> Seen
+// Which of two signs stands at a place.
+pub fn join(s: &[u8], at: usize, a: u8, b: u8) -> Joined
     requires { ⌜ (at ≤ length (now s)) × Sign a × Sign b ⌝ }
     ensures { λ r. ⌜ Joins a b (now (s .entry)) at r ⌝ }
 {
     let t = token(s, at);
     let stop = t.stop;
     if is_sign(s, t, a) {
-        return Seen {
-            what: 1,
+        return Joined {
+            joint: Joint::First,
             next: stop,
         };
     }
     if is_sign(s, t, b) {
-        return Seen {
-            what: 2,
+        return Joined {
+            joint: Joint::Second,
             next: stop,
         };
     }
-    Seen { what: 0, next: at }
+    Joined {
+        joint: Joint::Neither,
+        next: at,
+    }
 }
 
-// How a factor begins: 1 a literal, 2 a bracket, 3 rdiv and a bracket, 4 a name, 5 a name and a bracket, 0 none of these.
-pub fn begin(s: &[u8], at: usize) -> Seen
+// How the factor at a place begins.
+pub fn begin(s: &[u8], at: usize) -> Begun
     requires { ⌜ at ≤ length (now s) ⌝ }
     ensures { λ r. ⌜ Begins (now (s .entry)) at r ⌝ }
 {
     let t = token(s, at);
     let k = t.kind;
     let stop = t.stop;
-    if k == 3 {
-        return Seen {
-            what: 1,
+    if same_kind(k, Kind::Digits) {
+        return Begun {
+            beginning: Beginning::Literal,
             next: stop,
         };
     }
     if is_sign(s, t, b'(') {
-        return Seen {
-            what: 2,
+        return Begun {
+            beginning: Beginning::Bracket,
             next: stop,
         };
     }
@@ -163,26 +190,32 @@ pub fn begin(s: &[u8], at: usize) -> Seen
     let open = is_sign(s, u, b'(');
     if reads(s, t, b"rdiv") {
         if open {
-            return Seen {
-                what: 3,
+            return Begun {
+                beginning: Beginning::Quotient,
                 next: past,
             };
         }
-        return Seen { what: 0, next: at };
+        return Begun {
+            beginning: Beginning::Nothing,
+            next: at,
+        };
     }
-    if k == 1 {
+    if same_kind(k, Kind::Name) {
         if open {
-            return Seen {
-                what: 5,
+            return Begun {
+                beginning: Beginning::Element,
                 next: past,
             };
         }
-        return Seen {
-            what: 4,
+        return Begun {
+            beginning: Beginning::Name,
             next: stop,
         };
     }
-    Seen { what: 0, next: at }
+    Begun {
+        beginning: Beginning::Nothing,
+        next: at,
+    }
 }
 
 // Reads a sign after what was read.
@@ -238,31 +271,40 @@ pub fn then_emit(g: Got, code: &mut [u32], operation: u32, argument: u32) -> Got
     }
 }
 
-// Writes the instruction of a leading minus (2) after what was read.
-pub fn then_negate(g: Got, code: &mut [u32], sign: u32) -> Got
-    requires { ⌜ Room (length (codeLead (leadOf sign))) g (now code) ⌝ }
-    ensures { λ r. ⌜ Emits (length (codeLead (leadOf sign))) (words (codeLead (leadOf sign))) g (now (code .entry)) (now (code .exit)) r ⌝ }
+// Writes the instruction of a leading minus, the second of the two signs, after what was read.
+pub fn then_negate(g: Got, code: &mut [u32], lead: Joint) -> Got
+    requires { ⌜ Room (length (codeLead (leadBy lead))) g (now code) ⌝ }
+    ensures { λ r. ⌜ Emits (length (codeLead (leadBy lead))) (words (codeLead (leadBy lead))) g (now (code .entry)) (now (code .exit)) r ⌝ }
 {
-    if sign < 2 {
-        return g;
+    match lead {
+        Joint::Neither => g,
+        Joint::First => g,
+        Joint::Second => then_emit(g, code, NEGATE, 0),
     }
-    then_emit(g, code, NEGATE, 0)
 }
 
-// The operation of a further term, after + (1) or - (2).
-pub fn term_operation(sign: u32) -> u32
-    ensures { λ r. ⌜ r ≡ cond (eqb sign 1) (operationOf add) (operationOf subtract) ⌝ }
+// The operation of a further term, after + or -.
+pub fn term_operation(sign: Joint) -> u32
+    ensures { λ r. ⌜ r ≡ operationOf (chosen sign add subtract) ⌝ }
 {
-    if sign == 1 { ADD } else { SUBTRACT }
+    match sign {
+        Joint::First => ADD,
+        Joint::Second => SUBTRACT,
+        Joint::Neither => SUBTRACT,
+    }
 }
 
-// The operation of a further factor, after * (1) or / (2).
-pub fn factor_operation(sign: u32, line: u32) -> u32
+// The operation of a further factor, after * or /.
+pub fn factor_operation(sign: Joint, line: u32) -> u32
     requires { ⌜ line ≤ 2049 ⌝ }
-    ensures { λ r. ⌜ r ≡ cond (eqb sign 1) (operationOf multiply) (operationOf (divide line)) ⌝ }
+    ensures { λ r. ⌜ r ≡ operationOf (chosen sign multiply (divide line)) ⌝ }
 {
     let over = DIVIDE + LINE * line;
-    if sign == 1 { MULTIPLY } else { over }
+    match sign {
+        Joint::First => MULTIPLY,
+        Joint::Second => over,
+        Joint::Neither => over,
+    }
 }
 
 // A first cell and a length in one argument. A table of names within the limits has no others.

@@ -46,15 +46,20 @@ module _ (text : List ℕ) (r : Ready) (K C : List ℕ) (h : Prepared (read text
       go (good s) e q = record { state = s; verdict = e; prepares = q }
 
   pub ready-few : (a : Accepted text r K C) → (r .cells ≤ 4096) × (r .setting .processors ≤ 8)
-  ready-few a = let q = accepted-sane text (a .state) (a .verdict) .table .few-cells in (omega (arith, q, a .prepares .cells-are), omega (arith, a .prepares .processors, a .prepares .few-processors))
+  ready-few a =
+      let q = accepted-sane text (a .state) (a .verdict) .table .few-cells in
+      (omega (arith, q, a .prepares .cells-are), omega (arith, a .prepares .processors, a .prepares .few-processors))
 
 -- ---- the tables have room
 
 row-room : (n p : ℕ) → row-at p n ≤ needed n p
-row-room n p = let q : n * (4 + 5 * p) ≤ n * (4 + 6 * p) = (let a : n ≤ n = omega arith in let b : 4 + 5 * p ≤ 4 + 6 * p = omega arith in mul-le-mul a b) in omega (arith, q)
+row-room n p =
+    let q : n * (4 + 5 * p) ≤ n * (4 + 6 * p) = (let a : n ≤ n = omega arith in let b : 4 + 5 * p ≤ 4 + 6 * p = omega arith in mul-le-mul a b) in
+    omega (arith, q)
 
 -- the number by what the reader found, and by the text
-pub number-as : (text : List ℕ) (r : Ready) (K C : List ℕ) (a : Accepted text r K C) (m w : ℕ) (ps : List ℕ) (n : ℕ) → n ≡ fitNumber (r .cells) (r .setting .processors) m w ps → runNumber (a .state) m w ps ≡ n
+pub number-as : (text : List ℕ) (r : Ready) (K C : List ℕ) (a : Accepted text r K C) (m w : ℕ) (ps : List ℕ) (n : ℕ)
+    → n ≡ fitNumber (r .cells) (r .setting .processors) m w ps → runNumber (a .state) m w ps ≡ n
 number-as text r K C a m w ps n e = (λ i. fitNumber (sym (a .prepares .cells-are) i) (sym (a .prepares .processors) i) m w ps) ∙ sym e
 
 -- the code that the reader emitted
@@ -63,7 +68,8 @@ code-as text r K C a = let z : r .end - 0 ≡ r .end = omega arith in ap (λ (n 
 
 -- ---- a run can begin
 
-module _ (text : List ℕ) (r : Ready) (K C : List ℕ) (a : Accepted text r K C) (M : List ℤ) (w : ℕ) (ps : List ℕ) (f : Fits (r .cells) (r .setting .processors) (length M) w ps) where
+module _ (text : List ℕ) (r : Ready) (K C : List ℕ) (a : Accepted text r K C) (M : List ℤ) (w : ℕ) (ps : List ℕ)
+    (f : Fits (r .cells) (r .setting .processors) (length M) w ps) where
   abbrev s : State
   s = a .state
 
@@ -74,13 +80,16 @@ module _ (text : List ℕ) (r : Ready) (K C : List ℕ) (a : Accepted text r K C
   sized = f .cells-are ∙ pr .cells-are
 
   enough : row-at (s .processors) (cells (s .table)) ≤ w
-  enough = subst (λ (p : ℕ). row-at p (cells (s .table)) ≤ w) (pr .processors) (subst (λ (n : ℕ). row-at (r .setting .processors) n ≤ w) (pr .cells-are) (le-trans (row-room (r .cells) (r .setting .processors)) (f .words-are)))
+  enough = subst (λ (p : ℕ). row-at p (cells (s .table)) ≤ w) (pr .processors)
+      (subst (λ (n : ℕ). row-at (r .setting .processors) n ≤ w) (pr .cells-are)
+      (le-trans (row-room (r .cells) (r .setting .processors)) (f .words-are)))
     where
       le-trans : {x y z : ℕ} → x ≤ y → y ≤ z → x ≤ z
       le-trans p q = omega arith
 
   pub begins : Starts (take (r .end - 0) (drop 0 K)) (r .setting) (loopOf s M) M C w
-  begins = starts-by text s (a .verdict) M sized C (pr .few-cells) (pr .classes) w enough (take (r .end - 0) (drop 0 K)) (r .setting) (code-as text r K C a) (pr .processors) (pr .iterations) (pr .from)
+  begins = starts-by text s (a .verdict) M sized C (pr .few-cells) (pr .classes) w enough (take (r .end - 0) (drop 0 K)) (r .setting)
+      (code-as text r K C a) (pr .processors) (pr .iterations) (pr .from)
 
   pub can-try : CanTry (take (r .end - 0) (drop 0 K)) (r .setting) M C ps w
   can-try = (loopOf s M, begins, f .names)

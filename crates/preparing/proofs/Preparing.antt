@@ -8,7 +8,8 @@ use lib.ListN.{length, take}
 use lib.IntN.{ℤ}
 use Rattle.syntax.specs.Known.{State, cells}
 use Rattle.syntax.specs.Text.{Verdict, read}
-use Rattle.syntax.proofs.Sane.{Sane, accepted-sane, accepted-finished}
+use Rattle.syntax.specs.Sane.{Sane}
+use Rattle.syntax.proofs.Sane.{accepted-sane, accepted-finished}
 use Rattle.reader.specs.declared.Reading.{Reading}
 use Rattle.reader.specs.Judged.{Reads}
 use Rattle.code.proofs.CodeLength.{text-length}
@@ -44,7 +45,8 @@ module _ (text : List ℕ) (d : Reading) (T : List ℕ) (I : List ℤ) (K : List
     pub few-places : d .progress .place ≤ 2048
     few-places = omega (arith, f .represents .place, text-length text s (f .verdict))
 
-    pub prepared-fine : (r : Ready) (C₀ C : List ℕ) → length C₀ ≡ 4096 → Classifies T (d .progress .cells) C₀ C → r .number ≡ 0 → r .cells ≡ d .progress .cells → r .setting .processors ≡ d .progress .processors
+    pub prepared-fine : (r : Ready) (C₀ C : List ℕ) → length C₀ ≡ 4096 → Classifies T (d .progress .cells) C₀ C → r .number ≡ 0
+        → r .cells ≡ d .progress .cells → r .setting .processors ≡ d .progress .processors
         → r .setting .iterations ≡ d .progress .count → r .setting .from ≡ d .progress .from → r .end ≡ 2 * d .progress .place → Prepared (read text) r K C
     unfolding Prepared
     prepared-fine r C₀ C long cl en ec ep ei ef ee = subst (λ (v : Verdict). Prepared v r K C) (sym (f .verdict)) (record {

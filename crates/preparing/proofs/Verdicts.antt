@@ -6,7 +6,7 @@ use native.Mathlib.Omega.{arith}
 use lib.IntN.{ℤ}
 use Rattle.syntax.specs.Known.{State}
 use Rattle.syntax.specs.Text.{Verdict, refused, good, read}
-use Rattle.lines.specs.Progress.{Represents}
+use Rattle.lines.specs.Progress.{held, Represents}
 use Rattle.reader.specs.declared.Reading.{Reading}
 use Rattle.reader.specs.Judged.{Reads}
 
@@ -20,7 +20,7 @@ module _ (text : List ℕ) (r : Reading) (T : List ℕ) (I : List ℤ) (C : List
     pub state : State
     pub verdict : read text ≡ good state
     pub opens : List ℕ
-    pub represents : Represents (r .progress) T I C opens state
+    pub represents : Represents (held (r .progress) T I C opens) state
 
   pub is-bad : (r .progress .number ≡ 0 → ⊥) → Bad
   unfolding Reads

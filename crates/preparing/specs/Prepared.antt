@@ -3,12 +3,12 @@ use mathlib.Core.Path.{_≡_}
 use mathlib.Core.List.{List}
 use Prim.Native.Nat.{ℕ, _≤_, _<_}
 use lib.ListN.{length, getD, take}
+use Rattle.rules.specs.Numbers.{class-number}
 use Rattle.syntax.specs.Known.{State, cells}
 use Rattle.syntax.specs.Text.{Verdict, refused, good}
 use Rattle.syntax.specs.Meaning.{class-of}
 use Rattle.code.specs.Instr.{words}
 use Rattle.code.specs.Compile.{codeOf}
-use Rattle.tables.specs.Layout.{class-number}
 use Rattle.preparing.specs.declared.Ready.{Ready}
 
 -- for the text of s: the first words of K are its code, and C has its cells' classes

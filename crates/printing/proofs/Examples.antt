@@ -18,7 +18,8 @@ entry x c = record { name = bytes x; first = c; subscripted = true; size = 4; cl
 abbrev cells : List ℤ
 cells = pos 20 ∷ pos 10 ∷ pos 40 ∷ pos 30 ∷ pos 2 ∷ pos 1 ∷ pos 4 ∷ pos 3 ∷ []
 
-pub printed : report (Passed 4 4) (entry "a" 0 ∷ entry "k" 4 ∷ []) cells ≡ bytes "! passed 4 4" ++ newline ++ bytes "data a /20,10,40,30/" ++ newline ++ bytes "data k /2,1,4,3/" ++ newline
+pub printed : report (Passed 4 4) (entry "a" 0 ∷ entry "k" 4 ∷ []) cells
+    ≡ bytes "! passed 4 4" ++ newline ++ bytes "data a /20,10,40,30/" ++ newline ++ bytes "data k /2,1,4,3/" ++ newline
 unfolding digits signed comment values later data-lines report
 printed = refl
 

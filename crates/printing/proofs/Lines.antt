@@ -8,12 +8,13 @@ use lib.ListN.{length, getD, set, take, drop, length-append, length-take}
 use lib.Seq.{sets-eq, take-suc, take-all, take-at, drop-at, length-take-le, length-sets}
 use lib.IntN.{ℤ}
 use Rattle.rules.specs.Cells.{listed}
-use Rattle.rules.proofs.CellsLaws.{listed-length, listed-at}
+use Rattle.rules.proofs.CellsLaws.{listed-at}
 use Rattle.names.specs.Table.{wordAt, nameAt, Tabled, countIn, firstAt, lengthAt, sizeAt, nameWords}
 use Rattle.syntax.specs.Bytes.{bytes}
 use Rattle.syntax.specs.Known.{Entry, nowhere, cells}
 use Rattle.answers.specs.declared.Ran.{Ran}
 use Rattle.answers.specs.declared.Ran.the-variants.{Passed, Rerun, Faulted, Refused}
+use Rattle.names.proofs.Rows.{name-length}
 use Rattle.printing.specs.Printed.{newline, comment, values, data-line, data-lines, report}
 use Rattle.printing.specs.Written.{Writes, Named, Holds, lineAt, Completes, Reports}
 use Rattle.printing.proofs.Writing.{writes-none, writes-one, writes-then, writes-as, writes-up-to, values-few, comment-few}
@@ -32,24 +33,24 @@ pub name-none : (b : List ℕ) (at : ℕ) (T : List ℕ) (i : ℕ) → Writes b 
 unfolding listed
 name-none b at T i = writes-up-to (omega arith) (writes-none b at)
 
-pub name-more : {b m : List ℕ} {at : ℕ} (T : List ℕ) (i k x : ℕ) → x ≡ wordAt T i k → Writes b at (listed k (λ j. wordAt T i j)) m (at + k) → Writes b at (listed (k + 1) (λ j. wordAt T i j)) (set m (at + k) x) (at + (k + 1))
+pub name-more : {b m : List ℕ} {at : ℕ} (T : List ℕ) (i k x : ℕ) → x ≡ wordAt T i k → Writes b at (listed k (λ j. wordAt T i j)) m (at + k)
+    → Writes b at (listed (k + 1) (λ j. wordAt T i j)) (set m (at + k) x) (at + (k + 1))
 name-more {b} {m} {at} T i k x e u =
     writes-up-to (omega arith)
     (writes-as (ap (λ (y : ℕ). listed k (λ j. wordAt T i j) ++ (y ∷ [])) e ∙ listed-more k (λ j. wordAt T i j)) (writes-then u (writes-one m (at + k) x)))
 
-pub name-all : {b a : List ℕ} {at r : ℕ} (T : List ℕ) (i k : ℕ) → k ≡ lengthAt T i → Writes b at (listed k (λ j. wordAt T i j)) a r → Writes b at (nameAt T i) a r
+pub name-all : {b a : List ℕ} {at r : ℕ} (T : List ℕ) (i k : ℕ) → k ≡ lengthAt T i → Writes b at (listed k (λ j. wordAt T i j)) a r
+    → Writes b at (nameAt T i) a r
 unfolding nameAt
 name-all T i k e u = writes-as (ap (λ (n : ℕ). listed n (λ j. wordAt T i j)) e) u
-
-pub name-length : (T : List ℕ) (i : ℕ) → length (nameAt T i) ≡ lengthAt T i
-unfolding nameAt
-name-length T i = listed-length (lengthAt T i) (λ k. wordAt T i k)
 
 -- ---- a data line
 
 -- its parts, one after the other
-pub line-written : {b m₁ m₂ m₃ m₄ a : List ℕ} {at p₁ p₂ p₃ p₄ r : ℕ} (T : List ℕ) (m vs : List ℤ) (i first stop : ℕ) → first ≡ firstAt T i → stop ≡ first + sizeAt T i → vs ≡ take (stop - first) (drop first m)
-    → Writes b at (bytes "data ") m₁ p₁ → Writes m₁ p₁ (nameAt T i) m₂ p₂ → Writes m₂ p₂ (bytes " /") m₃ p₃ → Writes m₃ p₃ (values vs) m₄ p₄ → Writes m₄ p₄ (bytes "/" ++ newline) a r
+pub line-written : {b m₁ m₂ m₃ m₄ a : List ℕ} {at p₁ p₂ p₃ p₄ r : ℕ} (T : List ℕ) (m vs : List ℤ) (i first stop : ℕ) → first ≡ firstAt T i
+    → stop ≡ first + sizeAt T i → vs ≡ take (stop - first) (drop first m)
+    → Writes b at (bytes "data ") m₁ p₁ → Writes m₁ p₁ (nameAt T i) m₂ p₂ → Writes m₂ p₂ (bytes " /") m₃ p₃ → Writes m₃ p₃ (values vs) m₄ p₄
+    → Writes m₄ p₄ (bytes "/" ++ newline) a r
     → Writes b at (lineAt T m i) a r
 unfolding lineAt
 line-written T m vs i first stop ef es ev u₁ u₂ u₃ u₄ u₅ =
@@ -82,11 +83,13 @@ pub lines-none : (b : List ℕ) (at : ℕ) (T : List ℕ) (m : List ℤ) → Wri
 unfolding linesAt
 lines-none b at T m = writes-none b at
 
-pub lines-more : {b d a : List ℕ} {at p r : ℕ} (T : List ℕ) (m : List ℤ) (i : ℕ) → Writes b at (linesAt T m i) d p → Writes d p (lineAt T m i) a r → Writes b at (linesAt T m (i + 1)) a r
+pub lines-more : {b d a : List ℕ} {at p r : ℕ} (T : List ℕ) (m : List ℤ) (i : ℕ) → Writes b at (linesAt T m i) d p → Writes d p (lineAt T m i) a r
+    → Writes b at (linesAt T m (i + 1)) a r
 unfolding linesAt
 lines-more T m i u v = writes-as (ap (linesAt T m) (sym (add-one i))) (writes-then u v)
 
-data-lines-snoc : (l : List Entry) (e : Entry) (m : List ℤ) → data-lines (l ++ (e ∷ [])) m ≡ data-lines l m ++ data-line (e .name) (take (e .size) (drop (e .first) m))
+data-lines-snoc : (l : List Entry) (e : Entry) (m : List ℤ)
+    → data-lines (l ++ (e ∷ [])) m ≡ data-lines l m ++ data-line (e .name) (take (e .size) (drop (e .first) m))
 unfolding data-lines
 data-lines-snoc [] e m = append-nil (data-line (e .name) (take (e .size) (drop (e .first) m)))
 data-lines-snoc (x ∷ l) e m =
@@ -184,8 +187,11 @@ front : (b xs a : List ℕ) (r : ℕ) → length b ≡ 2236 → length xs ≤ 22
 front b xs a r l h u =
     let e : a ≡ xs ++ drop (0 + length xs) b = u .bytes ∙ sets-eq xs b 0 (omega arith) in
     let p : length xs ≡ r = omega (arith, u .place) in
-    let q : 0 + length xs ≡ r = omega arith in
-    (omega (arith, ap length (u .bytes), length-sets b 0 xs), ap (take r) e ∙ take-at xs (drop (0 + length xs) b) r p, ap (drop r) e ∙ drop-at xs (drop (0 + length xs) b) r p ∙ ap (λ (k : ℕ). drop k b) q)
+    let q : 0 + length xs ≡ r = omega arith in (
+      omega (arith, ap length (u .bytes), length-sets b 0 xs),
+      ap (take r) e ∙ take-at xs (drop (0 + length xs) b) r p,
+      ap (drop r) e ∙ drop-at xs (drop (0 + length xs) b) r p ∙ ap (λ (k : ℕ). drop k b) q,
+    )
 
 report-complete : (answer : Ran) (t : List Entry) (m : List ℤ) → Completes answer → comment answer ++ data-lines t m ≡ report answer t m
 unfolding report
@@ -202,16 +208,23 @@ report-refused (Faulted n k v) t m c = refl
 report-refused (Refused n k) t m c = refl
 
 module _ (answer : Ran) (T : List ℕ) (m : List ℤ) (b : List ℕ) (l : length b ≡ 2236) where
-  pub reports-lines : {d a : List ℕ} {at r : ℕ} → Completes answer → (t : List Entry) → Holds T m t → Writes b 0 (comment answer) d at → ((t : List Entry) → Tabled T t → Writes d at (data-lines t m) a r) → Reports answer T m b a r
+  pub reports-lines : {d a : List ℕ} {at r : ℕ} → Completes answer → (t : List Entry) → Holds T m t → Writes b 0 (comment answer) d at
+      → ((t : List Entry) → Tabled T t → Writes d at (data-lines t m) a r) → Reports answer T m b a r
   reports-lines {d} {a} {at} {r} c t k u v =
-      let few : length (comment answer ++ data-lines t m) ≤ 2236 = omega (arith, comment-few answer, all-few T m t k, length-append (comment answer) (data-lines t m)) in
+      let few : length (comment answer ++ data-lines t m) ≤ 2236 = omega (
+        arith,
+        comment-few answer,
+        all-few T m t k,
+        length-append (comment answer) (data-lines t m),
+      ) in
       let f = front b (comment answer ++ data-lines t m) a r l few (writes-then u (v t (k .tabled))) in
       record {
         within = f .0;
         counted = sym (length-take-le r a (f .0));
         bytes = λ s h.
             let w = writes-then u (v s (h c)) in
-            front b (comment answer ++ data-lines s m) a r l (omega (arith, w .place, writes-then u (v t (k .tabled)) .place)) w .1 ∙ report-complete answer s m c;
+            front b (comment answer ++ data-lines s m) a r l (omega (arith, w .place, writes-then u (v t (k .tabled)) .place)) w .1
+            ∙ report-complete answer s m c;
         rest = f .2;
       }
 

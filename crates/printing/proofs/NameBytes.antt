@@ -8,13 +8,14 @@ use native.Mathlib.Omega.{arith}
 use borrow.Author.Tests.{leb-true}
 use lib.Dec.{leb, eqb}
 use lib.ListN.{length, getD, take}
-use Rattle.syntax.specs.Bytes.{choose, all, lower, printable, letter, digit, lines, Token, name, word, digits, sign, bytesOf, token-size, token-of, tokens-after, tokens, skipped-line, sound-line}
+use Rattle.syntax.specs.Bytes.{choose, all, lower, printable, letter, digit, lines, Token, name, other-word, digits, sign, bytesOf, token-size, token-of, tokens-after, tokens, skipped-line, sound-line}
 use Rattle.syntax.specs.Grammar.{Declared, one, array, assign, when, otherwise, end-if, Line, declare, give, direct, loop, inside, end-do, close, showDeclared, showMore, showLine}
 use Rattle.syntax.specs.Known.{Entry, Open, State, nothing, nowhere, named, cells, declaredName, declaredSize, entries, values, give-to, classify, otherwise-after, end-if-after, after}
 use Rattle.syntax.specs.Text.{read, good}
-use Rattle.syntax.specs.Follows.{Program, spoken, written, learnt}
+use Rattle.syntax.specs.Follows.{Program, spoken, shown, learnt}
+use Rattle.syntax.specs.Sane.{Each}
 use Rattle.syntax.proofs.Spelling.{both-true}
-use Rattle.syntax.proofs.TestLaws.{Each, each-append, each-at, each-map}
+use Rattle.syntax.proofs.TestLaws.{each-append, each-at, each-map}
 use Rattle.syntax.proofs.Theorem.{accepted-sound}
 
 abbrev Plain : List ℕ → Type 0
@@ -46,7 +47,7 @@ plain-take (suc n) (b ∷ s) h = (h .0, plain-take n s (h .1))
 token-bytes : (b : ℕ) (t : List ℕ) → Plain t → PlainToken (token-of b t)
 token-bytes b t h = go (letter b) (digit b) (leb (length t) 31 && _)
   where
-    go : (x y z : Bool) → PlainToken (cond x (cond z (name t) (word t)) (cond y (digits t) (sign t)))
+    go : (x y z : Bool) → PlainToken (cond x (cond z (name t) (other-word t)) (cond y (digits t) (sign t)))
     go true y true = h
     go true y false = h
     go false true z = h
@@ -55,7 +56,8 @@ token-bytes b t h = go (letter b) (digit b) (leb (length t) 31 && _)
 plain-tokens : (k : ℕ) (s : List ℕ) → Plain s → Each PlainToken (tokens-after k s)
 unfolding tokens-after
 plain-tokens k [] h = tt
-plain-tokens zero (b ∷ s) h = go (eqb b 32) (plain-tokens zero s (h .1)) (token-bytes b (take (token-size b s) (b ∷ s)) (plain-take (token-size b s) (b ∷ s) h), plain-tokens (token-size b s - 1) s (h .1))
+plain-tokens zero (b ∷ s) h = go (eqb b 32) (plain-tokens zero s (h .1))
+    (token-bytes b (take (token-size b s) (b ∷ s)) (plain-take (token-size b s) (b ∷ s) h), plain-tokens (token-size b s - 1) s (h .1))
   where
     go : (c : Bool) → Each PlainToken (tokens-after zero s) → Each PlainToken (token-of b (take (token-size b s) (b ∷ s)) ∷ tokens-after (token-size b s - 1) s)
         → Each PlainToken (choose c (λ _. tokens-after zero s) (λ _. token-of b (take (token-size b s) (b ∷ s)) ∷ tokens-after (token-size b s - 1) s))
@@ -73,14 +75,15 @@ plain-spoken k (l ∷ ls) h =
     let (x, y) = both-true (sound-line l) (all sound-line ls) h in
     go (skipped-line l) (plain-spoken (suc k) ls y) (plain-tokens 0 l (plain-line l (both-true (all printable l) _ x .0)))
   where
-    go : (c : Bool) → Each PlainSpoken (spoken (suc k) ls) → Each PlainToken (tokens l) → Each PlainSpoken (cond c (spoken (suc k) ls) ((k, tokens l) ∷ spoken (suc k) ls))
+    go : (c : Bool) → Each PlainSpoken (spoken (suc k) ls) → Each PlainToken (tokens l)
+        → Each PlainSpoken (cond c (spoken (suc k) ls) ((k, tokens l) ∷ spoken (suc k) ls))
     go true x y = x
     go false x y = (y, x)
 
 abbrev PlainLine : ℕ × Line → Type 0
 PlainLine q = Each PlainToken (showLine (q .1))
 
-plain-written : (p : Program) → Each PlainSpoken (map written p) → Each PlainLine p
+plain-written : (p : Program) → Each PlainSpoken (map shown p) → Each PlainLine p
 plain-written [] h = tt
 plain-written ((k, l) ∷ p) h = (h .0, plain-written p (h .1))
 
@@ -108,13 +111,25 @@ after-plain : (k : ℕ) (l : Line) (s : State) → Each PlainToken (showLine l) 
 unfolding after showLine
 after-plain k (declare d ds) s h t =
     let (x, y) = each-parts PlainToken (showDeclared d) (showMore showDeclared ds) (h .1) in
-    each-append (λ e. Plain (e .name)) (s .table) (entries (cells (s .table)) (d ∷ ds)) t (entries-plain (cells (s .table)) (d ∷ ds) (declared-plain d x, more-plain ds y))
-after-plain k (give x i is) s h t = each-map (λ e. Plain (e .name)) (λ e. Plain (e .name)) (give-to x (values (i ∷ is))) (λ e p. go e (named x e) p) (s .table) t
+    each-append (λ e. Plain (e .name)) (s .table) (entries (cells (s .table)) (d ∷ ds)) t
+    (entries-plain (cells (s .table)) (d ∷ ds) (declared-plain d x, more-plain ds y))
+after-plain k (give x i is) s h t = each-map (λ e. Plain (e .name)) (λ e. Plain (e .name)) (give-to x (values (i ∷ is))) (λ e p. go e (named x e) p)
+    (s .table) t
   where
-    go : (e : Entry) (c : Bool) → Plain (e .name) → Plain (cond c (record { name = e .name; first = e .first; subscripted = e .subscripted; size = e .size; class = e .class; given = some (values (i ∷ is)) }) e .name)
+    go : (e : Entry) (c : Bool) → Plain (e .name)
+        → Plain (cond c
+        (record {
+          name = e .name;
+          first = e .first;
+          subscripted = e .subscripted;
+          size = e .size;
+          class = e .class;
+          given = some (values (i ∷ is));
+        })
+        e .name)
     go e true p = p
     go e false p = p
-after-plain k (direct a p b) s h t = each-map (λ e. Plain (e .name)) (λ e. Plain (e .name)) (classify (a ++ b)) (λ e q. q) (s .table) t
+after-plain k (direct cs) s h t = each-map (λ e. Plain (e .name)) (λ e. Plain (e .name)) (classify cs) (λ e q. q) (s .table) t
 after-plain k (loop v l m j n) s h t = t
 after-plain k (inside (assign r e)) s h t = t
 after-plain k (inside (when a rel b)) s h t = t
@@ -146,6 +161,6 @@ plain-at (b ∷ s) (suc k) h = plain-at s k (h .1)
 pub name-bytes : (text : List ℕ) (s : State) → read text ≡ good s → (i k : ℕ) → i < length (s .table) → getD (getD (s .table) i nowhere .name) k 0 < 256
 name-bytes text s e i k h =
     let (p, f, l) = accepted-sound text s e in
-    let spoke : Each PlainSpoken (map written p) = subst (Each PlainSpoken) (f .spelled) (plain-spoken 1 (lines (map lower text)) (f .sound)) in
+    let spoke : Each PlainSpoken (map shown p) = subst (Each PlainSpoken) (f .spelled) (plain-spoken 1 (lines (map lower text)) (f .sound)) in
     let table : PlainTable (s .table) = subst (λ (u : State). PlainTable (u .table)) l (learnt-plain p nothing (plain-written p spoke) tt) in
     plain-at (getD (s .table) i nowhere .name) k (each-at (λ e. Plain (e .name)) (s .table) i nowhere table h)

@@ -82,9 +82,11 @@ signed-minus (negsuc n) f h = ap (λ (k : ℕ). 45 ∷ digits 10 k) (omega (arit
 pub bytes-none : (b : List ℕ) (at : ℕ) → Writes b at [] b (at + 0)
 bytes-none b at = record { place = omega arith; bytes = refl }
 
-pub bytes-more : (b s m : List ℕ) (at k x : ℕ) → k < length s → x ≡ getD s k 0 → Writes b at (take k s) m (at + k) → Writes b at (take (k + 1) s) (set m (at + k) x) (at + (k + 1))
+pub bytes-more : (b s m : List ℕ) (at k x : ℕ) → k < length s → x ≡ getD s k 0 → Writes b at (take k s) m (at + k)
+    → Writes b at (take (k + 1) s) (set m (at + k) x) (at + (k + 1))
 bytes-more b s m at k x h e u =
-    let w = writes-as (ap (λ (y : ℕ). take k s ++ (y ∷ [])) e ∙ sym (take-suc s k 0 h) ∙ ap (λ (n : ℕ). take n s) (sym (add-one k))) (writes-then u (writes-one m (at + k) x)) in
+    let w = writes-as (ap (λ (y : ℕ). take k s ++ (y ∷ [])) e ∙ sym (take-suc s k 0 h) ∙ ap (λ (n : ℕ). take n s) (sym (add-one k)))
+    (writes-then u (writes-one m (at + k) x)) in
     writes-up-to (omega arith) w
 
 pub bytes-all : (b s a : List ℕ) (at k : ℕ) {r : ℕ} → length s ≤ k → Writes b at (take k s) a r → Writes b at s a r
@@ -116,7 +118,8 @@ digits-two (suc k) n z h =
 pub digits-last : {b a : List ℕ} {at r : ℕ} (k n : ℕ) → (k ≡ 0 → ⊥) → n < 10 → Writes b at ((48 + n) ∷ []) a r → Writes b at (digits k n) a r
 digits-last k n z h u = writes-as (digits-one k n z h) u
 
-pub digits-more : {b m a : List ℕ} {at p r : ℕ} (k n : ℕ) → (k ≡ 0 → ⊥) → 10 ≤ n → Writes b at (digits (k - 1) (n / 10)) m p → Writes m p ((48 + n % 10) ∷ []) a r → Writes b at (digits k n) a r
+pub digits-more : {b m a : List ℕ} {at p r : ℕ} (k n : ℕ) → (k ≡ 0 → ⊥) → 10 ≤ n → Writes b at (digits (k - 1) (n / 10)) m p
+    → Writes m p ((48 + n % 10) ∷ []) a r → Writes b at (digits k n) a r
 digits-more k n z h u v = writes-as (digits-two k n z h) (writes-then u v)
 
 -- ---- signed numbers
@@ -125,7 +128,8 @@ module _ (v : ℤ) (w : ℕ) (f : SFits w32 v) (e : w ≡ word v) where
   pub signed-plain : {b a : List ℕ} {at r : ℕ} → w < 2147483648 → Writes b at (digits 10 w) a r → Writes b at (signed v) a r
   signed-plain h u = writes-as (ap (digits 10) e ∙ signed-word v f (omega arith)) u
 
-  pub signed-negative : {b m a : List ℕ} {at p r : ℕ} → 2147483648 ≤ w → Writes b at (45 ∷ []) m p → Writes m p (digits 10 (4294967295 - w + 1)) a r → Writes b at (signed v) a r
+  pub signed-negative : {b m a : List ℕ} {at p r : ℕ} → 2147483648 ≤ w → Writes b at (45 ∷ []) m p → Writes m p (digits 10 (4294967295 - w + 1)) a r
+      → Writes b at (signed v) a r
   signed-negative h u t = writes-as (ap (λ (k : ℕ). 45 ∷ digits 10 (4294967295 - k + 1)) e ∙ signed-minus v f (omega arith)) (writes-then u t)
 
 -- a number that was passed on
@@ -138,7 +142,8 @@ pub value-first : {b a : List ℕ} {at r : ℕ} (k : ℕ) (v : ℤ) → k ≡ 0 
 unfolding valueAt
 value-first k v e u = writes-as (ap (λ (j : ℕ). valueAt j v) (sym e)) u
 
-pub value-later : {b m a : List ℕ} {at p r : ℕ} (k : ℕ) (v : ℤ) → (k ≡ 0 → ⊥) → Writes b at (44 ∷ []) m p → Writes m p (signed v) a r → Writes b at (valueAt k v) a r
+pub value-later : {b m a : List ℕ} {at p r : ℕ} (k : ℕ) (v : ℤ) → (k ≡ 0 → ⊥) → Writes b at (44 ∷ []) m p → Writes m p (signed v) a r
+    → Writes b at (valueAt k v) a r
 unfolding valueAt
 value-later zero v z u t = absurd (z refl)
 value-later (suc k) v z u t = writes-then u t
@@ -146,7 +151,8 @@ value-later (suc k) v z u t = writes-then u t
 later-snoc : (l : List ℤ) (v : ℤ) → later (l ++ (v ∷ [])) ≡ later l ++ (44 ∷ signed v)
 unfolding later
 later-snoc [] v = ap (λ (x : List ℕ). 44 ∷ x) (append-nil (signed v))
-later-snoc (x ∷ l) v = ap (λ (y : List ℕ). 44 ∷ (signed x ++ y)) (later-snoc l v) ∙ ap (λ (y : List ℕ). 44 ∷ y) (sym (append-assoc (signed x) (later l) (44 ∷ signed v)))
+later-snoc (x ∷ l) v =
+    ap (λ (y : List ℕ). 44 ∷ (signed x ++ y)) (later-snoc l v) ∙ ap (λ (y : List ℕ). 44 ∷ y) (sym (append-assoc (signed x) (later l) (44 ∷ signed v)))
 
 values-snoc : (l : List ℤ) (v : ℤ) → values l ++ valueAt (length l) v ≡ values (l ++ (v ∷ []))
 unfolding values later valueAt
@@ -167,7 +173,8 @@ pub values-none : (b : List ℕ) (at : ℕ) (vs : List ℤ) → Writes b at (val
 unfolding values
 values-none b at vs = writes-none b at
 
-pub values-more : {b m a : List ℕ} {at p r : ℕ} (vs : List ℤ) (k : ℕ) (v : ℤ) → k < length vs → v ≡ getD vs k (pos 0) → Writes b at (values (take k vs)) m p → Writes m p (valueAt k v) a r → Writes b at (values (take (k + 1) vs)) a r
+pub values-more : {b m a : List ℕ} {at p r : ℕ} (vs : List ℤ) (k : ℕ) (v : ℤ) → k < length vs → v ≡ getD vs k (pos 0)
+    → Writes b at (values (take k vs)) m p → Writes m p (valueAt k v) a r → Writes b at (values (take (k + 1) vs)) a r
 values-more vs k v h e u t =
     writes-as
     (ap (λ (j : ℕ). values (take k vs) ++ valueAt j v) (sym (length-take-le k vs (omega arith)))
@@ -188,11 +195,26 @@ values-reach vs k h u = omega (arith, u .place, values-few (take k vs), length-t
 
 comment-few-counted : (w : List ℕ) (a b : ℕ) → length w ≤ 9 → length (counted w a b) ≤ 44
 comment-few-counted w a b h =
-    omega (arith, digits-few 10 a, digits-few 10 b, length-append w (decimal a ++ (32 ∷ (decimal b ++ (10 ∷ [])))), length-append (decimal a) (32 ∷ (decimal b ++ (10 ∷ []))), length-append (decimal b) (10 ∷ []))
+    omega (
+      arith,
+      digits-few 10 a,
+      digits-few 10 b,
+      length-append w (decimal a ++ (32 ∷ (decimal b ++ (10 ∷ [])))),
+      length-append (decimal a) (32 ∷ (decimal b ++ (10 ∷ []))),
+      length-append (decimal b) (10 ∷ []),
+    )
 
 comment-few-refused : (n k : ℕ) (v : ℤ) → length (refusal n k v) ≤ 44
 comment-few-refused n k v =
-    omega (arith, digits-few 10 n, digits-few 10 k, signed-few v, length-append (decimal n) (32 ∷ (decimal k ++ (32 ∷ (signed v ++ (10 ∷ []))))), length-append (decimal k) (32 ∷ (signed v ++ (10 ∷ []))), length-append (signed v) (10 ∷ []))
+    omega (
+      arith,
+      digits-few 10 n,
+      digits-few 10 k,
+      signed-few v,
+      length-append (decimal n) (32 ∷ (decimal k ++ (32 ∷ (signed v ++ (10 ∷ []))))),
+      length-append (decimal k) (32 ∷ (signed v ++ (10 ∷ []))),
+      length-append (signed v) (10 ∷ []),
+    )
 
 pub comment-few : (r : Ran) → length (comment r) ≤ 44
 unfolding comment

@@ -1,6 +1,6 @@
 -- The verdict on a line.
 use mathlib.Core.Path.{_≡_, refl, sym, _∙_, ap, subst}
-use mathlib.Core.Bool.{Bool, true, false, cond, _&&_, _||_, not}
+use mathlib.Core.Bool.{Bool, true, false, cond, _&&_, _||_, not, and-false, or-false, or-true}
 use mathlib.Core.List.{List, [], _∷_}
 use mathlib.Core.Logic.{_⊎_, inl, inr}
 use mathlib.Core.Option.{Option, none, some}
@@ -8,60 +8,73 @@ use Prim.Native.Nat.{ℕ, suc, _+_, _*_, _≤_, _<_}
 use native.Mathlib.Omega.{arith}
 use borrow.Author.Tests.{le-leb, lt-leb}
 use lib.ListN.{length}
-use lib.IntN.{ℤ}
 use Rattle.syntax.specs.Bytes.{choose, tokens, skipped-line, sound-line}
 use Rattle.syntax.specs.Grammar.{Line, declare, give, direct, loop, assign, when, otherwise, end-if, inside, end-do, close}
 use Rattle.syntax.specs.Known.{Open, State, otherwise-after, end-if-after, after}
-use Rattle.syntax.specs.Conditions.{names, limits, stageOf, follows, fits, stands, finished}
+use Rattle.syntax.specs.Conditions.{names, limits, stageOf, may-follow, fits, stands, finished}
 use Rattle.syntax.specs.Reader.{Parsed, broken, done, parse, readStart, peek-in, skip-in}
 use Rattle.syntax.specs.Text.{Verdict, refused, good, judged, judge-line}
+use Rattle.syntax.specs.Sane.{Sane}
 use Rattle.syntax.proofs.Theorem.{line-exactly}
-use Rattle.syntax.proofs.Sane.{Sane, after-sane}
+use Rattle.syntax.proofs.TokenCount.{tokens-length}
+use Rattle.syntax.proofs.Sane.{after-sane}
 use Rattle.code.specs.Compile.{codeOf}
 use Rattle.code.proofs.CodeLength.{line-length}
-use Rattle.lines.specs.declared.Progress.{Progress}
-use Rattle.lines.specs.Progress.{Represents, numberOf, whole, Concludes}
+use Rattle.lines.specs.Progress.{Held, Represents, numberOf, whole, Concludes}
 use Rattle.lines.proofs.Yields.{Yields}
 use Rattle.kinds.specs.declared.Kind.{Kind}
 use Rattle.kinds.specs.Kinds.{readBy, stageBy, Kinds}
 use Rattle.reader.specs.Judged.{Judged}
-use Rattle.reader.proofs.Parses.{few-tokens, lineOf, parse-bytes, line-stage, line-by}
+use Rattle.reader.proofs.Parses.{lineOf, parse-bytes, line-stage, line-by}
+
+-- the verdict on a line that is read, by whether it stands wrongly, its names are right and it is within the limits
+abbrev by-tests : ℕ → State → Line → Bool → Bool → Bool → Verdict
+by-tests k st l misplaced named small =
+    choose misplaced (λ _. refused 2 k) (λ _. choose (not named) (λ _. refused 3 k) (λ _. choose (not small) (λ _. refused 4 k) (λ _. good (after k l st))))
 
 -- ---- lines that are bad before they are read, and lines that are skipped
 
 module _ (k : ℕ) (last : Bool) (st : State) (s : List ℕ) where
+  -- the verdict by the tests of its bytes
+  abbrev by-bytes : Bool → Bool → Bool → Verdict
+  by-bytes sound skipped early =
+      choose (not sound) (λ _. refused 2 k) (λ _. choose skipped (λ _. cond early (refused 2 k) (good st)) (λ _. judged k last st (parse (tokens s))))
+
   unsound : sound-line s ≡ false → judge-line k last st s ≡ refused 2 k
   unfolding judge-line
-  unsound h = ap (λ (b : Bool). choose (not b) (λ _. refused 2 k) (λ _. choose (skipped-line s) (λ _. cond (last && not (finished (st .stage))) (refused 2 k) (good st)) (λ _. judged k last st (parse (tokens s))))) h
+  unsound h = ap (λ (b : Bool). by-bytes b (skipped-line s) (last && not (finished (st .stage)))) h
 
-  passed-over : sound-line s ≡ true → skipped-line s ≡ true → (b : Bool) → last && not (finished (st .stage)) ≡ b → judge-line k last st s ≡ cond b (refused 2 k) (good st)
+  passed-over : sound-line s ≡ true → skipped-line s ≡ true → (b : Bool) → last && not (finished (st .stage)) ≡ b
+      → judge-line k last st s ≡ cond b (refused 2 k) (good st)
   unfolding judge-line
-  passed-over h g b e = λ i. choose (not (h i)) (λ _. refused 2 k) (λ _. choose (g i) (λ _. cond (e i) (refused 2 k) (good st)) (λ _. judged k last st (parse (tokens s))))
+  passed-over h g b e = λ i. by-bytes (h i) (g i) (e i)
 
   spoken : sound-line s ≡ true → skipped-line s ≡ false → judge-line k last st s ≡ judged k last st (parse (tokens s))
   unfolding judge-line
-  spoken h g = λ i. choose (not (h i)) (λ _. refused 2 k) (λ _. choose (g i) (λ _. cond (last && not (finished (st .stage))) (refused 2 k) (good st)) (λ _. judged k last st (parse (tokens s))))
+  spoken h g = λ i. by-bytes (h i) (g i) (last && not (finished (st .stage)))
 
-module _ (k : ℕ) (r : Progress) (T : List ℕ) (I : List ℤ) (C O : List ℕ) where
-  is-refused : (v : Verdict) (n : ℕ) → v ≡ refused (suc n) k → r .number ≡ suc n → Judged k v r T I C O
+module _ (k : ℕ) (H′ : Held) where
+  is-refused : (v : Verdict) (n : ℕ) → v ≡ refused (suc n) k → H′ .progress .number ≡ suc n → Judged k v H′
   unfolding Judged
-  is-refused v n e h = subst (λ (u : Verdict). Judged k u r T I C O) (sym e) (h, refl, omega arith)
+  is-refused v n e h = subst (λ (u : Verdict). Judged k u H′) (sym e) (h, refl, omega arith)
 
-  is-good : (v : Verdict) (st : State) → v ≡ good st → r .number ≡ 0 → Represents r T I C O st → Judged k v r T I C O
+  is-good : (v : Verdict) (st : State) → v ≡ good st → H′ .progress .number ≡ 0 → Represents H′ st → Judged k v H′
   unfolding Judged
-  is-good v st e h rp = subst (λ (u : Verdict). Judged k u r T I C O) (sym e) (h, rp)
+  is-good v st e h rp = subst (λ (u : Verdict). Judged k u H′) (sym e) (h, rp)
 
   -- ---- what the code does for each
 
   module _ (last : Bool) (st : State) (s : List ℕ) where
-    pub bad-bytes : false ≡ sound-line s → r .number ≡ 2 → Judged k (judge-line k last st s) r T I C O
+    pub bad-bytes : false ≡ sound-line s → H′ .progress .number ≡ 2 → Judged k (judge-line k last st s) H′
     bad-bytes h n = is-refused (judge-line k last st s) 1 (unsound k last st s (sym h)) n
 
     module _ (h : true ≡ sound-line s) where
-      pub skipped-early : true ≡ skipped-line s → last ≡ true → st .stage < 6 → r .number ≡ 2 → Judged k (judge-line k last st s) r T I C O
-      skipped-early g e b n = is-refused (judge-line k last st s) 1 (passed-over k last st s (sym h) (sym g) true (λ i. e i && not (lt-leb 6 (st .stage) (omega arith) i))) n
+      pub skipped-early : true ≡ skipped-line s → last ≡ true → st .stage < 6 → H′ .progress .number ≡ 2 → Judged k (judge-line k last st s) H′
+      skipped-early g e b n = is-refused (judge-line k last st s) 1
+          (passed-over k last st s (sym h) (sym g) true (λ i. e i && not (lt-leb 6 (st .stage) (omega arith) i))) n
 
-      pub skipped-good : true ≡ skipped-line s → last && not (finished (st .stage)) ≡ false → r .number ≡ 0 → Represents r T I C O st → Judged k (judge-line k last st s) r T I C O
+      pub skipped-good : true ≡ skipped-line s → last && not (finished (st .stage)) ≡ false → H′ .progress .number ≡ 0 → Represents H′ st
+          → Judged k (judge-line k last st s) H′
       skipped-good g e n rp = is-good (judge-line k last st s) st (passed-over k last st s (sym h) (sym g) false e) n rp
 
       module _ (g : false ≡ skipped-line s) (kd : Kind) (kn : Kinds (λ f. readStart peek-in skip-in f s) s kd) where
@@ -73,67 +86,67 @@ module _ (k : ℕ) (r : Progress) (T : List ℕ) (I : List ℤ) (C O : List ℕ)
 
         bad-by : (l : Line) → not (stands st l) || (last && not (finished (stageOf l))) ≡ true → judged k last st (some l) ≡ refused 2 k
         unfolding judged
-        bad-by l e = ap (λ (b : Bool). choose b (λ _. refused 2 k) (λ _. choose (not (names st l)) (λ _. refused 3 k) (λ _. choose (not (limits st l)) (λ _. refused 4 k) (λ _. good (after k l st))))) e
+        bad-by l e = ap (λ (b : Bool). by-tests k st l b (names st l) (limits st l)) e
 
         no-line : judged k last st none ≡ refused 2 k
         unfolding judged
         no-line = refl
 
         -- bad, whatever it is
-        misplaced : ((l : Line) → stageOf l ≡ stageBy kd → not (stands st l) || (last && not (finished (stageOf l))) ≡ true) → judged k last st (lineOf (whole (readBy kd f) s)) ≡ refused 2 k
+        misplaced : ((l : Line) → stageOf l ≡ stageBy kd → not (stands st l) || (last && not (finished (stageOf l))) ≡ true)
+            → judged k last st (lineOf (whole (readBy kd f) s)) ≡ refused 2 k
         misplaced e = go (whole (readBy kd f) s) (line-stage kd f s)
           where
             go : (q : Parsed (List ℕ) Line) → Yields (λ l. stageOf l ≡ stageBy kd) q → judged k last st (lineOf q) ≡ refused 2 k
             go broken y = no-line
             go (done l u) y = bad-by l (e l y)
 
-        pub stands-not : false ≡ follows (st .stage) (stageBy kd) → r .number ≡ 2 → Judged k (judge-line k last st s) r T I C O
+        pub stands-not : false ≡ may-follow (st .stage) (stageBy kd) → H′ .progress .number ≡ 2 → Judged k (judge-line k last st s) H′
         unfolding stands
         stands-not e n = is-refused (judge-line k last st s) 1 (read-as ∙ misplaced unplaced) n
           where
             unplaced : (l : Line) → stageOf l ≡ stageBy kd → not (stands st l) || (last && not (finished (stageOf l))) ≡ true
-            unplaced l y = ap (λ (b : Bool). not (b && fits (st .opens) l) || (last && not (finished (stageOf l)))) (ap (follows (st .stage)) y ∙ sym e)
+            unplaced l y = ap (λ (b : Bool). not (b && fits (st .opens) l) || (last && not (finished (stageOf l)))) (ap (may-follow (st .stage)) y ∙ sym e)
 
-        pub ends-early : last ≡ true → stageBy kd < 6 → r .number ≡ 2 → Judged k (judge-line k last st s) r T I C O
+        pub ends-early : last ≡ true → stageBy kd < 6 → H′ .progress .number ≡ 2 → Judged k (judge-line k last st s) H′
         ends-early e b n = is-refused (judge-line k last st s) 1 (read-as ∙ misplaced unfinished) n
           where
-            turned : (a : Bool) → a || true ≡ true
-            turned true = refl
-            turned false = refl
-
             unfinished : (l : Line) → stageOf l ≡ stageBy kd → not (stands st l) || (last && not (finished (stageOf l))) ≡ true
-            unfinished l y = (λ i. not (stands st l) || (e i && not ((ap finished y ∙ lt-leb 6 (stageBy kd) (omega arith)) i))) ∙ turned (not (stands st l))
+            unfinished l y = (λ i. not (stands st l) || (e i && not ((ap finished y ∙ lt-leb 6 (stageBy kd) (omega arith)) i))) ∙ or-true (not (stands st l))
 
         -- it stands where it may
-        module _ (fo : follows (st .stage) (stageBy kd) ≡ true) (fi : last && not (finished (stageBy kd)) ≡ false) where
+        module _ (fo : may-follow (st .stage) (stageBy kd) ≡ true) (fi : last && not (finished (stageBy kd)) ≡ false) where
           standing : (l : Line) → stageOf l ≡ stageBy kd → not (stands st l) || (last && not (finished (stageOf l))) ≡ not (fits (st .opens) l)
           unfolding stands
-          standing l y = (λ i. not ((ap (follows (st .stage)) y ∙ fo) i && fits (st .opens) l) || ((ap (λ (m : ℕ). last && not (finished m)) y ∙ fi) i)) ∙ plain (not (fits (st .opens) l))
-            where
-              plain : (b : Bool) → b || false ≡ b
-              plain true = refl
-              plain false = refl
+          standing l y =
+              let follows-on = ap (may-follow (st .stage)) y ∙ fo in
+              let in-time = ap (λ (m : ℕ). last && not (finished m)) y ∙ fi in
+              (λ i. not (follows-on i && fits (st .opens) l) || in-time i) ∙ or-false (not (fits (st .opens) l))
 
-          in-place : (l : Line) → stageOf l ≡ stageBy kd → judged k last st (some l) ≡ choose (not (fits (st .opens) l)) (λ _. refused 2 k) (λ _. choose (not (names st l)) (λ _. refused 3 k) (λ _. choose (not (limits st l)) (λ _. refused 4 k) (λ _. good (after k l st))))
+          in-place : (l : Line) → stageOf l ≡ stageBy kd → judged k last st (some l) ≡ by-tests k st l (not (fits (st .opens) l)) (names st l) (limits st l)
           unfolding judged
-          in-place l y = ap (λ (b : Bool). choose b (λ _. refused 2 k) (λ _. choose (not (names st l)) (λ _. refused 3 k) (λ _. choose (not (limits st l)) (λ _. refused 4 k) (λ _. good (after k l st))))) (standing l y)
+          in-place l y = ap (λ (b : Bool). by-tests k st l b (names st l) (limits st l)) (standing l y)
 
-          by-number : (l : Line) → stageOf l ≡ stageBy kd → r .number ≡ numberOf st l → (r .number ≡ 0 → Represents r T I C O (after k l st)) → Judged k (judged k last st (some l)) r T I C O
+          by-number : (l : Line) → stageOf l ≡ stageBy kd → H′ .progress .number ≡ numberOf st l → (H′ .progress .number ≡ 0 → Represents H′ (after k l st))
+              → Judged k (judged k last st (some l)) H′
           unfolding numberOf
           by-number l y e rp = go (fits (st .opens) l) (names st l) (limits st l) (in-place l y) e
             where
-              go : (a b c : Bool) → judged k last st (some l) ≡ choose (not a) (λ _. refused 2 k) (λ _. choose (not b) (λ _. refused 3 k) (λ _. choose (not c) (λ _. refused 4 k) (λ _. good (after k l st))))
-                  → r .number ≡ choose (not a) (λ _. 2) (λ _. choose (not b) (λ _. 3) (λ _. choose (not c) (λ _. 4) (λ _. 0))) → Judged k (judged k last st (some l)) r T I C O
+              go : (a b c : Bool) → judged k last st (some l) ≡ by-tests k st l (not a) b c
+                  → H′ .progress .number ≡ choose (not a) (λ _. 2) (λ _. choose (not b) (λ _. 3) (λ _. choose (not c) (λ _. 4) (λ _. 0)))
+                  → Judged k (judged k last st (some l)) H′
               go true true true p q = is-good (judged k last st (some l)) (after k l st) p q (rp q)
               go true true false p q = is-refused (judged k last st (some l)) 3 p q
               go true false c p q = is-refused (judged k last st (some l)) 2 p q
               go false b c p q = is-refused (judged k last st (some l)) 1 p q
 
-          pub judged-line : Concludes (numberOf st) (λ l. Represents r T I C O (after k l st)) (whole (readBy kd f) s) (r .number) → Judged k (judge-line k last st s) r T I C O
+          pub judged-line : Concludes (numberOf st) (λ l. Represents H′ (after k l st)) (whole (readBy kd f) s) (H′ .progress .number)
+              → Judged k (judge-line k last st s) H′
           unfolding Concludes
-          judged-line h′ = subst (λ (v : Verdict). Judged k v r T I C O) (sym read-as) (go (whole (readBy kd f) s) (line-stage kd f s) h′)
+          judged-line cs = subst (λ (v : Verdict). Judged k v H′) (sym read-as) (go (whole (readBy kd f) s) (line-stage kd f s) cs)
             where
-              go : (q : Parsed (List ℕ) Line) → Yields (λ l. stageOf l ≡ stageBy kd) q → Concludes (numberOf st) (λ l. Represents r T I C O (after k l st)) q (r .number) → Judged k (judged k last st (lineOf q)) r T I C O
+              go : (q : Parsed (List ℕ) Line) → Yields (λ l. stageOf l ≡ stageBy kd) q
+                  → Concludes (numberOf st) (λ l. Represents H′ (after k l st)) q (H′ .progress .number) → Judged k (judged k last st (lineOf q)) H′
               go broken y c = is-refused (judged k last st none) 1 no-line c
               go (done l u) y c = by-number l y (c .0) (c .1)
 
@@ -143,7 +156,7 @@ stage-most : (k : ℕ) (l : Line) (st : State) → after k l st .stage ≤ 7
 unfolding after
 stage-most k (declare d ds) st = omega arith
 stage-most k (give x i is) st = omega arith
-stage-most k (direct a p b) st = omega arith
+stage-most k (direct cs) st = omega arith
 stage-most k (loop v l m j n) st = omega arith
 stage-most k (inside (assign r e)) st = omega arith
 stage-most k (inside (when a o b)) st = omega arith
@@ -186,10 +199,11 @@ module _ (k : ℕ) (last : Bool) (st : State) (s : List ℕ) (u : State) where
       same-state q = subst (λ (x : State). Kept st x (length s)) (ap stateOf q) (record { sane = sane; stage = late; code = omega arith })
 
       kept-line : (l : Line) → parse (tokens s) ≡ some l → (a b c : Bool) → stands st l ≡ a → names st l ≡ b → limits st l ≡ c → (d : Bool)
-          → choose (not a || d) (λ _. refused 2 k) (λ _. choose (not b) (λ _. refused 3 k) (λ _. choose (not c) (λ _. refused 4 k) (λ _. good (after k l st)))) ≡ good u → Kept st u (length s)
+          → by-tests k st l (not a || d) b c ≡ good u → Kept st u (length s)
       kept-line l pe true true true ea eb ec false q =
+          let short = ap length (line-exactly (tokens s) l .0 pe) in
           subst (λ (x : State). Kept st x (length s)) (ap stateOf q)
-          (record { sane = after-sane k l st ea eb ec sane; stage = stage-most k l st; code = omega (arith, line-length k l st ea, few-tokens 0 s, ap length (line-exactly (tokens s) l .0 pe)) })
+          (record { sane = after-sane k l st ea eb ec sane; stage = stage-most k l st; code = omega (arith, line-length k l st ea, tokens-length 0 s, short) })
       kept-line l pe true true false ea eb ec false q = absurd (not-refused q)
       kept-line l pe true false c ea eb ec false q = absurd (not-refused q)
       kept-line l pe false b c ea eb ec d q = absurd (not-refused q)
@@ -212,11 +226,7 @@ pub ends-open : (last : Bool) (n : ℕ) → last ≡ false → last && not (fini
 ends-open last n e = ap (λ (b : Bool). b && not (finished n)) e
 
 pub ends-late : (last : Bool) (m n : ℕ) → m ≡ n → 6 ≤ m → last && not (finished n) ≡ false
-ends-late last m n e b = ap (λ (x : Bool). last && not x) (le-leb 6 n (omega (arith, e))) ∙ none-of last
-  where
-    none-of : (x : Bool) → x && false ≡ false
-    none-of true = refl
-    none-of false = refl
+ends-late last m n e b = ap (λ (x : Bool). last && not x) (le-leb 6 n (omega (arith, e))) ∙ and-false last
 
 pub ends-right : (last : Bool) (m n : ℕ) → m ≡ n → (last ≡ false) ⊎ (6 ≤ m) → last && not (finished n) ≡ false
 ends-right last m n e (inl h) = ends-open last n h

@@ -9,7 +9,8 @@ use lib.ListN.{length, take, drop, length-drop}
 use lib.Seq.{drop-drop}
 use Rattle.syntax.specs.Bytes.{choose, run, after-newline, in-front, lines}
 use Rattle.syntax.specs.Known.{State}
-use Rattle.syntax.specs.Text.{good, is-last, go-on, judge, judge-line}
+use Rattle.syntax.specs.Text.{good, then-judge, judge, judge-line}
+use Rattle.syntax.proofs.Accepted.{some-lines}
 use Rattle.lexer.specs.Lex.{ended}
 
 -- no newline
@@ -51,9 +52,6 @@ rest-some [] h = absurd (omega arith)
 rest-some (b ∷ []) h = absurd (omega arith)
 rest-some (b ∷ c ∷ r) h = refl
 
-lines-some : (u : List ℕ) → is-last (lines u) ≡ false
-lines-some u = ap is-last (lines-split u)
-
 -- the line that begins at a place
 module _ (s : List ℕ) (at e : ℕ) (en : e ≡ ended s at) (b : at ≤ length s) where
   ends : e ≡ at + run inline (drop at s)
@@ -84,15 +82,16 @@ module _ (s : List ℕ) (at e : ℕ) (en : e ≡ ended s at) (b : at ≤ length 
   -- or others come after it
   pub lines-more : e + 1 < length s → lines (drop at s) ≡ this ∷ lines (drop (e + 1) s)
   lines-more h =
-      let z : e + 1 ≡ e + 1 = refl in
       lines-at ∙ ap (λ (ls : List (List ℕ)). this ∷ ls) (rest-some (drop e s) (omega (arith, length-drop e s)) ∙ ap lines (drop-drop 1 e s))
 
   -- the verdict, by this line's
   module _ (k : ℕ) (st : State) where
-    pub judge-last : length s ≤ e + 1 → judge k st (lines (drop at s)) ≡ go-on (judge-line k true st this) good
+    pub judge-last : length s ≤ e + 1 → judge k st (lines (drop at s)) ≡ then-judge (judge-line k true st this) good
     unfolding judge
     judge-last h = ap (judge k st) (lines-last h)
 
-    pub judge-more : e + 1 < length s → judge k st (lines (drop at s)) ≡ go-on (judge-line k false st this) (λ t. judge (suc k) t (lines (drop (e + 1) s)))
+    pub judge-more : e + 1 < length s → judge k st (lines (drop at s)) ≡ then-judge (judge-line k false st this) (λ t. judge (suc k) t (lines (drop (e + 1) s)))
     unfolding judge
-    judge-more h = ap (judge k st) (lines-more h) ∙ ap (λ (x : Bool). go-on (judge-line k x st this) (λ t. judge (suc k) t (lines (drop (e + 1) s)))) (lines-some (drop (e + 1) s))
+    judge-more h =
+        ap (judge k st) (lines-more h)
+        ∙ ap (λ (x : Bool). then-judge (judge-line k x st this) (λ t. judge (suc k) t (lines (drop (e + 1) s)))) (some-lines (drop (e + 1) s))

@@ -3,9 +3,9 @@ ghost use mathlib.Core.Path.{_≡_};
 ghost use mathlib.Core.Bool.{true, false};
 ghost use Prim.Native.Nat.{_≤_, _<_, _+_};
 ghost use lib.ListN.{length};
-ghost use lib.IntN.{pos};
 ghost use Rattle.syntax.specs.Bytes.{lines, skipped-line, sound-line};
 ghost use Rattle.lines.specs.Lines.{Takes};
+ghost use Rattle.lines.specs.Progress.{held};
 ghost use Rattle.kinds.specs.Kinds.{readBy, stageBy, Inside};
 ghost use Rattle.syntax.specs.Known.{nothing};
 ghost use Rattle.syntax.specs.Text.{judge, read as readText};
@@ -20,6 +20,7 @@ use lexer::line_end;
 use lexer::lowered;
 use lines::Progress;
 use lines::assign_line;
+use lines::before_do;
 use lines::close_line;
 use lines::data_line;
 use lines::directive_line;
@@ -29,6 +30,7 @@ use lines::end_if_line;
 use lines::if_line;
 use lines::integer_line;
 use lines::loop_line;
+use lines::onward;
 use names::Table;
 
 // A line that is bad by its form or its place.
@@ -36,22 +38,9 @@ fn broken_line(p: Progress) -> Progress
     ensures { λ r. ⌜ r .number ≡ 2 ⌝ }
 {
     let stage = p.stage;
-    let cells = p.cells;
-    let processors = p.processors;
-    let from = p.from;
-    let count = p.count;
     let place = p.place;
     let depth = p.depth;
-    Progress {
-        number: 2,
-        stage,
-        cells,
-        processors,
-        from,
-        count,
-        place,
-        depth,
-    }
+    onward(p, 2, stage, place, depth)
 }
 
 // ---- one line
@@ -67,8 +56,10 @@ fn line_by(
     code: &mut [u32],
     opens: &mut [u32; 8],
 ) -> Progress
-    requires { ⌜ Lent (now s) line p (now table) (now initial) (now code) (now opens) × Inside (now s) k ⌝ }
-    ensures { λ r. ⌜ Takes (readBy k) (stageBy k) (now (s .entry)) line p (now (table .entry)) (now (initial .entry)) (now (code .entry)) (now (opens .entry)) r (now (table .exit)) (now (initial .exit)) (now (code .exit)) (now (opens .exit)) ⌝ }
+    requires { ⌜ Lent (now s) line (held p (now table) (now initial) (now code) (now opens)) × Inside (now s) k ⌝ }
+    ensures { λ r. ⌜ Takes (readBy k) (stageBy k) (now (s .entry)) line
+        (held p (now (table .entry)) (now (initial .entry)) (now (code .entry)) (now (opens .entry)))
+        (held r (now (table .exit)) (now (initial .exit)) (now (code .exit)) (now (opens .exit))) ⌝ }
 {
     match k {
         Kind::Broken => broken_line(p),
@@ -96,8 +87,11 @@ fn spoken_line(
     code: &mut [u32],
     opens: &mut [u32; 8],
 ) -> Progress
-    requires { ⌜ Lent (now s) line p (now table) (now initial) (now code) (now opens) ⌝ }
-    ensures { λ r. ⌜ (true ≡ sound-line (now (s .entry)) → false ≡ skipped-line (now (s .entry)) → JudgesLine (now (s .entry)) last line p (now (table .entry)) (now (initial .entry)) (now (code .entry)) (now (opens .entry)) r (now (table .exit)) (now (initial .exit)) (now (code .exit)) (now (opens .exit))) ⌝ }
+    requires { ⌜ Lent (now s) line (held p (now table) (now initial) (now code) (now opens)) ⌝ }
+    ensures { λ r. ⌜ (true ≡ sound-line (now (s .entry)) → false ≡ skipped-line (now (s .entry))
+        → JudgesLine (now (s .entry)) last line
+        (held p (now (table .entry)) (now (initial .entry)) (now (code .entry)) (now (opens .entry)))
+        (held r (now (table .exit)) (now (initial .exit)) (now (code .exit)) (now (opens .exit)))) ⌝ }
 {
     let k = kind_of(s);
     let stage = stage_of(k);
@@ -123,8 +117,10 @@ fn judge_line(
     code: &mut [u32],
     opens: &mut [u32; 8],
 ) -> Progress
-    requires { ⌜ Lent (now s) line p (now table) (now initial) (now code) (now opens) ⌝ }
-    ensures { λ r. ⌜ JudgesLine (now (s .entry)) last line p (now (table .entry)) (now (initial .entry)) (now (code .entry)) (now (opens .entry)) r (now (table .exit)) (now (initial .exit)) (now (code .exit)) (now (opens .exit)) ⌝ }
+    requires { ⌜ Lent (now s) line (held p (now table) (now initial) (now code) (now opens)) ⌝ }
+    ensures { λ r. ⌜ JudgesLine (now (s .entry)) last line
+        (held p (now (table .entry)) (now (initial .entry)) (now (code .entry)) (now (opens .entry)))
+        (held r (now (table .exit)) (now (initial .exit)) (now (code .exit)) (now (opens .exit))) ⌝ }
 {
     if is_sound(s) {
         if is_skipped(s) {
@@ -148,22 +144,6 @@ pub struct Reading {
     pub progress: Progress,
 }
 
-// No line was read.
-fn start() -> Progress
-    ensures { λ r. ⌜ r ≡ record { number = 0; stage = 0; cells = 0; processors = 0; from = pos 0; count = 0; place = 0; depth = 0 } ⌝ }
-{
-    Progress {
-        number: 0,
-        stage: 0,
-        cells: 0,
-        processors: 0,
-        from: 0,
-        count: 0,
-        place: 0,
-        depth: 0,
-    }
-}
-
 // The lines of a text in lower case, up to the first bad one.
 fn read_lines(s: &[u8], table: &mut Table, initial: &mut [i32], code: &mut [u32]) -> Reading
     requires { ⌜ (length (now s) ≤ 2048) × Fresh (now table) (now initial) (now code) ⌝ }
@@ -173,7 +153,7 @@ fn read_lines(s: &[u8], table: &mut Table, initial: &mut [i32], code: &mut [u32]
     let mut opens = [0; 8];
     let mut at = 0;
     let mut line = 1;
-    let mut p = start();
+    let mut p = before_do(0, 0, 0, 0);
     while at <= n {
         let e = line_end(s, at);
         let last = n <= e + 1;
@@ -196,16 +176,7 @@ fn too_long() -> Reading
 {
     Reading {
         line: 0,
-        progress: Progress {
-            number: 1,
-            stage: 0,
-            cells: 0,
-            processors: 0,
-            from: 0,
-            count: 0,
-            place: 0,
-            depth: 0,
-        },
+        progress: before_do(1, 0, 0, 0),
     }
 }
 

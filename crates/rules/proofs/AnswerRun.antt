@@ -13,7 +13,8 @@ use Rattle.rules.proofs.Passed.{same-of-passed}
 module _ (l : Loop) (δ : Partition) (h : Proper l δ) (ps : List ℕ) where
   by-cases : (d : Dec (TrialPasses l δ ps)) (e : Dec (SerialPasses l (δ .group))) → run-by l δ ps d ≡ settled-by l (δ .group) e
   unfolding run-by settled-by
-  by-cases (yes t) (yes s) = let m = same-of-passed l δ h ps t in let c = ap (λ (f : ℕ → ℤ). listed (l .size) f) (fun-ext (m .cells)) in cc (m .pair-count, m .cell-count)
+  by-cases (yes t) (yes s) =
+      let m = same-of-passed l δ h ps t in let c = ap (λ (f : ℕ → ℤ). listed (l .size) f) (fun-ext (m .cells)) in cc (m .pair-count, m .cell-count)
   by-cases (yes t) (no f) = absurd (f (passes l δ h ps .0 t))
   by-cases (no f) (yes s) = absurd (f (passes l δ h ps .1 s))
   by-cases (no f) (no g) = refl

@@ -25,7 +25,8 @@ unfolding highest
 highest-same f f′ c zero h = refl
 highest-same f f′ c (suc n) h = cc (h n, highest-same f f′ c n h)
 
-pub highest-is : (f : ℕ → Log) (c i : ℕ) (v : ℤ) (n : ℕ) → i < n → written c (f i) ≡ some v → ((j : ℕ) → i < j → written c (f j) ≡ none) → highest f c n ≡ some v
+pub highest-is : (f : ℕ → Log) (c i : ℕ) (v : ℤ) (n : ℕ) → i < n → written c (f i) ≡ some v → ((j : ℕ) → i < j → written c (f j) ≡ none)
+    → highest f c n ≡ some v
 unfolding highest
 highest-is f c i v zero b h u = absurd (omega arith)
 highest-is f c i v (suc n) b h u = elim (ℕ-discrete i n) [
@@ -60,9 +61,13 @@ module _ (γ : ℕ → ℕ) where
   pub highest-written : (c n : ℕ) {g : Log} → Climbs c g → Within γ n g → written c g ≡ highest (λ i. only γ i g) c n
   unfolding only written
   highest-written c n climbs-nil u = sym (highest-none (λ i. []) c n (λ j. refl))
-  highest-written c n (climbs-write {i = i} {v = v} {g = g} h k) u = written-newest c i v g ∙ sym (highest-is (λ j. only γ j (access writes i c v ∷ g)) c (γ i) v n (within-newest γ n (access writes i c v) g u)
-      (ap (written c) (only-same γ (access writes i c v) refl g) ∙ written-newest c i v (only γ (γ i) g)) (λ j b. ap (written c) (only-other γ (access writes i c v) (omega arith) g) ∙ h j b))
-  highest-written c n (climbs-leave {e = e} {g = g} h k) u = h g ∙ highest-written c n k (within-tail γ n e g u) ∙ highest-same (λ i. only γ i g) (λ i. only γ i (e ∷ g)) c n (λ j. sym (written-only-leaving γ c j e g h))
+  highest-written c n (climbs-write {i = i} {v = v} {g = g} h k) u =
+      written-newest c i v g ∙ sym (highest-is (λ j. only γ j (access writes i c v ∷ g)) c (γ i) v n (within-newest γ n (access writes i c v) g u)
+      (ap (written c) (only-same γ (access writes i c v) refl g) ∙ written-newest c i v (only γ (γ i) g))
+      (λ j b. ap (written c) (only-other γ (access writes i c v) (omega arith) g) ∙ h j b))
+  highest-written c n (climbs-leave {e = e} {g = g} h k) u =
+      h g ∙ highest-written c n k (within-tail γ n e g u)
+      ∙ highest-same (λ i. only γ i g) (λ i. only γ i (e ∷ g)) c n (λ j. sym (written-only-leaving γ c j e g h))
 
   pub sorted-climbs : (c : ℕ) {g : Log} → Sorted γ g → Climbs c g
   sorted-climbs c sorted-nil = climbs-nil
@@ -75,10 +80,19 @@ module _ (γ : ℕ → ℕ) where
   -- so it is where no two groups meet at c
   pub free-climbs : (c : ℕ) (g : Log) → ¬ Clash (λ i. only γ i g) c → Climbs c g
   free-climbs c [] n = climbs-nil
-  free-climbs c (e ∷ g) n = go e (writing? c e) n (free-climbs c g (λ x. n (clash-more (λ i. only γ i g) (λ i. only γ i (e ∷ g)) (λ i. extends-only γ i e g) c x)))
+  free-climbs c (e ∷ g) n = go e (writing? c e) n
+      (free-climbs c g (λ x. n (clash-more (λ i. only γ i g) (λ i. only γ i (e ∷ g)) (λ i. extends-only γ i e g) c x)))
     where
       go : (e : Access) → Writing c e → ¬ Clash (λ i. only γ i (e ∷ g)) c → Climbs c g → Climbs c (e ∷ g)
-      go e (writing {i = i} {v = v}) m k = climbs-write (λ j (b : γ i < j). unwritten c (only γ j g) (λ w. m (γ i, j, omega arith, rw (only-same γ (access writes i c v) refl g) newest, a-write (has-more (extends-only γ j (access writes i c v) g) w)))) k
+      go e (writing {i = i} {v = v}) m k = climbs-write
+          (λ j (b : γ i < j). unwritten c (only γ j g) (λ w. m (
+            γ i,
+            j,
+            omega arith,
+            rw (only-same γ (access writes i c v) refl g) newest,
+            a-write (has-more (extends-only γ j (access writes i c v) g) w),
+          )))
+          k
       go e (leaving x) m k = climbs-leave x k
 
 module _ (l : Loop) (δ : Partition) (h : Proper l δ) (c : ℕ) where
@@ -88,7 +102,8 @@ module _ (l : Loop) (δ : Partition) (h : Proper l δ) (c : ℕ) where
   total-none [] n = refl
   total-none (access reads i d v ∷ g) n = total-none g (λ x. n (older x))
   total-none (access writes i d v ∷ g) n = total-none g (λ x. n (older x))
-  total-none (access updates i d v ∷ g) n = pick-other (λ (p : d ≡ c). n (rw p newest)) (l .plus v (total l c g)) (total l c g) ∙ total-none g (λ x. n (older x))
+  total-none (access updates i d v ∷ g) n =
+      pick-other (λ (p : d ≡ c). n (rw p newest)) (l .plus v (total l c g)) (total l c g) ∙ total-none g (λ x. n (older x))
 
   -- a cell with updates and no writes holds its entry and its sum
   replay-sum : (g : Log) → ¬ Has writes c g → Has updates c g → replay l c g ≡ l .plus (l .entry c) (total l c g)
@@ -98,14 +113,22 @@ module _ (l : Loop) (δ : Partition) (h : Proper l δ) (c : ℕ) where
   replay-sum (access writes i d v ∷ g) n u = pick-other (λ (p : d ≡ c). n (rw p newest)) v (replay l c g) ∙ replay-sum g (λ x. n (older x)) (not-written u)
   replay-sum (access updates i d v ∷ g) n u = elim (ℕ-discrete d c) [
     | yes p ↦ rw (pick-same p (l .plus (replay l c g) v) (replay l c g), pick-same p (l .plus v (total l c g)) (total l c g)) (elim (has? updates c g) [
-      | yes w ↦ ap (λ (x : ℤ). l .plus x v) (replay-sum g (λ x. n (older x)) w) ∙ h .plus-assoc (l .entry c) (total l c g) v ∙ ap (l .plus (l .entry c)) (h .plus-comm (total l c g) v)
-      | no w ↦ ap (λ (x : ℤ). l .plus x v) (unmet w) ∙ sym (h .plus-zero (l .entry c) v) ∙ h .plus-assoc (l .entry c) v (l .zero) ∙ ap (λ (x : ℤ). l .plus (l .entry c) (l .plus v x)) (sym (total-none g w))
+      | yes w ↦
+          ap (λ (x : ℤ). l .plus x v) (replay-sum g (λ x. n (older x)) w) ∙ h .plus-assoc (l .entry c) (total l c g) v
+          ∙ ap (l .plus (l .entry c)) (h .plus-comm (total l c g) v)
+      | no w ↦
+          ap (λ (x : ℤ). l .plus x v) (unmet w) ∙ sym (h .plus-zero (l .entry c) v) ∙ h .plus-assoc (l .entry c) v (l .zero)
+          ∙ ap (λ (x : ℤ). l .plus (l .entry c) (l .plus v x)) (sym (total-none g w))
     ])
-    | no p ↦ rw (pick-other p (l .plus (replay l c g) v) (replay l c g), pick-other p (l .plus v (total l c g)) (total l c g)) (replay-sum g (λ x. n (older x)) (elim (has-cases u) [ inl x ↦ absurd (p (x .1)) | inr x ↦ x ]))
+    | no p ↦ rw (pick-other p (l .plus (replay l c g) v) (replay l c g), pick-other p (l .plus v (total l c g)) (total l c g))
+        (replay-sum g (λ x. n (older x)) (elim (has-cases u) [ inl x ↦ absurd (p (x .1)) | inr x ↦ x ]))
   ]
     where
       unmet : ¬ Has updates c g → replay l c g ≡ l .entry c
-      unmet w = elim (replay-latest l c g) [ inr x ↦ absurd (w x) | inl q ↦ q ∙ ap (λ (o : Option ℤ). Option·getD o (l .entry c)) (unwritten c g (λ x. n (older x))) ]
+      unmet w = elim (replay-latest l c g) [
+        | inr x ↦ absurd (w x)
+        | inl q ↦ q ∙ ap (λ (o : Option ℤ). Option·getD o (l .entry c)) (unwritten c g (λ x. n (older x)))
+      ]
 
   -- a cell that is updated and not written
   pub replay-updated : (g : Log) → ¬ Has writes c g → Has updates c g → replay l c g ≡ l .plus (latest l c g) (total l c g)

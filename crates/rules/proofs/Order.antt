@@ -1,4 +1,5 @@
--- Order decides nothing: under every schedule the trial passes exactly when the serial run does, and then each group of iterations makes the same accesses in both.
+-- Order decides nothing: under every schedule the trial passes exactly when the serial run does, and then each group of iterations makes the same
+-- accesses in both.
 use mathlib.Core.Path.{_≡_, sym, _∙_, ap}
 use mathlib.Core.Logic.{inl, inr, _↔_}
 use mathlib.Core.List.{List}
@@ -41,7 +42,9 @@ module _ (l : Loop) (δ : Partition) (h : Proper l δ) where
 
     trial-of-clean : Clean l δ → TrialPasses l δ ps
     trial-of-clean k = record {
-      faultless = λ f. let r = fault-left l δ h ps inv f in no-fault-of-clean l δ (trial l δ ps .log) (rest l δ (trial l δ ps)) k (inv .status) (r .0) (r .1) (r .2) (r .3) (r .4);
+      faultless = λ f.
+          let r = fault-left l δ h ps inv f in
+          no-fault-of-clean l δ (trial l δ ps .log) (rest l δ (trial l δ ps)) k (inv .status) (r .0) (r .1) (r .2) (r .3) (r .4);
       free = free-of-clean l δ (trial l δ ps .log) (rest l δ (trial l δ ps)) k (inv .status);
     }
 

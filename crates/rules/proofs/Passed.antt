@@ -56,11 +56,14 @@ module _ (l : Loop) (δ : Partition) (h : Proper l δ) (ps : List ℕ) (t : Tria
 
     same-sum : gathered l δ c (trial l δ ps .log) ≡ total l c (serial l .log)
     same-sum = sym (total-gathered l δ h c (trial l δ ps .log) within-trial) ∙ total-iterations l δ h c (trial l δ ps .log) within-trial
-        ∙ sum-same l δ h (l .iterations) (λ i. total l c (each i (trial l δ ps .log))) (λ i. total l c (each i (serial l .log))) (λ i b. ap (total l c) (same i))
+        ∙ sum-same l δ h (l .iterations) (λ i. total l c (each i (trial l δ ps .log))) (λ i. total l c (each i (serial l .log)))
+        (λ i b. ap (total l c) (same i))
         ∙ sym (total-iterations l δ h c (serial l .log) within)
 
     serial-updated : Has updates c (serial l .log) → l .class c ≡ reduction
-    serial-updated u = let r = has-only (δ .group) u in updated-is-reduction l δ h (serial l .log) work (agree-of-clean l δ (serial l .log) work clean status) c (r .0) (r .1)
+    serial-updated u =
+        let r = has-only (δ .group) u in
+        updated-is-reduction l δ h (serial l .log) work (agree-of-clean l δ (serial l .log) work clean status) c (r .0) (r .1)
 
     not-mixed : ¬ (Has writes c (serial l .log) × Has updates c (serial l .log))
     not-mixed (w, u) =
@@ -75,18 +78,27 @@ module _ (l : Loop) (δ : Partition) (h : Proper l δ) (ps : List ℕ) (t : Tria
     same-latest : l .class c ≡ shared → latest l c (trial l δ ps .log) ≡ latest l c (serial l .log)
     unfolding value
     same-latest e =
-        ap value (highest-written (δ .group) c (δ .groups) (free-climbs (δ .group) c (trial l δ ps .log) (λ o. t .free (c, rw e o))) (λ j b. same-accesses l δ h ps t j ∙ groups-within j b))
+        ap value
+        (highest-written (δ .group) c (δ .groups) (free-climbs (δ .group) c (trial l δ ps .log) (λ o. t .free (c, rw e o)))
+        (λ j b. same-accesses l δ h ps t j ∙ groups-within j b))
         ∙ ap (λ (f : ℕ → Log). Option·getD (highest f c (δ .groups)) (l .entry c)) (fun-ext (same-accesses l δ h ps t))
         ∙ sym (ap value (highest-written (δ .group) c (δ .groups) (sorted-climbs (δ .group) c sorted) groups-within))
 
     merged-is : (k : Class) → l .class c ≡ k → merged-as l δ k (trial l δ ps) c ≡ replay l c (serial l .log)
-    merged-is shared e = trial-holds l δ h ps .memory c e ∙ same-latest e ∙ sym (plain (λ (r : l .class c ≡ reduction). let z : _≡_ {A = ℕ} 0 1 = cc in omega arith))
+    merged-is shared e =
+        trial-holds l δ h ps .memory c e ∙ same-latest e ∙ sym (plain (λ (r : l .class c ≡ reduction). let z : _≡_ {A = ℕ} 0 1 = cc in omega arith))
     merged-is lastprivate e = same-last ∙ serial-last ∙ sym (plain (λ (r : l .class c ≡ reduction). let z : _≡_ {A = ℕ} 0 1 = cc in omega arith))
     merged-is reduction e = rw (same-updated (trial l δ ps .log) (serial l .log) same c) (go (updated c (serial l .log)) refl)
       where
-        go : (b : Bool) → updated c (serial l .log) ≡ b → cond b (l .plus (last-value l c (trial l δ ps .log)) (gathered l δ c (trial l δ ps .log))) (last-value l c (trial l δ ps .log)) ≡ replay l c (serial l .log)
-        go true q = let u = updated-has c (serial l .log) q in cc (same-last, serial-last, same-sum, replay-updated l δ h c (serial l .log) (λ w. not-mixed (w, u)) u)
-        go false q = same-last ∙ serial-last ∙ sym (replay-plain l δ h c (serial l .log) (λ u. let p = has-updated u in let z : _≡_ {A = ℕ} 0 1 = cc in omega arith))
+        go : (b : Bool) → updated c (serial l .log) ≡ b
+            → cond b (l .plus (last-value l c (trial l δ ps .log)) (gathered l δ c (trial l δ ps .log))) (last-value l c (trial l δ ps .log))
+            ≡ replay l c (serial l .log)
+        go true q =
+            let u = updated-has c (serial l .log) q in
+            cc (same-last, serial-last, same-sum, replay-updated l δ h c (serial l .log) (λ w. not-mixed (w, u)) u)
+        go false q =
+            same-last ∙ serial-last
+            ∙ sym (replay-plain l δ h c (serial l .log) (λ u. let p = has-updated u in let z : _≡_ {A = ℕ} 0 1 = cc in omega arith))
 
     pub same-cell : merged l δ (trial l δ ps) c ≡ serial l .cells c
     unfolding merged

@@ -1,20 +1,16 @@
--- A worker that takes iterations in turn: where it is, and what is left of each group. Which processor has a group.
+-- A worker that takes iterations in turn: where it is, and what is left of each group. Laws of owners.
 use mathlib.Core.Path.{_≡_, refl, sym, _∙_, ap, fun-ext}
 use mathlib.Core.Logic.{_≢_}
 use Prim.Native.Nat.{ℕ, zero, suc, _≤_, _<_}
 use native.Mathlib.Decide.{ℕ-discrete, decLt}
 use native.Mathlib.Omega.{arith}
 use Rattle.rules.specs.Choose.{below}
+use Rattle.rules.specs.Owner.{owner}
 use Rattle.rules.specs.ChooseLaws.{below-yes, below-no}
 use Rattle.rules.specs.Loop.{Act, done, Loop, bound, Partition}
 use Rattle.rules.proofs.Job.{Job, idle, before, span, span-open, span-none, job}
 use Rattle.rules.specs.Proper.{Proper}
 use Rattle.rules.specs.Steps.{Place, opening}
-
--- the last of the blocks 0 .. k that begin at or before i, block p at b p
-unfoldable pub owner : (ℕ → ℕ) → ℕ → ℕ → ℕ
-owner b zero i = 0
-owner b (suc k) i = below i (b (suc k)) (owner b k i) (suc k)
 
 module _ (b : ℕ → ℕ) (grows : (p : ℕ) → b p ≤ b (suc p)) where
   pub bounds-grow : (p q : ℕ) → p ≤ q → b p ≤ b q
@@ -26,8 +22,12 @@ module _ (b : ℕ → ℕ) (grows : (p : ℕ) → b p ≤ b (suc p)) where
   unfolding owner
   owner-is zero i p h g t = omega arith
   owner-is (suc k) i p h g t = elim (decLt i (b (suc k))) [
-    | yes y ↦ below-yes y (owner b k i) (suc k) ∙ owner-is k i p h g (elim (ℕ-discrete p (suc k)) [ yes e ↦ absurd (omega (arith, ap b e)) | no n ↦ omega arith ])
-    | no y ↦ below-no (omega arith) (owner b k i) (suc k) ∙ elim (ℕ-discrete p (suc k)) [ yes e ↦ sym e | no n ↦ absurd (omega (arith, bounds-grow (suc p) (suc k) (omega arith))) ]
+    | yes y ↦
+        below-yes y (owner b k i) (suc k)
+        ∙ owner-is k i p h g (elim (ℕ-discrete p (suc k)) [ yes e ↦ absurd (omega (arith, ap b e)) | no n ↦ omega arith ])
+    | no y ↦
+        below-no (omega arith) (owner b k i) (suc k)
+        ∙ elim (ℕ-discrete p (suc k)) [ yes e ↦ sym e | no n ↦ absurd (omega (arith, bounds-grow (suc p) (suc k) (omega arith))) ]
   ]
 
   -- each i has an owner
@@ -122,11 +122,14 @@ module _ (l : Loop) (δ : Partition) where
 
 -- the processors' blocks of iterations follow one another and cover the iterations
 module _ (l : Loop) (δ : Partition) (h : Proper l δ) where
+  pub cuts-grow : (x y : ℕ) → x ≤ y → δ .cut x ≤ δ .cut y
+  cuts-grow = bounds-grow (δ .cut) (h .cut-grows)
+
   pub bound-first : bound δ 0 ≡ 0
   bound-first = ap (δ .cut) (h .share-first) ∙ h .cut-first
 
   pub bound-grows : (p : ℕ) → bound δ p ≤ bound δ (suc p)
-  bound-grows p = bounds-grow (δ .cut) (h .cut-grows) (δ .share p) (δ .share (suc p)) (h .share-grows p)
+  bound-grows p = cuts-grow (δ .share p) (δ .share (suc p)) (h .share-grows p)
 
   pub bound-last : (p : ℕ) → δ .processors ≤ p → bound δ p ≡ l .iterations
   bound-last p b = ap (δ .cut) (h .share-last p b) ∙ h .cut-last (δ .groups) (omega arith)

@@ -58,18 +58,28 @@ module _ (l : Loop) (δ : Partition) where
 
   module _ (g : Log) (m m′ : ℕ → Job) (i : ℕ) (a : Job) (d : Moved m i a m′) where
     agree-step : (e : Access) → δ .group (iteration e) ≡ i → Agree g m → finish l a (e ∷ own i g) ≡ alone l δ i → Agree (e ∷ g) m′
-    agree-step e p h q j = elim (ℕ-discrete i j) [ yes r ↦ go r | no r ↦ rw (d .elsewhere j r, only-other (δ .group) e (λ (s : δ .group (iteration e) ≡ j). r (sym p ∙ s)) g) (h j) ]
+    agree-step e p h q j = elim (ℕ-discrete i j) [
+      | yes r ↦ go r
+      | no r ↦ rw (d .elsewhere j r, only-other (δ .group) e (λ (s : δ .group (iteration e) ≡ j). r (sym p ∙ s)) g) (h j)
+    ]
       where
         go : i ≡ j → Agrees (e ∷ g) j (m′ j)
         go r = subst (λ (k : ℕ). Agrees (e ∷ g) k (m′ k)) r (rw (d .there, only-same (δ .group) e p g) q)
 
   -- iteration i makes an access to c
   module _ (g : Log) (m m′ : ℕ → Job) (i c : ℕ) where
-    pub step-read : (k : ℤ → Job) (x : ℤ) → m (δ .group i) ≡ reading i c k → Moved m (δ .group i) (k x) m′ → Allowed g i c x → Status g m → Status (access reads i c x ∷ g) m′
+    pub step-read : (k : ℤ → Job) (x : ℤ) → m (δ .group i) ≡ reading i c k → Moved m (δ .group i) (k x) m′ → Allowed g i c x → Status g m
+        → Status (access reads i c x ∷ g) m′
     unfolding finish
     step-read k x e d o (inr (p, q)) = inr (obstructed-more l (δ .group) (access reads i c x) g p, q)
     step-read k x e d (inl o) (inl h) = inl (agree-step g m m′ (δ .group i) (k x) d (access reads i c x) refl h (rw o (rw e at (h (δ .group i)))))
-    step-read k x e d (inr o) (inl h) = inr (o x, inside (access reads i c y ∷ g) (put m (δ .group i) (k y)) (agree-step g m (put m (δ .group i) (k y)) (δ .group i) (k y) (moved-put m (δ .group i) (k y)) (access reads i c y) refl h (rw e at (h (δ .group i)))) (o y))
+    step-read k x e d (inr o) (inl h) = inr (
+      o x,
+      inside (access reads i c y ∷ g) (put m (δ .group i) (k y))
+          (agree-step g m (put m (δ .group i) (k y)) (δ .group i) (k y) (moved-put m (δ .group i) (k y)) (access reads i c y) refl h
+          (rw e at (h (δ .group i))))
+          (o y),
+    )
       where
         y : ℤ
         y = latest l c (own (δ .group i) g)

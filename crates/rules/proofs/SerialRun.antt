@@ -18,7 +18,7 @@ use Rattle.rules.specs.Steps.{latest, opening}
 use Rattle.rules.proofs.Isolated.{finish, finish-sums}
 use Rattle.rules.proofs.Runs.{Moved, Agree, Status, Allowed, inside-extends, step-read, step-write, step-update}
 use Rattle.rules.proofs.Job.{Job, failing, idle, before, span, job}
-use Rattle.rules.proofs.Progress.{within, left, left-before, left-at, left-other, left-next, left-begun, group-holds, bounds-grow}
+use Rattle.rules.proofs.Progress.{within, left, left-before, left-at, left-other, left-next, left-begun, group-holds, cuts-grow}
 use Rattle.rules.specs.Proper.{Proper}
 use Rattle.rules.proofs.ProperLaws.{sums-chain}
 use Rattle.rules.specs.Serial.{finished, failed, Result, along, from, serial}
@@ -48,8 +48,10 @@ module _ (γ : ℕ → ℕ) where
       before : γ (iteration e) ≢ i → γ (iteration e) < i
       before n = elim (decLt i (γ (iteration e))) [ yes y ↦ absurd (only-nil γ (γ (iteration e)) e g (u (γ (iteration e)) y) .0 refl) | no y ↦ omega arith ]
 
-      same : (e : Access) → Writing c e → γ (iteration e) ≡ i → written c (only γ i (e ∷ g)) ≡ some v → (written c (only γ i g) ≡ some v → written c g ≡ some v) → written c (e ∷ g) ≡ some v
-      same e (writing {i = j} {v = x}) p q ih = written-newest c j x g ∙ sym (written-newest c j x (only γ i g)) ∙ rw (only-same γ (access writes j c x) p g) at q
+      same : (e : Access) → Writing c e → γ (iteration e) ≡ i → written c (only γ i (e ∷ g)) ≡ some v
+          → (written c (only γ i g) ≡ some v → written c g ≡ some v) → written c (e ∷ g) ≡ some v
+      same e (writing {i = j} {v = x}) p q ih =
+          written-newest c j x g ∙ sym (written-newest c j x (only γ i g)) ∙ rw (only-same γ (access writes j c x) p g) at q
       same e (leaving k) p q ih = k g ∙ ih (sym (written-only-leaving γ c i e g k) ∙ q)
 
 module _ (l : Loop) where
@@ -77,12 +79,16 @@ module _ (l : Loop) where
 module _ (l : Loop) (δ : Partition) where
   -- only reduction cells are updated in a run that agrees with the groups by themselves
   pub updated-is-reduction : Proper l δ → (g : Log) (w : ℕ → Job) → Agree l δ g w → (c j : ℕ) → Has updates c (only (δ .group) j g) → l .class c ≡ reduction
-  updated-is-reduction h g w ag c j x = finish-sums l (job l δ j) [] (sums-chain l δ h _ (δ .cut j)) (λ d y. absurd (has-nil y)) c (has-more (inside-extends l δ g w ag j) x)
+  updated-is-reduction h g w ag c j x = finish-sums l (job l δ j) [] (sums-chain l δ h _ (δ .cut j)) (λ d y. absurd (has-nil y)) c
+      (has-more (inside-extends l δ g w ag j) x)
 
   module _ (h : Proper l δ) (g : Log) (w : ℕ → Job) (ag : Agree l δ g w) (i c : ℕ) (t : Sorted (δ .group) g) (u : Upto (δ .group) (δ .group i) g) where
     -- a read in place gives what the group would read by itself, or is an obstacle
     allowed : Allowed l δ g i c (replay l c g)
-    allowed = elim (replay-latest l c g) [ inr x ↦ mixed (has-only γ x) | inl q ↦ elim (own-or-other γ c (γ i) g) [ inl r ↦ inl (q ∙ ap value r) | inr o ↦ foreign q o (l .class c) refl ] ]
+    allowed = elim (replay-latest l c g) [
+      | inr x ↦ mixed (has-only γ x)
+      | inl q ↦ elim (own-or-other γ c (γ i) g) [ inl r ↦ inl (q ∙ ap value r) | inr o ↦ foreign q o (l .class c) refl ]
+    ]
       where
         γ : ℕ → ℕ
         γ = δ .group
@@ -97,17 +103,37 @@ module _ (l : Loop) (δ : Partition) where
         read-there y = a-read (rw (only-same γ (access reads i c y) refl g) newest)
 
         mixed : (j : ℕ) × Has updates c (only γ j g) → Allowed l δ g i c (replay l c g)
-        mixed (j, x) = inr (λ y. (c, subst (λ (k : Class). ObstacleAt k (log′ y) c) (sym (updated-is-reduction h g w ag c j x)) (inr (j, γ i, has-more (extends-only γ j (access reads i c y) g) x, read-there y))))
+        mixed (j, x) = inr (λ y. (
+          c,
+          subst (λ (k : Class). ObstacleAt k (log′ y) c) (sym (updated-is-reduction h g w ag c j x))
+              (inr (j, γ i, has-more (extends-only γ j (access reads i c y) g) x, read-there y)),
+        ))
 
         stale : replay l c g ≡ latest l c g → (j : ℕ) × (j ≢ γ i) × Has writes c (only γ j g) → (o : Option ℤ) → written c (only γ (γ i) g) ≡ o
             → (replay l c g ≡ latest l c (only γ (γ i) g)) ⊎ ((y : ℤ) → (a : ℕ) × (b : ℕ) × (a ≢ b) × Has writes c (log′ y a) × Exposed c (log′ y b))
-        stale q (j, n, x) none e = inr (λ y. (j, γ i, n, has-more (extends-only γ j (access reads i c y) g) x, rw (only-same γ (access reads i c y) refl g) (first (λ z. written-none c z e))))
+        stale q (j, n, x) none e = inr (λ y. (
+          j,
+          γ i,
+          n,
+          has-more (extends-only γ j (access reads i c y) g) x,
+          rw (only-same γ (access reads i c y) refl g) (first (λ z. written-none c z e)),
+        ))
         stale q (j, n, x) (some v) e = inl (q ∙ ap value (sorted-own γ c (γ i) v t u e ∙ sym e))
 
-        foreign : replay l c g ≡ latest l c g → (j : ℕ) × (j ≢ γ i) × Has writes c (only γ j g) → (k : Class) → l .class c ≡ k → Allowed l δ g i c (replay l c g)
-        foreign q (j, n, x) shared e = inr (λ y. (c, subst (λ (k : Class). ObstacleAt k (log′ y) c) (sym e) (j, γ i, n, has-more (extends-only γ j (access reads i c y) g) x, read-there y)))
-        foreign q o lastprivate e = elim (stale q o (written c (only γ (γ i) g)) refl) [ inl r ↦ inl r | inr f ↦ inr (λ y. (c, subst (λ (k : Class). ObstacleAt k (log′ y) c) (sym e) (f y))) ]
-        foreign q o reduction e = elim (stale q o (written c (only γ (γ i) g)) refl) [ inl r ↦ inl r | inr f ↦ inr (λ y. (c, subst (λ (k : Class). ObstacleAt k (log′ y) c) (sym e) (inl (f y)))) ]
+        foreign : replay l c g ≡ latest l c g → (j : ℕ) × (j ≢ γ i) × Has writes c (only γ j g) → (k : Class) → l .class c ≡ k
+            → Allowed l δ g i c (replay l c g)
+        foreign q (j, n, x) shared e = inr (λ y. (
+          c,
+          subst (λ (k : Class). ObstacleAt k (log′ y) c) (sym e) (j, γ i, n, has-more (extends-only γ j (access reads i c y) g) x, read-there y),
+        ))
+        foreign q o lastprivate e = elim (stale q o (written c (only γ (γ i) g)) refl) [
+          | inl r ↦ inl r
+          | inr f ↦ inr (λ y. (c, subst (λ (k : Class). ObstacleAt k (log′ y) c) (sym e) (f y)))
+        ]
+        foreign q o reduction e = elim (stale q o (written c (only γ (γ i) g)) refl) [
+          | inl r ↦ inl r
+          | inr f ↦ inr (λ y. (c, subst (λ (k : Class). ObstacleAt k (log′ y) c) (sym e) (inl (f y))))
+        ]
 
   -- in the midst of iteration i, of which a is left
   record During (i : ℕ) (a : Act) (m : ℕ → ℤ) (g : Log) : Type 0 where
@@ -126,12 +152,10 @@ module _ (l : Loop) (δ : Partition) where
     pub sorted : Sorted (δ .group) (r .log)
     pub in-order : Sorted (λ j. j) (r .log)
     pub within : (j : ℕ) → l .iterations ≤ j → each j (r .log) ≡ []
-    pub how : ((r .outcome ≡ finished) × ((j : ℕ) → work j ≡ idle)) ⊎ ((n : ℕ) × (t : ℕ) × (i : ℕ) × (r .outcome ≡ failed n t i) × (work (δ .group i) ≡ failing i n t))
+    pub how : ((r .outcome ≡ finished) × ((j : ℕ) → work j ≡ idle))
+        ⊎ ((n : ℕ) × (t : ℕ) × (i : ℕ) × (r .outcome ≡ failed n t i) × (work (δ .group i) ≡ failing i n t))
 
   module _ (h : Proper l δ) where
-    cuts : (x y : ℕ) → x ≤ y → δ .cut x ≤ δ .cut y
-    cuts = bounds-grow (δ .cut) (h .cut-grows)
-
     module _ (i : ℕ) (lt : i < l .iterations) where
       -- what comes after the iteration in its group
       abbrev after : Job
@@ -145,10 +169,13 @@ module _ (l : Loop) (δ : Partition) where
 
       module _ (g : Log) (u : (j : ℕ) → i < δ .cut j → only (δ .group) j g ≡ []) where
         behind : Upto (δ .group) (δ .group i) g
-        behind j b = u j (omega (arith, group-holds l δ h i lt .1, cuts (suc (δ .group i)) j b))
+        behind j b = u j (omega (arith, group-holds l δ h i lt .1, cuts-grow l δ h (suc (δ .group i)) j b))
 
         upto-cons : (e : Access) → iteration e ≡ i → (j : ℕ) → i < δ .cut j → only (δ .group) j (e ∷ g) ≡ []
-        upto-cons e p j b = only-other (δ .group) e (λ (q : δ .group (iteration e) ≡ j). omega (arith, group-holds l δ h i lt .0, ap (δ .cut) (sym (ap (δ .group) p) ∙ q))) g ∙ u j b
+        upto-cons e p j b =
+            only-other (δ .group) e
+            (λ (q : δ .group (iteration e) ≡ j). omega (arith, group-holds l δ h i lt .0, ap (δ .cut) (sym (ap (δ .group) p) ∙ q))) g
+            ∙ u j b
 
     future-cons : (i : ℕ) (g : Log) → Upto (λ j. j) i g → (e : Access) → iteration e ≡ i → Upto (λ j. j) i (e ∷ g)
     future-cons i g u e p j b = only-other (λ k. k) e (omega arith) g ∙ u j b
@@ -160,10 +187,13 @@ module _ (l : Loop) (δ : Partition) where
     ]
 
     along-ends : (i : ℕ) → i < l .iterations → (a : Act) (m : ℕ → ℤ) (g : Log) (next : (ℕ → ℤ) → Log → Result) → During i a m g
-        → ((m′ : ℕ → ℤ) (g′ : Log) → During (suc i) (l .body (suc i)) m′ g′ → ((j : ℕ) → suc i ≤ j → each j g′ ≡ []) → Ends (next m′ g′)) → Ends (along l i a m g next)
+        → ((m′ : ℕ → ℤ) (g′ : Log) → During (suc i) (l .body (suc i)) m′ g′ → ((j : ℕ) → suc i ≤ j → each j g′ ≡ []) → Ends (next m′ g′))
+        → Ends (along l i a m g next)
     unfolding along replay before
     along-ends i lt (read c k) m g next d f = along-ends i lt (k (m c)) m (access reads i c (m c) ∷ g) next (record {
-      status = step-read l δ g (left l δ (record { at = i; act = read c k })) (left l δ (record { at = i; act = k (m c) })) i c (λ x. before i (k x) (after i lt)) (m c) (here i lt (read c k)) (goes i lt (read c k) (k (m c))) (allowed-during i c k m g lt d) (d .status);
+      status = step-read l δ g (left l δ (record { at = i; act = read c k })) (left l δ (record { at = i; act = k (m c) })) i c
+          (λ x. before i (k x) (after i lt)) (m c) (here i lt (read c k)) (goes i lt (read c k) (k (m c))) (allowed-during i c k m g lt d)
+          (d .status);
       memory = d .memory;
       sorted = sorted-cons (behind i lt g (d .upto)) (d .sorted);
       upto = upto-cons i lt g (d .upto) (access reads i c (m c)) refl;
@@ -171,17 +201,24 @@ module _ (l : Loop) (δ : Partition) where
       future = future-cons i g (d .future) (access reads i c (m c)) refl;
     }) f
     along-ends i lt (write c v a) m g next d f = along-ends i lt a (put m c v) (access writes i c v ∷ g) next (record {
-      status = step-write l δ g (left l δ (record { at = i; act = write c v a })) (left l δ (record { at = i; act = a })) i c v (before i a (after i lt)) (here i lt (write c v a)) (goes i lt (write c v a) a) (d .status);
-      memory = λ e. elim (ℕ-discrete c e) [ yes p ↦ put-same p m v ∙ sym (pick-same p v (replay l e g)) | no p ↦ put-other p m v ∙ d .memory e ∙ sym (pick-other p v (replay l e g)) ];
+      status = step-write l δ g (left l δ (record { at = i; act = write c v a })) (left l δ (record { at = i; act = a })) i c v
+          (before i a (after i lt)) (here i lt (write c v a)) (goes i lt (write c v a) a) (d .status);
+      memory = λ e. elim (ℕ-discrete c e) [
+        | yes p ↦ put-same p m v ∙ sym (pick-same p v (replay l e g))
+        | no p ↦ put-other p m v ∙ d .memory e ∙ sym (pick-other p v (replay l e g))
+      ];
       sorted = sorted-cons (behind i lt g (d .upto)) (d .sorted);
       upto = upto-cons i lt g (d .upto) (access writes i c v) refl;
       in-order = sorted-cons (d .future) (d .in-order);
       future = future-cons i g (d .future) (access writes i c v) refl;
     }) f
     along-ends i lt (update c v a) m g next d f = along-ends i lt a (put m c (l .plus (m c) v)) (access updates i c v ∷ g) next (record {
-      status = step-update l δ g (left l δ (record { at = i; act = update c v a })) (left l δ (record { at = i; act = a })) i c v (before i a (after i lt)) (here i lt (update c v a)) (goes i lt (update c v a) a) (d .status);
+      status = step-update l δ g (left l δ (record { at = i; act = update c v a })) (left l δ (record { at = i; act = a })) i c v
+          (before i a (after i lt)) (here i lt (update c v a)) (goes i lt (update c v a) a) (d .status);
       memory = λ e. elim (ℕ-discrete c e) [
-        | yes p ↦ put-same p m (l .plus (m c) v) ∙ ap (λ (x : ℤ). l .plus x v) (ap m p ∙ d .memory e) ∙ sym (pick-same p (l .plus (replay l e g) v) (replay l e g))
+        | yes p ↦
+            put-same p m (l .plus (m c) v) ∙ ap (λ (x : ℤ). l .plus x v) (ap m p ∙ d .memory e)
+            ∙ sym (pick-same p (l .plus (replay l e g) v) (replay l e g))
         | no p ↦ put-other p m (l .plus (m c) v) ∙ d .memory e ∙ sym (pick-other p (l .plus (replay l e g) v) (replay l e g))
       ];
       sorted = sorted-cons (behind i lt g (d .upto)) (d .sorted);
@@ -209,7 +246,7 @@ module _ (l : Loop) (δ : Partition) where
 
     cut-within : (g : ℕ) → δ .cut g ≤ l .iterations
     cut-within g = elim (decLt g (δ .groups)) [
-      | yes y ↦ omega (arith, cuts g (δ .groups) (omega arith), h .cut-last (δ .groups) (omega arith))
+      | yes y ↦ omega (arith, cuts-grow l δ h g (δ .groups) (omega arith), h .cut-last (δ .groups) (omega arith))
       | no y ↦ omega (arith, h .cut-last g (omega arith))
     ]
 
@@ -224,7 +261,8 @@ module _ (l : Loop) (δ : Partition) where
       within = λ j b. f j (omega arith);
       how = inl (refl, λ j. left-before l δ h (opening l i) j (omega (arith, cut-within (suc j))));
     }
-    from-ends (suc k) i m g e d f = along-ends i (omega arith) (l .body i) m g (from l k (suc i)) d (λ m′ g′ d′ f′. from-ends k (suc i) m′ g′ (omega arith) d′ f′)
+    from-ends (suc k) i m g e d f = along-ends i (omega arith) (l .body i) m g (from l k (suc i)) d
+        (λ m′ g′ d′ f′. from-ends k (suc i) m′ g′ (omega arith) d′ f′)
 
     pub serial-ends : Ends (serial l)
     unfolding serial only replay

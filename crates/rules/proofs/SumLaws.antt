@@ -11,7 +11,8 @@ use Rattle.rules.specs.Choose.{below}
 use Rattle.rules.specs.Loop.{Loop, bound, Partition}
 use Rattle.rules.specs.Log.{reads, writes, updates, Access, access, iteration, Log, only, each}
 use Rattle.rules.specs.LogLaws.{only-same, only-other, only-nil}
-use Rattle.rules.proofs.Progress.{owner, owner-from, owner-to, bounds-grow, bound-first, bound-grows, bound-last}
+use Rattle.rules.proofs.Progress.{owner-from, owner-to, bounds-grow, bound-first, bound-grows, bound-last}
+use Rattle.rules.specs.Owner.{owner}
 use Rattle.rules.specs.Proper.{Proper}
 use Rattle.rules.specs.Merge.{block, add, total, sum-of, gathered}
 
@@ -24,7 +25,10 @@ module _ (γ : ℕ → ℕ) where
   within-tail n e g u j h = only-nil γ j e g (u j h) .1
 
   pub within-newest : (n : ℕ) (e : Access) (g : Log) → Within n (e ∷ g) → γ (iteration e) < n
-  within-newest n e g u = elim (decLt (γ (iteration e)) n) [ yes y ↦ y | no y ↦ absurd (only-nil γ (γ (iteration e)) e g (u (γ (iteration e)) (omega arith)) .0 refl) ]
+  within-newest n e g u = elim (decLt (γ (iteration e)) n) [
+    | yes y ↦ y
+    | no y ↦ absurd (only-nil γ (γ (iteration e)) e g (u (γ (iteration e)) (omega arith)) .0 refl)
+  ]
 
 module _ (l : Loop) (δ : Partition) (h : Proper l δ) where
   -- e adds to a sum as it adds to either part
@@ -51,7 +55,8 @@ module _ (l : Loop) (δ : Partition) (h : Proper l δ) where
   sum-same (suc k) f f′ z = cc (z k (omega arith), sum-same k f f′ (λ j b. z j (omega arith)))
 
   -- a sum with e added in one place
-  sum-add : (c : ℕ) (e : Access) (k i : ℕ) (f f′ : ℕ → ℤ) → i < k → f′ i ≡ add l c e (f i) → ((j : ℕ) → j ≢ i → f′ j ≡ f j) → sum-of l k f′ ≡ add l c e (sum-of l k f)
+  sum-add : (c : ℕ) (e : Access) (k i : ℕ) (f f′ : ℕ → ℤ) → i < k → f′ i ≡ add l c e (f i) → ((j : ℕ) → j ≢ i → f′ j ≡ f j)
+      → sum-of l k f′ ≡ add l c e (sum-of l k f)
   unfolding sum-of
   sum-add c e zero i f f′ b p q = absurd (omega arith)
   sum-add c e (suc k) i f f′ b p q = elim (ℕ-discrete k i) [
@@ -61,23 +66,29 @@ module _ (l : Loop) (δ : Partition) (h : Proper l δ) where
 
   -- parts of a log, each access in one of them
   module _ (part : ℕ → Log → Log) (k : ℕ) (nil : (j : ℕ) → part j [] ≡ [])
-      (home : (e : Access) → iteration e < l .iterations → (i : ℕ) × (i < k) × ((g : Log) → part i (e ∷ g) ≡ e ∷ part i g) × ((j : ℕ) (g : Log) → j ≢ i → part j (e ∷ g) ≡ part j g)) where
-    total-parts : (c : ℕ) (g : Log) → Within (λ j. j) (l .iterations) g → total l c g ≡ sum-of l k (λ j. total l c (part j g))
-    unfolding total
-    total-parts c [] u = sym (sum-zeros k (λ j. total l c (part j [])) (λ j. ap (total l c) (nil j)))
-    total-parts c (e ∷ g) u =
-        let r = home e (within-newest (λ j. j) (l .iterations) e g u) in
-        ap (add l c e) (total-parts c g (within-tail (λ j. j) (l .iterations) e g u))
-        ∙ sym (sum-add c e k (r .0) (λ j. total l c (part j g)) (λ j. total l c (part j (e ∷ g))) (r .1) (ap (total l c) (r .2 g)) (λ j n. ap (total l c) (r .3 j g n)))
+      (home : (e : Access) → iteration e < l .iterations
+      → (i : ℕ) × (i < k) × ((g : Log) → part i (e ∷ g) ≡ e ∷ part i g) × ((j : ℕ) (g : Log) → j ≢ i → part j (e ∷ g) ≡ part j g))
+    where
+      total-parts : (c : ℕ) (g : Log) → Within (λ j. j) (l .iterations) g → total l c g ≡ sum-of l k (λ j. total l c (part j g))
+      unfolding total
+      total-parts c [] u = sym (sum-zeros k (λ j. total l c (part j [])) (λ j. ap (total l c) (nil j)))
+      total-parts c (e ∷ g) u =
+          let r = home e (within-newest (λ j. j) (l .iterations) e g u) in
+          ap (add l c e) (total-parts c g (within-tail (λ j. j) (l .iterations) e g u))
+          ∙ sym (sum-add c e k (r .0) (λ j. total l c (part j g)) (λ j. total l c (part j (e ∷ g))) (r .1) (ap (total l c) (r .2 g))
+          (λ j n. ap (total l c) (r .3 j g n)))
 
   pub total-iterations : (c : ℕ) (g : Log) → Within (λ j. j) (l .iterations) g → total l c g ≡ sum-of l (l .iterations) (λ i. total l c (each i g))
   unfolding only
-  total-iterations = total-parts each (l .iterations) (λ j. refl) (λ e b. (iteration e, b, λ g. only-same (λ k. k) e refl g, λ j g n. only-other (λ k. k) e (λ (p : iteration e ≡ j). n (sym p)) g))
+  total-iterations = total-parts each (l .iterations) (λ j. refl)
+      (λ e b. (iteration e, b, λ g. only-same (λ k. k) e refl g, λ j g n. only-other (λ k. k) e (λ (p : iteration e ≡ j). n (sym p)) g))
 
   module _ (e : Access) (g : Log) (p : ℕ) (from : bound δ p ≤ iteration e) (to : iteration e < bound δ (suc p)) where
     block-in : block δ p (e ∷ g) ≡ e ∷ block δ p g
     unfolding block
-    block-in = below-no from (block δ p g) (below (iteration e) (bound δ (suc p)) (e ∷ block δ p g) (block δ p g)) ∙ below-yes to (e ∷ block δ p g) (block δ p g)
+    block-in =
+        below-no from (block δ p g) (below (iteration e) (bound δ (suc p)) (e ∷ block δ p g) (block δ p g))
+        ∙ below-yes to (e ∷ block δ p g) (block δ p g)
 
     block-out : (q : ℕ) → q ≢ p → block δ q (e ∷ g) ≡ block δ q g
     unfolding block
@@ -93,7 +104,9 @@ module _ (l : Loop) (δ : Partition) (h : Proper l δ) where
   unfolding gathered block
   total-gathered = total-parts (block δ) (δ .processors) (λ j. refl) home
     where
-      home : (e : Access) → iteration e < l .iterations → (i : ℕ) × (i < δ .processors) × ((g : Log) → block δ i (e ∷ g) ≡ e ∷ block δ i g) × ((j : ℕ) (g : Log) → j ≢ i → block δ j (e ∷ g) ≡ block δ j g)
+      home : (e : Access) → iteration e < l .iterations
+          → (i : ℕ) × (i < δ .processors) × ((g : Log) → block δ i (e ∷ g) ≡ e ∷ block δ i g)
+          × ((j : ℕ) (g : Log) → j ≢ i → block δ j (e ∷ g) ≡ block δ j g)
       home e b =
           let k = δ .processors in
           let i = owner (bound δ) k (iteration e) in

@@ -18,4 +18,5 @@ order-decides-nothing = run-settles
 pub processors-decide-nothing : (l : Loop) (P Q : ℕ) → Proper l (singles (l .iterations) P) → Proper l (singles (l .iterations) Q)
     → (ps qs : List ℕ) → run l (singles (l .iterations) P) ps ≡ run l (singles (l .iterations) Q) qs
 unfolding singles
-processors-decide-nothing l P Q h k ps qs = order-decides-nothing l (singles (l .iterations) P) h ps ∙ sym (order-decides-nothing l (singles (l .iterations) Q) k qs)
+processors-decide-nothing l P Q h k ps qs =
+    order-decides-nothing l (singles (l .iterations) P) h ps ∙ sym (order-decides-nothing l (singles (l .iterations) Q) k qs)

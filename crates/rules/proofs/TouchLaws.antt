@@ -23,8 +23,14 @@ pub touch-of : (c : ℕ) (g : Log) → touches c g ≡ true → Touch c g
 unfolding touches
 touch-of c [] h = let z : _≡_ {A = ℕ} 0 1 = cc in absurd (omega arith)
 touch-of c (access reads i d v ∷ g) h = later (touch-of c g h)
-touch-of c (access writes i d v ∷ g) h = elim (ℕ-discrete d c) [ yes p ↦ inl (rw p newest) | no p ↦ later (touch-of c g (rw (pick-other p true (touches c g)) at h)) ]
-touch-of c (access updates i d v ∷ g) h = elim (ℕ-discrete d c) [ yes p ↦ inr (rw p newest) | no p ↦ later (touch-of c g (rw (pick-other p true (touches c g)) at h)) ]
+touch-of c (access writes i d v ∷ g) h = elim (ℕ-discrete d c) [
+  | yes p ↦ inl (rw p newest)
+  | no p ↦ later (touch-of c g (rw (pick-other p true (touches c g)) at h))
+]
+touch-of c (access updates i d v ∷ g) h = elim (ℕ-discrete d c) [
+  | yes p ↦ inr (rw p newest)
+  | no p ↦ later (touch-of c g (rw (pick-other p true (touches c g)) at h))
+]
 
 touches-more : (c : ℕ) (e : Access) (g : Log) → touches c g ≡ true → touches c (e ∷ g) ≡ true
 unfolding touches
@@ -47,7 +53,10 @@ unfolding updated
 updated-has c [] h = let z : _≡_ {A = ℕ} 0 1 = cc in absurd (omega arith)
 updated-has c (access reads i d v ∷ g) h = older (updated-has c g h)
 updated-has c (access writes i d v ∷ g) h = older (updated-has c g h)
-updated-has c (access updates i d v ∷ g) h = elim (ℕ-discrete d c) [ yes p ↦ rw p newest | no p ↦ older (updated-has c g (rw (pick-other p true (updated c g)) at h)) ]
+updated-has c (access updates i d v ∷ g) h = elim (ℕ-discrete d c) [
+  | yes p ↦ rw p newest
+  | no p ↦ older (updated-has c g (rw (pick-other p true (updated c g)) at h))
+]
 
 updated-more : (c : ℕ) (e : Access) (g : Log) → updated c g ≡ true → updated c (e ∷ g) ≡ true
 unfolding updated
@@ -80,7 +89,8 @@ same-updated g g′ s c = both-ways (updated c g) (updated c g′) (updated-over
 
 pub same-written-cells : (l : Loop) (g g′ : Log) → ((i : ℕ) → each i g ≡ each i g′) → written-cells l g ≡ written-cells l g′
 unfolding written-cells
-same-written-cells l g g′ s = ap (count (l .size)) (fun-ext (λ c. both-ways (touches c g) (touches c g′) (touches-over g g′ s c) (touches-over g′ g (λ i. sym (s i)) c)))
+same-written-cells l g g′ s = ap (count (l .size))
+    (fun-ext (λ c. both-ways (touches c g) (touches c g′) (touches-over g g′ s c) (touches-over g′ g (λ i. sym (s i)) c)))
 
 pub same-pairs : (l : Loop) (g g′ : Log) → ((i : ℕ) → each i g ≡ each i g′) → pairs l g ≡ pairs l g′
 unfolding pairs

@@ -8,10 +8,11 @@ use native.Mathlib.Omega.{arith}
 use Rattle.rules.specs.ChooseLaws.{put-same, put-other, below-yes, below-no}
 use Rattle.rules.specs.Loop.{Act, read, write, update, fault, done, Loop, bound, Partition}
 use Rattle.rules.proofs.Job.{failing, idle, before, span, span-none}
-use Rattle.rules.proofs.Progress.{left-before, left-at, left-begun, owner-to, owner-top, bounds-grow}
+use Rattle.rules.proofs.Progress.{left-before, left-at, left-begun, owner-to, owner-top, cuts-grow}
 use Rattle.rules.specs.Proper.{Proper}
 use Rattle.rules.specs.Steps.{State, IsFault, go-on, step, steps, through, through-all, run-out, run-on, start, trial, Faulty}
-use Rattle.rules.proofs.TrialRun.{whose, Home, home, rest, Invariant, through-all-keeps}
+use Rattle.rules.proofs.TrialRun.{Home, home, rest, Invariant, through-all-keeps}
+use Rattle.rules.specs.Owner.{whose}
 
 fault-is : (a : Act) → IsFault a → (n : ℕ) × (t : ℕ) × (a ≡ fault n t)
 fault-is (read c k) h = absurd h
@@ -54,9 +55,12 @@ module _ (l : Loop) (δ : Partition) where
   through-moves : (i p : ℕ) (a : Act) (s : State) → i ≤ s .places p .at → s .places p .at < bound δ (suc p) → s .places p .act ≡ a
       → IsFault (through l δ p a s .places p .act) ⊎ (i < through l δ p a s .places p .at)
   unfolding through go-on
-  through-moves i p (read c k) s h lt e = through-moves i p (k _) (step l δ p s) (rw (step-at p s (read c k) lt e, put-same {i = p} refl) h) (rw (step-at p s (read c k) lt e, put-same {i = p} refl) lt) (rw (step-at p s (read c k) lt e, put-same {i = p} refl))
-  through-moves i p (write c v a) s h lt e = through-moves i p a (step l δ p s) (rw (step-at p s (write c v a) lt e, put-same {i = p} refl) h) (rw (step-at p s (write c v a) lt e, put-same {i = p} refl) lt) (rw (step-at p s (write c v a) lt e, put-same {i = p} refl))
-  through-moves i p (update c v a) s h lt e = through-moves i p a (step l δ p s) (rw (step-at p s (update c v a) lt e, put-same {i = p} refl) h) (rw (step-at p s (update c v a) lt e, put-same {i = p} refl) lt) (rw (step-at p s (update c v a) lt e, put-same {i = p} refl))
+  through-moves i p (read c k) s h lt e = through-moves i p (k _) (step l δ p s) (rw (step-at p s (read c k) lt e, put-same {i = p} refl) h)
+      (rw (step-at p s (read c k) lt e, put-same {i = p} refl) lt) (rw (step-at p s (read c k) lt e, put-same {i = p} refl))
+  through-moves i p (write c v a) s h lt e = through-moves i p a (step l δ p s) (rw (step-at p s (write c v a) lt e, put-same {i = p} refl) h)
+      (rw (step-at p s (write c v a) lt e, put-same {i = p} refl) lt) (rw (step-at p s (write c v a) lt e, put-same {i = p} refl))
+  through-moves i p (update c v a) s h lt e = through-moves i p a (step l δ p s) (rw (step-at p s (update c v a) lt e, put-same {i = p} refl) h)
+      (rw (step-at p s (update c v a) lt e, put-same {i = p} refl) lt) (rw (step-at p s (update c v a) lt e, put-same {i = p} refl))
   through-moves i p (fault n m) s h lt e = inl (rw e tt)
   through-moves i p done s h lt e = inr (rw (step-at p s done lt e, put-same {i = p} refl) (omega arith))
 
@@ -71,7 +75,8 @@ module _ (l : Loop) (δ : Partition) where
       s′ : State
       s′ = through l δ p (s .places p .act) s
 
-      go : IsFault (s′ .places p .act) ⊎ (s .places p .at < s′ .places p .at) → (bound δ (suc p) ≤ s′ .places p .at + k → Over p (through-all l δ k p s′)) → Over p (through-all l δ k p s′)
+      go : IsFault (s′ .places p .act) ⊎ (s .places p .at < s′ .places p .at)
+          → (bound δ (suc p) ≤ s′ .places p .at + k → Over p (through-all l δ k p s′)) → Over p (through-all l δ k p s′)
       go (inl f) ih = through-all-keeps l δ (Over p) (over-keeps p) k p s′ (inr f)
       go (inr g) ih = ih (omega arith)
 
@@ -97,20 +102,17 @@ module _ (l : Loop) (δ : Partition) where
         P : ℕ
         P = δ .processors
 
-        cuts : (x y : ℕ) → x ≤ y → δ .cut x ≤ δ .cut y
-        cuts = bounds-grow (δ .cut) (h .cut-grows)
-
         inner : g < δ .groups → rest l δ s g ≡ idle
         inner y =
             let r = owner-to (δ .share) (h .share-grows) (h .share-first) P g (omega (arith, h .share-last P (omega arith))) in
             elim (decLt (s .places (whose δ g) .at) (bound δ (suc (whose δ g)))) [
-              | no z ↦ left-before l δ h (s .places (whose δ g)) g (omega (arith, cuts (suc g) (δ .share (suc (whose δ g))) (r .0)))
+              | no z ↦ left-before l δ h (s .places (whose δ g)) g (omega (arith, cuts-grow l δ h (suc g) (δ .share (suc (whose δ g))) (r .0)))
               | yes z ↦ elim (over (whose δ g) (r .1)) [ inl x ↦ absurd (omega arith) | inr f ↦ absurd (n (whose δ g, r .1, (z, f))) ]
             ]
 
         outer : δ .groups ≤ g → rest l δ s g ≡ idle
         outer y = rw (owner-top (δ .share) P g (omega (arith, h .share-last P (omega arith))), inv .quiet)
-            (left-begun l δ h (bound δ P) g (cuts (δ .share P) g (omega (arith, h .share-last P (omega arith))))
+            (left-begun l δ h (bound δ P) g (cuts-grow l δ h (δ .share P) g (omega (arith, h .share-last P (omega arith))))
             ∙ span-none l (δ .cut g) (δ .cut (suc g)) (omega (arith, h .cut-last g y, h .cut-last (suc g) (omega arith))))
 
     pub fault-left : Faulty δ (trial l δ ps) → (g : ℕ) × (i : ℕ) × (n : ℕ) × (t : ℕ) × (rest l δ (trial l δ ps) g ≡ failing i n t)
@@ -119,5 +121,12 @@ module _ (l : Loop) (δ : Partition) where
         let s = trial l δ ps in
         let r = fault-is (s .places p .act) f in
         let i = s .places p .at in
-        let o : Home l δ h p i = home l δ h p i (inv .placed p) lt in
-        (δ .group i, i, r .0, r .1, rw (o .owned) (left-at l δ (s .places p) (δ .group i) (o .from) (o .to) ∙ ap (λ (a : Act). before i a (span l (suc i) (δ .cut (suc (δ .group i))))) (r .2)))
+        let o : Home l δ h p i = home l δ h p i (inv .placed p) lt in (
+          δ .group i,
+          i,
+          r .0,
+          r .1,
+          rw (o .owned)
+              (left-at l δ (s .places p) (δ .group i) (o .from) (o .to)
+              ∙ ap (λ (a : Act). before i a (span l (suc i) (δ .cut (suc (δ .group i))))) (r .2)),
+        )

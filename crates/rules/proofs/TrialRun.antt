@@ -17,12 +17,9 @@ use Rattle.rules.proofs.Job.{Job, before, span}
 use Rattle.rules.specs.Steps.{latest, State, given, stored, go-on, step, steps, through, through-all, run-out, run-on, start, trial, Place, opening}
 use Rattle.rules.proofs.Isolated.{finish}
 use Rattle.rules.proofs.Runs.{Moved, Status, Allowed, step-read, step-write, step-update}
-use Rattle.rules.proofs.Progress.{within, left, left-at, left-other, left-next, left-begun, group-holds, owner, owner-is, owner-from, bounds-grow}
+use Rattle.rules.proofs.Progress.{within, left, left-at, left-other, left-next, left-begun, group-holds, owner-is, owner-from, bounds-grow, cuts-grow}
+use Rattle.rules.specs.Owner.{whose}
 use Rattle.rules.specs.Proper.{Proper}
-
--- the processor that has group g
-abbrev pub whose : Partition → ℕ → ℕ
-whose δ g = owner (δ .share) (δ .processors) g
 
 module _ (l : Loop) (δ : Partition) where
   -- what is left of group g
@@ -42,7 +39,8 @@ module _ (l : Loop) (δ : Partition) where
   ]
 
   -- a read of a cell gives what the iteration would read by itself, or is an obstacle
-  allowed : (s : State) (i c : ℕ) → ((d : ℕ) → l .class d ≡ shared → s .cells d ≡ latest l d (s .log)) → (k : Class) → l .class c ≡ k → Allowed l δ (s .log) i c (given l δ k s i c)
+  allowed : (s : State) (i c : ℕ) → ((d : ℕ) → l .class d ≡ shared → s .cells d ≡ latest l d (s .log)) → (k : Class) → l .class c ≡ k
+      → Allowed l δ (s .log) i c (given l δ k s i c)
   allowed s i c m lastprivate e = inl refl
   allowed s i c m reduction e = inl refl
   allowed s i c m shared e = go (own-or-other γ c (γ i) (s .log))
@@ -50,7 +48,8 @@ module _ (l : Loop) (δ : Partition) where
       γ : ℕ → ℕ
       γ = δ .group
 
-      go : (written c (s .log) ≡ written c (only γ (γ i) (s .log))) ⊎ ((j : ℕ) × (j ≢ γ i) × Has writes c (only γ j (s .log))) → Allowed l δ (s .log) i c (s .cells c)
+      go : (written c (s .log) ≡ written c (only γ (γ i) (s .log))) ⊎ ((j : ℕ) × (j ≢ γ i) × Has writes c (only γ j (s .log)))
+          → Allowed l δ (s .log) i c (s .cells c)
       go (inl q) = inl (m c e ∙ ap (λ (o : Option ℤ). Option·getD o (l .entry c)) q)
       go (inr (j, n, w)) = inr (λ y. (
         c,
@@ -66,8 +65,14 @@ module _ (l : Loop) (δ : Partition) where
     | yes p ↦ put-same p m v ∙ sym (ap (λ (o : Option ℤ). Option·getD o (l .entry d)) (pick-same p (some v) (written d g)))
     | no p ↦ put-other p m v ∙ h d f ∙ sym (ap (λ (o : Option ℤ). Option·getD o (l .entry d)) (pick-other p (some v) (written d g)))
   ]
-  stored-latest m g i c v h lastprivate e d f = h d f ∙ sym (ap (λ (o : Option ℤ). Option·getD o (l .entry d)) (pick-other (λ (p : c ≡ d). let z : _≡_ {A = ℕ} 0 1 = cc (ap (l .class) p) in omega arith) (some v) (written d g)))
-  stored-latest m g i c v h reduction e d f = h d f ∙ sym (ap (λ (o : Option ℤ). Option·getD o (l .entry d)) (pick-other (λ (p : c ≡ d). let z : _≡_ {A = ℕ} 0 1 = cc (ap (l .class) p) in omega arith) (some v) (written d g)))
+  stored-latest m g i c v h lastprivate e d f =
+      h d f
+      ∙ sym (ap (λ (o : Option ℤ). Option·getD o (l .entry d))
+      (pick-other (λ (p : c ≡ d). let z : _≡_ {A = ℕ} 0 1 = cc (ap (l .class) p) in omega arith) (some v) (written d g)))
+  stored-latest m g i c v h reduction e d f =
+      h d f
+      ∙ sym (ap (λ (o : Option ℤ). Option·getD o (l .entry d))
+      (pick-other (λ (p : c ≡ d). let z : _≡_ {A = ℕ} 0 1 = cc (ap (l .class) p) in omega arith) (some v) (written d g)))
 
   module _ (h : Proper l δ) where
     share-within : (p : ℕ) → δ .share p ≤ δ .groups
@@ -85,7 +90,7 @@ module _ (l : Loop) (δ : Partition) where
 
     pub home : (p i : ℕ) → bound δ p ≤ i → i < bound δ (suc p) → Home p i
     home p i a b =
-        let cuts = bounds-grow (δ .cut) (h .cut-grows) in
+        let cuts = cuts-grow l δ h in
         let n : i < l .iterations = omega (arith, cuts (δ .share (suc p)) (δ .groups) (share-within (suc p)), h .cut-last (δ .groups) (omega arith)) in
         let r = group-holds l δ h i n in
         record {
@@ -95,7 +100,10 @@ module _ (l : Loop) (δ : Partition) where
           owned = owner-is (δ .share) (h .share-grows) (δ .processors) (δ .group i) p
               (elim (decLe (δ .share p) (δ .group i)) [ yes y ↦ y | no y ↦ absurd (omega (arith, cuts (suc (δ .group i)) (δ .share p) (omega arith))) ])
               (elim (decLt (δ .group i) (δ .share (suc p))) [ yes y ↦ y | no y ↦ absurd (omega (arith, cuts (δ .share (suc p)) (δ .group i) (omega arith))) ])
-              (elim (decLe p (δ .processors)) [ yes y ↦ y | no y ↦ absurd (omega (arith, ap (δ .cut) (h .share-last p (omega arith)), ap (δ .cut) (h .share-last (suc p) (omega arith)))) ]);
+              (elim (decLe p (δ .processors)) [
+                | yes y ↦ y
+                | no y ↦ absurd (omega (arith, ap (δ .cut) (h .share-last p (omega arith)), ap (δ .cut) (h .share-last (suc p) (omega arith))))
+              ]);
         }
 
     module _ (s : State) (p : ℕ) (inv : Invariant s) (lt : s .places p .at < bound δ (suc p)) where
@@ -105,17 +113,32 @@ module _ (l : Loop) (δ : Partition) where
       here-rest : rest s (δ .group (s .places p .at)) ≡ within l δ (s .places p) (δ .group (s .places p .at))
       here-rest = rw (here .owned) (left-at l δ (s .places p) (δ .group (s .places p .at)) (here .from) (here .to))
 
-      moves : (a : Act) → Moved (rest s) (δ .group (s .places p .at)) (within l δ (record { at = s .places p .at; act = a }) (δ .group (s .places p .at))) (λ j. left l δ (put (s .places) p (record { at = s .places p .at; act = a }) (whose δ j)) j)
+      moves : (a : Act)
+          → Moved (rest s) (δ .group (s .places p .at)) (within l δ (record { at = s .places p .at; act = a }) (δ .group (s .places p .at)))
+          (λ j. left l δ (put (s .places) p (record { at = s .places p .at; act = a }) (whose δ j)) j)
       moves a = record {
-        there = rw (here .owned, put-same {i = p} refl (s .places) (record { at = s .places p .at; act = a })) (left-at l δ (record { at = s .places p .at; act = a }) (δ .group (s .places p .at)) (here .from) (here .to));
+        there = rw (here .owned, put-same {i = p} refl (s .places) (record { at = s .places p .at; act = a }))
+            (left-at l δ (record { at = s .places p .at; act = a }) (δ .group (s .places p .at)) (here .from) (here .to));
         elsewhere = λ j n. rest-kept (s .places) (record { at = s .places p .at; act = a }) p j (left-other l δ h (s .places p .at) a (s .places p .act) j n);
       }
 
       placed-put : (w : Place) → bound δ p ≤ w .at → (q : ℕ) → bound δ q ≤ put (s .places) p w q .at
-      placed-put w k q = elim (ℕ-discrete p q) [ yes e ↦ rw (put-same e (s .places) w) (subst (λ (x : ℕ). bound δ x ≤ w .at) e k) | no n ↦ rw (put-other n (s .places) w) (inv .placed q) ]
+      placed-put w k q = elim (ℕ-discrete p q) [
+        | yes e ↦ rw (put-same e (s .places) w) (subst (λ (x : ℕ). bound δ x ≤ w .at) e k)
+        | no n ↦ rw (put-other n (s .places) w) (inv .placed q)
+      ]
 
       quiet-put : (w : Place) → put (s .places) p w (δ .processors) ≡ opening l (bound δ (δ .processors))
-      quiet-put w = put-other (λ (e : p ≡ δ .processors). omega (arith, ap (δ .cut) (h .share-last p (omega arith)), ap (δ .cut) (h .share-last (suc p) (omega arith)), inv .placed p)) (s .places) w ∙ inv .quiet
+      quiet-put w =
+          put-other
+          (λ (e : p ≡ δ .processors). omega (
+            arith,
+            ap (δ .cut) (h .share-last p (omega arith)),
+            ap (δ .cut) (h .share-last (suc p) (omega arith)),
+            inv .placed p,
+          ))
+          (s .places) w
+          ∙ inv .quiet
 
       -- what comes after the iteration in its group
       abbrev after : Job
@@ -127,26 +150,34 @@ module _ (l : Loop) (δ : Partition) where
       go-on-keeps : (a : Act) → s .places p .act ≡ a → Invariant (go-on l δ p a s)
       unfolding go-on written before
       go-on-keeps (read c k) e = record {
-        status = step-read l δ (s .log) (rest s) (rest (go-on l δ p (read c k) s)) (s .places p .at) c (λ x. before (s .places p .at) (k x) after) (given l δ (l .class c) s (s .places p .at) c) (here-act (read c k) e) (moves _) (allowed s (s .places p .at) c (inv .memory) (l .class c) refl) (inv .status);
+        status = step-read l δ (s .log) (rest s) (rest (go-on l δ p (read c k) s)) (s .places p .at) c (λ x. before (s .places p .at) (k x) after)
+            (given l δ (l .class c) s (s .places p .at) c) (here-act (read c k) e) (moves _)
+            (allowed s (s .places p .at) c (inv .memory) (l .class c) refl) (inv .status);
         memory = inv .memory;
         placed = placed-put _ (inv .placed p);
         quiet = quiet-put _;
       }
       go-on-keeps (write c v a) e = record {
-        status = step-write l δ (s .log) (rest s) (rest (go-on l δ p (write c v a) s)) (s .places p .at) c v (before (s .places p .at) a after) (here-act (write c v a) e) (moves _) (inv .status);
+        status = step-write l δ (s .log) (rest s) (rest (go-on l δ p (write c v a) s)) (s .places p .at) c v (before (s .places p .at) a after)
+            (here-act (write c v a) e) (moves _) (inv .status);
         memory = stored-latest (s .cells) (s .log) (s .places p .at) c v (inv .memory) (l .class c) refl;
         placed = placed-put _ (inv .placed p);
         quiet = quiet-put _;
       }
       go-on-keeps (update c v a) e = record {
-        status = step-update l δ (s .log) (rest s) (rest (go-on l δ p (update c v a) s)) (s .places p .at) c v (before (s .places p .at) a after) (here-act (update c v a) e) (moves _) (inv .status);
+        status = step-update l δ (s .log) (rest s) (rest (go-on l δ p (update c v a) s)) (s .places p .at) c v (before (s .places p .at) a after)
+            (here-act (update c v a) e) (moves _) (inv .status);
         memory = inv .memory;
         placed = placed-put _ (inv .placed p);
         quiet = quiet-put _;
       }
       go-on-keeps (fault n m) e = inv
       go-on-keeps done e = record {
-        status = subst (Status l δ (s .log)) (fun-ext (λ j. sym (rest-kept (s .places) (opening l (suc (s .places p .at))) p j (sym (ap (λ (f : ℕ → Job). f j) (left-next l δ h (s .places p .at))) ∙ ap (λ (a : Act). left l δ (record { at = s .places p .at; act = a }) j) (sym e))))) (inv .status);
+        status = subst (Status l δ (s .log))
+            (fun-ext (λ j. sym (rest-kept (s .places) (opening l (suc (s .places p .at))) p j
+            (sym (ap (λ (f : ℕ → Job). f j) (left-next l δ h (s .places p .at)))
+            ∙ ap (λ (a : Act). left l δ (record { at = s .places p .at; act = a }) j) (sym e)))))
+            (inv .status);
         memory = inv .memory;
         placed = placed-put _ (omega (arith, inv .placed p));
         quiet = quiet-put _;
@@ -162,7 +193,10 @@ module _ (l : Loop) (δ : Partition) where
     start-holds : Invariant (start l δ)
     unfolding written only
     start-holds = record {
-      status = inl (λ g. ap (λ (a : Job). finish l a []) (left-begun l δ h (bound δ (whose δ g)) g (bounds-grow (δ .cut) (h .cut-grows) (δ .share (whose δ g)) g (owner-from (δ .share) (h .share-grows) (h .share-first) (δ .processors) g))));
+      status = inl (λ g. ap (λ (a : Job). finish l a [])
+          (left-begun l δ h (bound δ (whose δ g)) g
+          (bounds-grow (δ .cut) (h .cut-grows) (δ .share (whose δ g)) g
+          (owner-from (δ .share) (h .share-grows) (h .share-first) (δ .processors) g))));
       memory = λ c e. refl;
       placed = λ p. omega arith;
       quiet = refl;
@@ -195,4 +229,5 @@ module _ (l : Loop) (δ : Partition) where
 
   pub trial-holds : Proper l δ → (ps : List ℕ) → Invariant (trial l δ ps)
   unfolding trial
-  trial-holds h ps = run-on-keeps Invariant (step-keeps h) (δ .processors) (steps l δ ps (start l δ)) (steps-keep Invariant (step-keeps h) ps (start l δ) (start-holds h))
+  trial-holds h ps = run-on-keeps Invariant (step-keeps h) (δ .processors) (steps l δ ps (start l δ))
+      (steps-keep Invariant (step-keeps h) ps (start l δ) (start-holds h))

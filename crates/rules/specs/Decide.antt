@@ -70,7 +70,8 @@ exposed? c (access h i d v ∷ g) = change to exposed-cases (either? (both? (kin
     to (inr x) = earlier x
 
 unfoldable pub ordinary? : (c : ℕ) (g : Log) → Dec (Ordinary c g)
-ordinary? c g = change (λ s. elim s [ inl x ↦ a-read x | inr x ↦ a-write x ]) (λ s. elim s [ a-read x ↦ inl x | a-write x ↦ inr x ]) (either? (has? reads c g) (has? writes c g))
+ordinary? c g = change (λ s. elim s [ inl x ↦ a-read x | inr x ↦ a-write x ]) (λ s. elim s [ a-read x ↦ inl x | a-write x ↦ inr x ])
+    (either? (has? reads c g) (has? writes c g))
 
 -- ---- groups with accesses
 
@@ -93,5 +94,7 @@ module _ (γ : ℕ → ℕ) (g : Log) where
   unfoldable pub one? : (Q : ℕ → Type 0) → ((i : ℕ) → Dec (Q i)) → ((i : ℕ) → Q i → only γ i g ≢ []) → Dec ((i : ℕ) × Q i)
   one? Q d b = change (λ (i, _, q). (i, q)) (λ (i, q). (i, active i (b i q), q)) (find (over (λ e. γ (iteration e)) g) Q d)
 
-  unfoldable pub two? : (Q : ℕ → ℕ → Type 0) → ((i j : ℕ) → Dec (Q i j)) → ((i j : ℕ) → Q i j → (only γ i g ≢ []) × (only γ j g ≢ [])) → Dec ((i : ℕ) × (j : ℕ) × Q i j)
-  two? Q d b = change (λ (i, (j, q)). (i, j, q)) (λ (i, j, q). (i, (j, q))) (one? (λ i. (j : ℕ) × Q i j) (λ i. one? (Q i) (d i) (λ j q. b i j q .1)) (λ i (j, q). b i j q .0))
+  unfoldable pub two? : (Q : ℕ → ℕ → Type 0) → ((i j : ℕ) → Dec (Q i j)) → ((i j : ℕ) → Q i j → (only γ i g ≢ []) × (only γ j g ≢ []))
+      → Dec ((i : ℕ) × (j : ℕ) × Q i j)
+  two? Q d b = change (λ (i, (j, q)). (i, j, q)) (λ (i, j, q). (i, (j, q)))
+      (one? (λ i. (j : ℕ) × Q i j) (λ i. one? (Q i) (d i) (λ j q. b i j q .1)) (λ i (j, q). b i j q .0))

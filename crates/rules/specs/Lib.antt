@@ -12,7 +12,10 @@ pub mod Proper
 -- what they are written with
 pub mod Choose
 pub mod Cells
--- devices: laws that the decisions need, and decisions, whose types say what they decide
+-- what contracts of other crates are written with
+pub mod Owner
+-- devices: laws that the decisions need, decisions, whose types say what they decide, and the numbers of the classes
 pub mod ChooseLaws
 pub mod LogLaws
 pub mod Decide
+pub mod Numbers

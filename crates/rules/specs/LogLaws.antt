@@ -119,7 +119,8 @@ module _ (γ : ℕ → ℕ) where
     | no n ↦ (n, rw (only-other e n l) at h)
   ]
 
-  pub written-only-leaving : (c i : ℕ) (e : Access) (l : Log) → ((k : Log) → written c (e ∷ k) ≡ written c k) → written c (only γ i (e ∷ l)) ≡ written c (only γ i l)
+  pub written-only-leaving : (c i : ℕ) (e : Access) (l : Log) → ((k : Log) → written c (e ∷ k) ≡ written c k)
+      → written c (only γ i (e ∷ l)) ≡ written c (only γ i l)
   written-only-leaving c i e l h = elim (ℕ-discrete (γ (iteration e)) i) [ yes p ↦ rw (only-same e p l) (h (only γ i l)) | no p ↦ rw (only-other e p l) ]
 
   -- the last value written to c is that of group g, or another group wrote c
@@ -145,7 +146,10 @@ module _ (γ : ℕ → ℕ) where
   pub has-all : {k : Kind} {c : ℕ} (j : ℕ) (l : Log) → Has k c (only γ j l) → Has k c l
   unfolding only
   has-all j [] h = h
-  has-all {k} {c} j (e ∷ l) h = elim (ℕ-discrete (γ (iteration e)) j) [ yes p ↦ go (rw (only-same e p l) at h) (has-all j l) | no p ↦ older (has-all j l (rw (only-other e p l) at h)) ]
+  has-all {k} {c} j (e ∷ l) h = elim (ℕ-discrete (γ (iteration e)) j) [
+    | yes p ↦ go (rw (only-same e p l) at h) (has-all j l)
+    | no p ↦ older (has-all j l (rw (only-other e p l) at h))
+  ]
     where
       go : {e : Access} {a : Log} → Has k c (e ∷ a) → (Has k c a → Has k c l) → Has k c (e ∷ l)
       go newest f = newest
@@ -156,7 +160,9 @@ pub only-only : (γ : ℕ → ℕ) (i : ℕ) (l : Log) → only (λ j. j) i (onl
 unfolding only
 only-only γ i [] = refl
 only-only γ i (e ∷ l) = elim (ℕ-discrete (iteration e) i) [
-  | yes p ↦ ap (only (λ j. j) i) (only-same γ e (ap γ p) l) ∙ only-same (λ j. j) e p (only γ (γ i) l) ∙ ap (λ (t : Log). e ∷ t) (only-only γ i l) ∙ sym (only-same (λ j. j) e p l)
+  | yes p ↦
+      ap (only (λ j. j) i) (only-same γ e (ap γ p) l) ∙ only-same (λ j. j) e p (only γ (γ i) l) ∙ ap (λ (t : Log). e ∷ t) (only-only γ i l)
+      ∙ sym (only-same (λ j. j) e p l)
   | no n ↦ elim (ℕ-discrete (γ (iteration e)) (γ i)) [
     | yes q ↦ ap (only (λ j. j) i) (only-same γ e q l) ∙ only-other (λ j. j) e n (only γ (γ i) l) ∙ only-only γ i l ∙ sym (only-other (λ j. j) e n l)
     | no q ↦ ap (only (λ j. j) i) (only-other γ e q l) ∙ only-only γ i l ∙ sym (only-other (λ j. j) e n l)

@@ -13,7 +13,7 @@ pub data Act : Type 0 where
   fault : ℕ → ℕ → Act
   done : Act
 
--- the clause of a cell's name; "a name in no clause is shared"
+-- what a cell is by the clauses of its name; "a name in no clause is shared"
 pub data Class : Type 0 where
   shared lastprivate reduction : Class
 

@@ -35,11 +35,13 @@ module _ (γ : ℕ → ℕ) (c : ℕ) (l : Log) where
 
   unfoldable pub mark2? : Dec (Mark2 γ c l)
   mark2? = change (λ (g, h). (g, h .0, h .1)) (λ (g, r, n). (g, (r, n)))
-      (one? γ l (λ g. Has reads c (only γ g l) × ¬ Has writes c (only γ g l)) (λ g. both? (has? reads c (only γ g l)) (not? (has? writes c (only γ g l)))) (λ g h. has-some (h .0)))
+      (one? γ l (λ g. Has reads c (only γ g l) × ¬ Has writes c (only γ g l))
+      (λ g. both? (has? reads c (only γ g l)) (not? (has? writes c (only γ g l)))) (λ g h. has-some (h .0)))
 
   unfoldable pub mark4? : Dec (Mark4 γ c l)
   mark4? = change (λ (g, h). (g, h .0, h .1)) (λ (g, x, w). (g, (x, w)))
-      (one? γ l (λ g. Exposed c (only γ g l) × Has writes c (only γ g l)) (λ g. both? (exposed? c (only γ g l)) (has? writes c (only γ g l))) (λ g h. has-some (h .1)))
+      (one? γ l (λ g. Exposed c (only γ g l) × Has writes c (only γ g l)) (λ g. both? (exposed? c (only γ g l)) (has? writes c (only γ g l)))
+      (λ g h. has-some (h .1)))
 
 -- w if it holds, else 0
 unfoldable pub weight : {A : Type 0} → Dec A → ℕ → ℕ

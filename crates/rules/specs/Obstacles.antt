@@ -43,15 +43,20 @@ module _ (γ : ℕ → ℕ) (g : Log) (c : ℕ) where
 
   unfoldable pub clash? : Dec (Clash (λ i. only γ i g) c)
   clash? = change (λ (i, j, (n, (w, o))). (i, j, n, w, o)) (λ (i, j, n, w, o). (i, j, (n, (w, o))))
-      (two? γ g (λ i j. (i ≢ j) × (Has writes c (f i) × Ordinary c (f j))) (λ i j. both? (not? (ℕ-discrete i j)) (both? (has? writes c (f i)) (ordinary? c (f j)))) (λ i j q. (has-some (q .1 .0), λ e. ordinary-nil (subst (Ordinary c) e (q .1 .1)))))
+      (two? γ g (λ i j. (i ≢ j) × (Has writes c (f i) × Ordinary c (f j)))
+      (λ i j. both? (not? (ℕ-discrete i j)) (both? (has? writes c (f i)) (ordinary? c (f j))))
+      (λ i j q. (has-some (q .1 .0), λ e. ordinary-nil (subst (Ordinary c) e (q .1 .1)))))
 
   unfoldable pub stale? : Dec (Stale (λ i. only γ i g) c)
   stale? = change (λ (i, j, (n, (w, o))). (i, j, n, w, o)) (λ (i, j, n, w, o). (i, j, (n, (w, o))))
-      (two? γ g (λ i j. (i ≢ j) × (Has writes c (f i) × Exposed c (f j))) (λ i j. both? (not? (ℕ-discrete i j)) (both? (has? writes c (f i)) (exposed? c (f j)))) (λ i j q. (has-some (q .1 .0), λ e. exposed-nil (subst (Exposed c) e (q .1 .1)))))
+      (two? γ g (λ i j. (i ≢ j) × (Has writes c (f i) × Exposed c (f j)))
+      (λ i j. both? (not? (ℕ-discrete i j)) (both? (has? writes c (f i)) (exposed? c (f j))))
+      (λ i j q. (has-some (q .1 .0), λ e. exposed-nil (subst (Exposed c) e (q .1 .1)))))
 
   unfoldable pub mixed? : Dec (Mixed (λ i. only γ i g) c)
   mixed? = change (λ (i, j, (u, o)). (i, j, u, o)) (λ (i, j, u, o). (i, j, (u, o)))
-      (two? γ g (λ i j. Has updates c (f i) × Ordinary c (f j)) (λ i j. both? (has? updates c (f i)) (ordinary? c (f j))) (λ i j q. (has-some (q .0), λ e. ordinary-nil (subst (Ordinary c) e (q .1)))))
+      (two? γ g (λ i j. Has updates c (f i) × Ordinary c (f j)) (λ i j. both? (has? updates c (f i)) (ordinary? c (f j)))
+      (λ i j q. (has-some (q .0), λ e. ordinary-nil (subst (Ordinary c) e (q .1)))))
 
   unfoldable pub obstacle-at? : (k : Class) → Dec (ObstacleAt k (λ i. only γ i g) c)
   obstacle-at? shared = clash?
@@ -74,4 +79,5 @@ module _ (l : Loop) (γ : ℕ → ℕ) (g : Log) where
   at-below reduction c (inr (i, j, u, o)) = has-over (has-all γ i g u)
 
   unfoldable pub obstructed? : Dec (Obstructed l γ g)
-  obstructed? = change (λ (c, b, o). (c, o)) (λ (c, o). (c, at-below (l .class c) c o, o)) (find (over cell g) (λ c. ObstacleAt (l .class c) (λ i. only γ i g) c) (λ c. obstacle-at? γ g c (l .class c)))
+  obstructed? = change (λ (c, b, o). (c, o)) (λ (c, o). (c, at-below (l .class c) c o, o))
+      (find (over cell g) (λ c. ObstacleAt (l .class c) (λ i. only γ i g) c) (λ c. obstacle-at? γ g c (l .class c)))

@@ -20,6 +20,13 @@ pub fn group_of(i: Iteration) -> Group
     Group(i.0)
 }
 
+// The numbers of the classes, as `class-number` of specs/Numbers.antt gives them.
+pub const SHARED: u32 = 0;
+
+pub const LASTPRIVATE: u32 = 1;
+
+pub const REDUCTION: u32 = 2;
+
 // A processor's place among the records.
 pub fn index_of(p: Processor) -> usize
     ensures { λ r. ⌜ r ≡ p .0 ⌝ }

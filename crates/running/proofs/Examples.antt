@@ -164,11 +164,14 @@ pub examples : map (λ (r : Row). r .got) rows ≡ map (λ (r : Row). r .want) r
 unfolding rows rising writing writing-last adding idle reading aiming scattering
     word value wrap sum product quotient rdiv bySigns nearest integers.same related blockStart singles cellOf listed pick below put only written
     change either? both? not? find? kind? has? exposed? ordinary? over one? two? mark1? mark2? mark4? weight marks clash? stale? mixed? obstacle-at? obstructed?
-    go-on step steps through through-all run-out run-on trial is-fault? stopped? faulty? along from serial finished? highest updated add total sum-of block gathered merged touches count merge.sum pairs written-cells
+    go-on step steps through through-all run-out run-on trial is-fault? stopped? faulty? along from serial finished? highest updated add total sum-of
+    block gathered merged touches count merge.sum pairs written-cells
     viewed look trial-passes? serial-passes? again run-by run settled-by settled ℕ-discrete decLt
     lines bytes′.run token-size tokens-after trimmed number-from show showTerms showTerm showFactors showFactor showRef
     find then-do values class-in after mentions inTerms inTerm inFactors inFactor inRef inLine names limits stands
-    readExpr readTerms readTerm readFactors readFactor readRef readMore readDeclare readGive readClauses readDirective readLoop readAssign readWhen readEnd readStart readLine parse
-    judged judge-line judge read loaded no-zeros alike summand is-update remainder located divides eval evalTerms evalTerm evalFactors evalFactor place assigned exec class-of loopOf partitionOf
+    readExpr readTerms readTerm readFactors readFactor readRef readMore readDeclare readGive readClauses readDirective readLoop readAssign readWhen
+    readEnd readStart readLine parse
+    judged judge-line judge read loaded no-zeros alike summand is-update remainder located divides eval evalTerms evalTerm evalFactors evalFactor
+    place assigned exec class-of loopOf partitionOf
     checkOf cellsLoaded viewShown runOf cellsRun
 examples = refl

@@ -1,7 +1,6 @@
 -- Run settles what the serial run settles.
 use mathlib.Core.Path.{_≡_, refl, sym, _∙_, ap, subst}
-use mathlib.Core.Logic.{_⊎_, inl, inr}
-use mathlib.Core.Bool.{Bool, true, false, cond, _||_}
+use mathlib.Core.Bool.{true, false, _||_}
 use mathlib.Core.List.{List, []}
 use Prim.Native.Nat.{ℕ, zero, suc, _≤_}
 use native.Mathlib.Omega.{arith}
@@ -18,6 +17,7 @@ use Rattle.rules.proofs.Theorem.{order-decides-nothing}
 use Rattle.syntax.specs.Known.{State, cells}
 use Rattle.syntax.specs.Text.{Verdict, refused, good, read}
 use Rattle.syntax.specs.Meaning.{loopOf, partitionOf}
+use Rattle.syntax.proofs.TestLaws.{either-holds, neither-holds}
 use Rattle.syntax.proofs.ProperLoop.{accepted-proper}
 use Rattle.trial.specs.Standing.{dealt, Standing, Kept}
 use Rattle.trial.specs.Standing.{Stands}
@@ -41,7 +41,8 @@ module _ (text : List ℕ) (M : List ℤ) (W ps : List ℕ) where
   Runs r M′ W′ = (r ≡ runOf (read text) M (length W) ps) × ((M′ ≡ cellsRun (read text) M (length W) ps) × (W′ ≡ runWorkspace (read text) M W ps))
 
   by-number : (s : State) (n : ℕ) (r : Ran) (M′ : List ℤ) (W′ : List ℕ) → read text ≡ good s → runNumber s (length M) (length W) ps ≡ n
-      → r ≡ taken n (answered s (settles s M .answer)) (Unfit n 0) → M′ ≡ taken n (settles s M .cells) M → W′ ≡ taken n (replicate (length W) 0) W → Runs r M′ W′
+      → r ≡ taken n (answered s (settles s M .answer)) (Unfit n 0) → M′ ≡ taken n (settles s M .cells) M → W′ ≡ taken n (replicate (length W) 0) W
+      → Runs r M′ W′
   unfolding runOf cellsRun runWorkspace
   by-number s n r M′ W′ e en er em ew = (
     er ∙ ap (λ (k : ℕ). taken k (answered s (settles s M .answer)) (Unfit k 0)) (sym en) ∙ sym (ap (λ (v : Verdict). runOf v M (length W) ps) e),
@@ -56,9 +57,11 @@ module _ (text : List ℕ) (M : List ℤ) (W ps : List ℕ) where
     unfolding TrialOf runOf cellsRun runWorkspace
     run-refused nz = go (read text) refl h
       where
-        fine : (s : State) → read text ≡ good s → (n : ℕ) → runNumber s (length M) (length W) ps ≡ n → TriesBy s n M W ps t M₁ W₁ → Runs (Unfit (t .number) (t .line)) M₁ W₁
+        fine : (s : State) → read text ≡ good s → (n : ℕ) → runNumber s (length M) (length W) ps ≡ n → TriesBy s n M W ps t M₁ W₁
+            → Runs (Unfit (t .number) (t .line)) M₁ W₁
         fine s e zero en q = absurd (nz (q .number))
-        fine s e (suc n) en q = by-number s (suc n) (Unfit (t .number) (t .line)) M₁ W₁ e en (ap (λ (u : Tried). Unfit (u .number) (u .line)) (q .0)) (q .1) (q .2)
+        fine s e (suc n) en q = by-number s (suc n) (Unfit (t .number) (t .line)) M₁ W₁ e en (ap (λ (u : Tried). Unfit (u .number) (u .line)) (q .0))
+            (q .1) (q .2)
 
         go : (v : Verdict) → read text ≡ v → TrialOf v M W ps t M₁ W₁ → Runs (Unfit (t .number) (t .line)) M₁ W₁
         go (refused n k) e q = (
@@ -132,30 +135,39 @@ module _ (text : List ℕ) (M : List ℤ) (W ps : List ℕ) where
       -- ---- neither fault nor obstacle
 
       module _ (no : t .faulty || t .obstructed ≡ false) where
-        parts : (a b : Bool) → a || b ≡ false → (a ≡ false) × (b ≡ false)
-        parts true b e = absurd (let z : _≡_ {A = ℕ} 0 1 = ap (λ (x : Bool). cond x 0 1) e in omega arith)
-        parts false b e = (refl, e)
+        kept-all : run l δ ps
+            ≡ record {
+              answer = passed (pairs l (trial l δ ps .log)) (written-cells l (trial l δ ps .log));
+              cells = listed (l .size) (merged l δ (trial l δ ps));
+            }
+        kept-all =
+            let (e, f) = neither-holds (t .faulty) (t .obstructed) no in
+            run-passed l δ ps (t .faulty) (t .obstructed) (m .tries .faulty) (m .tries .obstructed) e f
 
-        kept-all : run l δ ps ≡ record { answer = passed (pairs l (trial l δ ps .log)) (written-cells l (trial l δ ps .log)); cells = listed (l .size) (merged l δ (trial l δ ps)) }
-        kept-all = run-passed l δ ps (t .faulty) (t .obstructed) (m .tries .faulty) (m .tries .obstructed) (parts (t .faulty) (t .obstructed) no .0) (parts (t .faulty) (t .obstructed) no .1)
-
-        pub run-keeps : (M₂ : List ℤ) (W₂ : List ℕ) (a b : ℕ) → Merges (t .processors) M₁ W₁ M₂ → a ≡ getD W₁ 0 0 → b ≡ getD W₁ 1 0 → W₂ ≡ replicate (length W) 0 → Runs (Passed a b) M₂ W₂
+        pub run-keeps : (M₂ : List ℤ) (W₂ : List ℕ) (a b : ℕ) → Merges (t .processors) M₁ W₁ M₂ → a ≡ getD W₁ 0 0 → b ≡ getD W₁ 1 0
+            → W₂ ≡ replicate (length W) 0 → Runs (Passed a b) M₂ W₂
         run-keeps M₂ W₂ a b mg ea eb ew =
             let q = settles-so ∙ kept-all in
             by-number s 0 (Passed a b) M₂ W₂ (m .verdict) (m .fits)
-            ((λ i. Passed ((ea ∙ m .tries .leaves .pair-count) i) ((eb ∙ m .tries .leaves .cell-count) i)) ∙ sym (ap (λ (e : Ending). answered s (e .answer)) q))
-            (subst (λ (k : ℕ). Merges k M₁ W₁ M₂) (m .tries .processors) mg l (trial l δ ps) standing ∙ ap (λ (d : Partition). listed (l .size) (merged l d (trial l δ ps))) dealt-is ∙ sym (ap (λ (e : Ending). e .cells) q))
+            ((λ i. Passed ((ea ∙ m .tries .leaves .pair-count) i) ((eb ∙ m .tries .leaves .cell-count) i))
+            ∙ sym (ap (λ (e : Ending). answered s (e .answer)) q))
+            (subst (λ (k : ℕ). Merges k M₁ W₁ M₂) (m .tries .processors) mg l (trial l δ ps) standing
+            ∙ ap (λ (d : Partition). listed (l .size) (merged l d (trial l δ ps))) dealt-is ∙ sym (ap (λ (e : Ending). e .cells) q))
             ew
 
       -- ---- a fault or an obstacle
 
-      module _ (M₂ : List ℤ) (rs : Restores (t .processors) M₁ W₁ M₂) (same-words : length W₁ ≡ length W) (r : Served) (M₃ : List ℤ) (W₃ : List ℕ) (so : SerialOf (read text) M₂ W₁ r M₃ W₃) where
+      module _ (M₂ : List ℤ) (rs : Restores (t .processors) M₁ W₁ M₂) (same-words : length W₁ ≡ length W) (r : Served) (M₃ : List ℤ) (W₃ : List ℕ)
+          (so : SerialOf (read text) M₂ W₁ r M₃ W₃) where
         none-refused : runNumber s (length M₂) (length W₁) [] ≡ 0
-        none-refused = (λ i. fitNumber (cells (s .table)) (s .processors) (length (restored M₂ rs i)) (same-words i) []) ∙ fits-none (cells (s .table)) (s .processors) (length M) (length W) (fit .cells-are) (fit .words-are)
+        none-refused =
+            (λ i. fitNumber (cells (s .table)) (s .processors) (length (restored M₂ rs i)) (same-words i) [])
+            ∙ fits-none (cells (s .table)) (s .processors) (length M) (length W) (fit .cells-are) (fit .words-are)
 
         serves : Serves s M r M₃ W₃
         unfolding SerialOf
-        serves = subst (λ (u : List ℤ). Serves s u r M₃ W₃) (restored M₂ rs) (subst (λ (k : ℕ). ServesBy s k M₂ W₁ r M₃ W₃) none-refused (subst (λ (v : Verdict). SerialOf v M₂ W₁ r M₃ W₃) (m .verdict) so))
+        serves = subst (λ (u : List ℤ). Serves s u r M₃ W₃) (restored M₂ rs)
+            (subst (λ (k : ℕ). ServesBy s k M₂ W₁ r M₃ W₃) none-refused (subst (λ (v : Verdict). SerialOf v M₂ W₁ r M₃ W₃) (m .verdict) so))
 
         pub can-conclude : CanConclude r M₃ W₃
         unfolding CanConclude
@@ -166,13 +178,12 @@ module _ (text : List ℕ) (M : List ℤ) (W ps : List ℕ) where
             go (Faulted n k v) = (l, serves .kept)
             go (Refused n k) = tt
 
-        module _ (yes : t .faulty || t .obstructed ≡ true) (long : length W₃ ≡ length W₁) (r′ : Ran) (M₄ : List ℤ) (W₄ : List ℕ) (cn : ConcludesBy r M₃ W₃ r′ M₄ W₄) where
-          either : (a b : Bool) → a || b ≡ true → (a ≡ true) ⊎ (b ≡ true)
-          either true b e = inl refl
-          either false b e = inr e
-
+        module _ (yes : t .faulty || t .obstructed ≡ true) (long : length W₃ ≡ length W₁) (r′ : Ran) (M₄ : List ℤ) (W₄ : List ℕ)
+            (cn : ConcludesBy r M₃ W₃ r′ M₄ W₄) where
           made-again : settles s M ≡ again l (serial l .outcome)
-          made-again = settles-so ∙ run-again l δ ps (t .faulty) (t .obstructed) (m .tries .faulty) (m .tries .obstructed) (either (t .faulty) (t .obstructed) yes)
+          made-again =
+              settles-so
+              ∙ run-again l δ ps (t .faulty) (t .obstructed) (m .tries .faulty) (m .tries .obstructed) (either-holds (t .faulty) (t .obstructed) yes)
 
           zeros : W₄ ≡ replicate (length W₃) 0 → W₄ ≡ replicate (length W) 0
           zeros e = e ∙ ap (λ (n : ℕ). replicate n 0) (long ∙ same-words)
@@ -184,7 +195,9 @@ module _ (text : List ℕ) (M : List ℤ) (W ps : List ℕ) where
               go : (o : Outcome) → r ≡ servedBy s M o → settles s M ≡ again l o → Runs r′ M₄ W₄
               go finished e q =
                   let c = subst (λ (x : Served). ConcludesBy x M₃ W₃ r′ M₄ W₄) e cn in
-                  by-number s 0 r′ M₄ W₄ (m .verdict) (m .fits) (c .0 ∙ sym (ap (λ (x : Ending). answered s (x .answer)) q)) (c .1 ∙ serves .cells ∙ sym (ap (λ (x : Ending). x .cells) q)) (zeros (c .2))
+                  by-number s 0 r′ M₄ W₄ (m .verdict) (m .fits) (c .0 ∙ sym (ap (λ (x : Ending). answered s (x .answer)) q))
+                  (c .1 ∙ serves .cells ∙ sym (ap (λ (x : Ending). x .cells) q)) (zeros (c .2))
               go (failed n k i) e q =
                   let c = subst (λ (x : Served). ConcludesBy x M₃ W₃ r′ M₄ W₄) e cn in
-                  by-number s 0 r′ M₄ W₄ (m .verdict) (m .fits) (c .0 ∙ sym (ap (λ (x : Ending). answered s (x .answer)) q)) (c .1 l (serves .kept) ∙ sym (ap (λ (x : Ending). x .cells) q)) (zeros (c .2))
+                  by-number s 0 r′ M₄ W₄ (m .verdict) (m .fits) (c .0 ∙ sym (ap (λ (x : Ending). answered s (x .answer)) q))
+                  (c .1 l (serves .kept) ∙ sym (ap (λ (x : Ending). x .cells) q)) (zeros (c .2))

@@ -17,10 +17,8 @@ use Rattle.rules.specs.Log.{Kind, reads, writes, updates, access, Log}
 use Rattle.rules.specs.LogLaws.{only-other}
 use Rattle.rules.proofs.Progress.{bound-first, bound-last}
 use Rattle.rules.proofs.TrialRun.{home}
-use Rattle.shadow.proofs.Change.{turn-cons}
-use Rattle.shadow.proofs.Counts.{inside-cons}
-use Rattle.shadow.proofs.Shows.{worker}
-use Rattle.tables.proofs.Logged.{Logged}
+use Rattle.shadow.specs.Orderly.{turn-cons, inside-cons, worker}
+use Rattle.tables.specs.Logged.{Logged}
 use Rattle.noting.proofs.Logging.{logged-read, logged-write, logged-update, logged-ready}
 use Rattle.stepping.specs.declared.Role.{Role}
 use Rattle.stepping.specs.Access.{Accessible, seen-by, stored-by, added-by, seen, read-words, stored, written-words, added, updated-words}
@@ -57,7 +55,8 @@ module _ (l : Loop) (i c : ℕ) (M : List ℤ) (W : List ℕ) (m : ℕ → ℤ) 
         few = omega arith;
         low = omega (arith, s .inside, u .cells-most);
         inside = omega (arith, s .inside, ap length (t .cells), listed-length (l .size) m);
-        ready = logged-ready l δ g W (t .words) (u .proper) (t .inside) (t .ascending) (u .cells-most) (u .iterations-most) (u .iterations-most) c 0 (s .inside) (omega arith);
+        ready = logged-ready l δ g W (t .words) (u .proper) (t .inside) (t .ascending) (u .cells-most) (u .iterations-most) (u .iterations-most) c 0
+            (s .inside) (omega arith);
       }
 
   stands-as : cellOf M c ≡ m c
@@ -69,7 +68,8 @@ module _ (l : Loop) (i c : ℕ) (M : List ℤ) (W : List ℕ) (m : ℕ → ℤ) 
   serves-seen = stands-as
 
   -- one access more
-  more : (k : Kind) (y : ℤ) (M′ : List ℤ) (W′ : List ℕ) (m′ : ℕ → ℤ) → M′ ≡ listed (l .size) m′ → Logged l δ (access k i c y ∷ g) W′ → Serially l i M′ W′ m′ (access k i c y ∷ g)
+  more : (k : Kind) (y : ℤ) (M′ : List ℤ) (W′ : List ℕ) (m′ : ℕ → ℤ) → M′ ≡ listed (l .size) m′ → Logged l δ (access k i c y ∷ g) W′
+      → Serially l i M′ W′ m′ (access k i c y ∷ g)
   more k y M′ W′ m′ e w = record {
     suits = s .stands .suits;
     cells = e;
@@ -86,7 +86,9 @@ module _ (l : Loop) (i c : ℕ) (M : List ℤ) (W : List ℕ) (m : ℕ → ℤ) 
   -- "a write stores in place"
   pub serves-write : (y : ℤ) → SFits w32 y → Serially l i (stored x M W c y) (written-words x i W c y) (put m c y) (access writes i c y ∷ g)
   unfolding singles stored-by
-  serves-write y f = more writes y (set M c y) _ (put m c y) (ap (λ (n : List ℤ). set n c y) (s .stands .cells) ∙ listed-set (l .size) m c y (s .inside)) (logged-write l δ (s .stands .suits .plus) g W (s .stands .words) 0 i c mine (s .inside) low y f)
+  serves-write y f = more writes y (set M c y) _ (put m c y)
+      (ap (λ (n : List ℤ). set n c y) (s .stands .cells) ∙ listed-set (l .size) m c y (s .inside))
+      (logged-write l δ (s .stands .suits .plus) g W (s .stands .words) 0 i c mine (s .inside) low y f)
 
   -- "an update adds its remainder to the cell"
   pub serves-update : (y : ℤ) → Serially l i (added x M c y) (updated-words x i W c y) (put m c (l .plus (m c) y)) (access updates i c y ∷ g)
@@ -99,4 +101,11 @@ module _ (l : Loop) (i c : ℕ) (M : List ℤ) (W : List ℕ) (m : ℕ → ℤ) 
 
 -- the next iteration
 pub serially-next : (l : Loop) (i j : ℕ) (M : List ℤ) (W : List ℕ) (m : ℕ → ℤ) (g : Log) → i ≤ j → Serially l i M W m g → Serially l j M W m g
-serially-next l i j M W m g b h = record { suits = h .suits; cells = h .cells; words = h .words; inside = h .inside; ascending = h .ascending; upto = λ n c. h .upto n (omega arith) }
+serially-next l i j M W m g b h = record {
+  suits = h .suits;
+  cells = h .cells;
+  words = h .words;
+  inside = h .inside;
+  ascending = h .ascending;
+  upto = λ n c. h .upto n (omega arith);
+}

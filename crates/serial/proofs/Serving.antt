@@ -9,9 +9,8 @@ use Rattle.rules.specs.Loop.{Loop}
 use Rattle.rules.specs.Log.{Log, each}
 use Rattle.rules.specs.Proper.{Sized}
 use Rattle.rules.specs.Serial.{finished, failed, Result, along, from, serial}
-use Rattle.shadow.proofs.Counts.{Inside}
-use Rattle.shadow.proofs.Shows.{Ascending}
-use Rattle.tables.proofs.Logged.{Logged}
+use Rattle.shadow.specs.Orderly.{Inside, Ascending}
+use Rattle.tables.specs.Logged.{Logged}
 use Rattle.operands.specs.Pending.{Holding}
 use Rattle.stepping.specs.declared.Manner.the-variants.{InPlace}
 use Rattle.stepping.specs.declared.Role.{Role}

@@ -34,5 +34,11 @@ serials-of code g l M C n h =
     record {
       coded = h .coded;
       iterations = h .iterations;
-      entry = record { suits = suits-one (g .processors) l (e .suits); cells = e .cells; number = e .number; classes = e .classes; room = omega (arith, e .room) };
+      entry = record {
+        suits = suits-one (g .processors) l (e .suits);
+        cells = e .cells;
+        number = e .number;
+        classes = e .classes;
+        room = omega (arith, e .room);
+      };
     }

@@ -15,21 +15,16 @@ use Rattle.rules.specs.Loop.{Act, Loop}
 use Rattle.rules.specs.Log.{reads, writes, updates, access, Log, only}
 use Rattle.rules.specs.Proper.{Sized}
 use Rattle.rules.specs.Serial.{finished, failed, Result, along, from, serial}
-use Rattle.shadow.proofs.Change.{turn-nil}
-use Rattle.shadow.proofs.Counts.{inside-nil}
+use Rattle.shadow.specs.Orderly.{turn-nil, inside-nil}
 use Rattle.shadow.proofs.Shows.{tables-right}
-use Rattle.tables.proofs.Logged.{Logged}
+use Rattle.tables.specs.Logged.{Logged}
 use Rattle.findings.proofs.Logged.{logged-pairs, logged-cells}
-use Rattle.operands.specs.declared.Move.{Move}
-use Rattle.operands.specs.declared.Move.the-variants.{Read, Write, Update, Fault, End}
-use Rattle.machine.specs.declared.Advanced.{Advanced}
 use Rattle.operands.specs.Pending.{pendings, Holding}
-use Rattle.operands.specs.Performing.{left}
 use Rattle.stepping.specs.declared.Extent.the-variants.{ToTheEnd}
 use Rattle.stepping.specs.declared.Role.{Role}
-use Rattle.stepping.specs.Step.{Scene, scene, at, Comes, CanMove, CanGo, Goes}
+use Rattle.stepping.specs.Step.{Scene, scene, at, CanGo, Goes}
 use Rattle.stepping.specs.Carrying.{is-open, Reached, CanCarry, Carries}
-use Rattle.stepping.proofs.Happening.{rest, Continues, Happens, happens}
+use Rattle.stepping.proofs.Happening.{rest, can-reach, Continues, Happens, happens}
 use Rattle.stepping.proofs.Opened.{opened-yes, opened-no}
 use Rattle.trial.specs.declared.Setting.{Setting}
 use Rattle.trial.specs.Standing.{dealt, Coded}
@@ -45,7 +40,8 @@ module _ (l : Loop) (code : List ℕ) (v : ℤ) (z : Scene) (m : ℕ → ℤ) (g
   abbrev left-act : Act
   left-act = rest (alone v (l .iterations)) code z
 
-  onward-open : z .point .fault ≡ 0 → at z < l .iterations → onward l code v z m g ≡ along l (at z) left-act m g (from l (l .iterations - suc (at z)) (suc (at z)))
+  onward-open : z .point .fault ≡ 0 → at z < l .iterations
+      → onward l code v z m g ≡ along l (at z) left-act m g (from l (l .iterations - suc (at z)) (suc (at z)))
   unfolding onward
   onward-open f b = pick-same f _ _ ∙ below-yes b _ _
 
@@ -63,17 +59,20 @@ module _ (l : Loop) (code : List ℕ) (v : ℤ) (z : Scene) (m : ℕ → ℤ) (g
   left-body c p d b = rw (p, d) (sym (c .body (at z) b))
 
   -- an iteration that begins, or the end
-  onward-begin : Coded code v l → z .point .fault ≡ 0 → z .point .place ≡ 0 → z .point .depth ≡ 0 → (k : ℕ) → at z + k ≡ l .iterations → from l k (at z) m g ≡ onward l code v z m g
+  onward-begin : Coded code v l → z .point .fault ≡ 0 → z .point .place ≡ 0 → z .point .depth ≡ 0 → (k : ℕ) → at z + k ≡ l .iterations
+      → from l k (at z) m g ≡ onward l code v z m g
   unfolding from
   onward-begin c f p d zero e = sym (onward-done f (omega arith))
   onward-begin c f p d (suc k) e =
       let b : at z < l .iterations = omega arith in
       let n : l .iterations - suc (at z) ≡ k = omega arith in
-      sym (onward-open f b ∙ ap (λ (y : Act). along l (at z) y m g (from l (l .iterations - suc (at z)) (suc (at z)))) (left-body c p d b) ∙ ap (λ (j : ℕ). along l (at z) (l .body (at z)) m g (from l j (suc (at z)))) n)
+      sym (onward-open f b ∙ ap (λ (y : Act). along l (at z) y m g (from l (l .iterations - suc (at z)) (suc (at z)))) (left-body c p d b)
+      ∙ ap (λ (j : ℕ). along l (at z) (l .body (at z)) m g (from l j (suc (at z)))) n)
 
 -- ---- one step
 
-module _ (code : List ℕ) (v : ℤ) (l : Loop) (z : Scene) (m : ℕ → ℤ) (g : Log) (s : Serving code v l z m g) (o : is-open (alone v (l .iterations)) z ≡ true) where
+module _ (code : List ℕ) (v : ℤ) (l : Loop) (z : Scene) (m : ℕ → ℤ) (g : Log) (s : Serving code v l z m g)
+    (o : is-open (alone v (l .iterations)) z ≡ true) where
   abbrev x : Role
   x = alone v (l .iterations)
 
@@ -97,24 +96,17 @@ module _ (code : List ℕ) (v : ℤ) (l : Loop) (z : Scene) (m : ℕ → ℤ) (g
 
   -- the step can be made
   pub serial-goes : CanGo x code z
-  unfolding CanMove left
   serial-goes = record {
     holding = s .holding;
     low = omega (arith, low, s .stands .suits .iterations-most);
     fits = s .coded .fits (at z) low;
-    reach = λ b r h. reach b r h (r .done) refl;
+    reach = can-reach x code z (l .size) (sized _ refl) (λ c y. serves-accessible l (at z) c (z .cells) (z .words) m g (serves c y) v);
   }
-    where
-      reach : (b : List ℤ) (r : Advanced) → Comes x code z b r → (w : Move) → r .done ≡ w → CanMove x (z .cells) (z .words) (r .done)
-      reach b r h (Read c) q = let y = sized _ (rw q at (h .meaning)) in rw q (serves-accessible l (at z) c (z .cells) (z .words) m g (serves c (y .0)) v)
-      reach b r h (Write c u) q = let y = sized _ (rw q at (h .meaning)) in rw q (serves-accessible l (at z) c (z .cells) (z .words) m g (serves c (y .0)) v)
-      reach b r h (Update c u) q = let y = sized _ (rw q at (h .meaning)) in rw q (serves-accessible l (at z) c (z .cells) (z .words) m g (serves c (y .0)) v)
-      reach b r h (Fault n d) q = rw q tt
-      reach b r h End q = rw q tt
 
   module _ (z′ : Scene) where
     -- the scene after an access
-    moved : (m′ : ℕ → ℤ) (g′ : Log) → Continues z z′ → Serially l (at z) (z′ .cells) (z′ .words) m′ g′ → serial l ≡ along l (at z) (rest x code z′) m′ g′ next → Sized (l .size) (rest x code z′) → Serial-at code v l z′
+    moved : (m′ : ℕ → ℤ) (g′ : Log) → Continues z z′ → Serially l (at z) (z′ .cells) (z′ .words) m′ g′
+        → serial l ≡ along l (at z) (rest x code z′) m′ g′ next → Sized (l .size) (rest x code z′) → Serial-at code v l z′
     moved m′ g′ c w e y =
         let q : at z ≡ at z′ = sym (c .same) in (
           m′,
@@ -123,7 +115,9 @@ module _ (code : List ℕ) (v : ℤ) (l : Loop) (z : Scene) (m : ℕ → ℤ) (g
             coded = s .coded;
             stands = subst (λ (i : ℕ). Serially l i (z′ .cells) (z′ .words) m′ g′) q w;
             holding = c .holding;
-            result = e ∙ ap (λ (i : ℕ). along l i (rest x code z′) m′ g′ (from l (l .iterations - suc i) (suc i))) q ∙ sym (onward-open l code v z′ m′ g′ (c .unstopped) (omega (arith, low)));
+            result =
+                e ∙ ap (λ (i : ℕ). along l i (rest x code z′) m′ g′ (from l (l .iterations - suc i) (suc i))) q
+                ∙ sym (onward-open l code v z′ m′ g′ (c .unstopped) (omega (arith, low)));
             sized = λ _ _. y;
           },
         )
@@ -134,13 +128,16 @@ module _ (code : List ℕ) (v : ℤ) (l : Loop) (z : Scene) (m : ℕ → ℤ) (g
         let u = sized _ e in
         let y = serves c (u .0) in
         let n : rest x code z′ ≡ k (m c) = f ∙ ap k (serves-seen l (at z) c (z .cells) (z .words) m g y v) in
-        moved m (access reads (at z) c (m c) ∷ g) r (rw (h, w) (serves-read l (at z) c (z .cells) (z .words) m g y v (m c))) (goes _ e ∙ rw n) (rw n (u .1 (m c)))
+        moved m (access reads (at z) c (m c) ∷ g) r (rw (h, w) (serves-read l (at z) c (z .cells) (z .words) m g y v (m c))) (goes _ e ∙ rw n)
+        (rw n (u .1 (m c)))
     by (happening.writes c y f e h w r) =
         let u = sized _ e in
-        moved (put m c y) (access writes (at z) c y ∷ g) r (rw (h, w) (serves-write l (at z) c (z .cells) (z .words) m g (serves c (u .0)) v y f)) (goes _ e) (u .1)
+        moved (put m c y) (access writes (at z) c y ∷ g) r (rw (h, w) (serves-write l (at z) c (z .cells) (z .words) m g (serves c (u .0)) v y f))
+        (goes _ e) (u .1)
     by (happening.updates c y f e h w r) =
         let u = sized _ e in
-        moved (put m c (l .plus (m c) y)) (access updates (at z) c y ∷ g) r (rw (h, w) (serves-update l (at z) c (z .cells) (z .words) m g (serves c (u .0)) v y)) (goes _ e) (u .1)
+        moved (put m c (l .plus (m c) y)) (access updates (at z) c y ∷ g) r
+        (rw (h, w) (serves-update l (at z) c (z .cells) (z .words) m g (serves c (u .0)) v y)) (goes _ e) (u .1)
     by (happening.faults n d y e h w i f k r) = (
       m,
       g,
@@ -159,7 +156,9 @@ module _ (code : List ℕ) (v : ℤ) (l : Loop) (z : Scene) (m : ℕ → ℤ) (g
         coded = s .coded;
         stands = rw (h, w) (serially-next l (at z) (at z′) (z .cells) (z .words) m g (omega (arith, i)) (s .stands));
         holding = record { size = r; most = omega (arith, d) };
-        result = goes _ e ∙ ap (λ (j : ℕ). from l (l .iterations - suc (at z)) j m g) (sym i) ∙ onward-begin l code v z′ m g (s .coded) f p d (l .iterations - suc (at z)) (omega (arith, i, low));
+        result =
+            goes _ e ∙ ap (λ (j : ℕ). from l (l .iterations - suc (at z)) j m g) (sym i)
+            ∙ onward-begin l code v z′ m g (s .coded) f p d (l .iterations - suc (at z)) (omega (arith, i, low));
         sized = λ _ b. rw (left-body l code v z′ m g (s .coded) p d b) (s .stands .suits .proper .sized (at z′));
       },
     )
@@ -184,7 +183,9 @@ module _ (code : List ℕ) (v : ℤ) (l : Loop) (r : Role) (e : r ≡ alone v (l
 
 -- ---- the start and the end
 
-pub serial-start : (code : List ℕ) (x : Setting) (l : Loop) (M : List ℤ) (C : List ℕ) (n : ℕ) → Serials code x l M C n → (W : List ℕ) → Logged l (dealt l 1) [] W → (a : List ℤ) → Holding a 0 → Serial-at code (x .from) l (scene M W a (record { depth = 0; place = 0; iteration = record { 0 = 0 }; fault = 0; line = 0 }))
+pub serial-start : (code : List ℕ) (x : Setting) (l : Loop) (M : List ℤ) (C : List ℕ) (n : ℕ) → Serials code x l M C n → (W : List ℕ)
+    → Logged l (dealt l 1) [] W → (a : List ℤ) → Holding a 0
+    → Serial-at code (x .from) l (scene M W a (record { depth = 0; place = 0; iteration = record { 0 = 0 }; fault = 0; line = 0 }))
 unfolding serial only
 serial-start code x l M C n h W w a o =
     let z = scene M W a (record { depth = 0; place = 0; iteration = record { 0 = 0 }; fault = 0; line = 0 }) in (
@@ -200,14 +201,18 @@ serial-start code x l M C n h W w a o =
     )
 
 -- the result at the end
-ended : (code : List ℕ) (v : ℤ) (l : Loop) (z : Scene) (m : ℕ → ℤ) (g : Log) → Serving code v l z m g → (z .point .fault ≢ 0) ⊎ (l .iterations ≤ at z) → serial l ≡ record { cells = m; log = g; outcome = outcome-of (z .point) }
+ended : (code : List ℕ) (v : ℤ) (l : Loop) (z : Scene) (m : ℕ → ℤ) (g : Log) → Serving code v l z m g → (z .point .fault ≢ 0) ⊎ (l .iterations ≤ at z)
+    → serial l ≡ record { cells = m; log = g; outcome = outcome-of (z .point) }
 unfolding outcome-of
 ended code v l z m g s h = elim (ℕ-discrete (z .point .fault) 0) [
   | no n ↦ s .result ∙ onward-failed l code v z m g n ∙ rw (pick-other n finished (failed (z .point .fault) (z .point .line) (at z)))
-  | yes f ↦ s .result ∙ onward-done l code v z m g f (elim h [ inl n ↦ absurd (n f) | inr b ↦ b ]) ∙ rw (pick-same f finished (failed (z .point .fault) (z .point .line) (at z)))
+  | yes f ↦
+      s .result ∙ onward-done l code v z m g f (elim h [ inl n ↦ absurd (n f) | inr b ↦ b ])
+      ∙ rw (pick-same f finished (failed (z .point .fault) (z .point .line) (at z)))
 ]
 
-pub serial-end : (code : List ℕ) (v : ℤ) (l : Loop) (z : Scene) → Serial-at code v l z → (z .point .fault ≢ 0) ⊎ (l .iterations ≤ at z) → IsSerial l (z .cells) (z .words) (z .point)
+pub serial-end : (code : List ℕ) (v : ℤ) (l : Loop) (z : Scene) → Serial-at code v l z → (z .point .fault ≢ 0) ⊎ (l .iterations ≤ at z)
+    → IsSerial l (z .cells) (z .words) (z .point)
 serial-end code v l z (m, g, s) h =
     let e = ended code v l z m g s h in
     let w = tables-right l (dealt l 1) (s .stands .suits .proper) g (s .stands .inside) (s .stands .ascending) in

@@ -36,7 +36,8 @@ Below b finished = Unit {0}
 Below b (failed n t i) = i < b
 
 module _ (l : Loop) where
-  along-below : (b i : ℕ) (a : Act) (m : ℕ → ℤ) (g : Log) (next : (ℕ → ℤ) → Log → Result) → i < b → ((m : ℕ → ℤ) (g : Log) → Below b (next m g .outcome)) → Below b (along l i a m g next .outcome)
+  along-below : (b i : ℕ) (a : Act) (m : ℕ → ℤ) (g : Log) (next : (ℕ → ℤ) → Log → Result) → i < b
+      → ((m : ℕ → ℤ) (g : Log) → Below b (next m g .outcome)) → Below b (along l i a m g next .outcome)
   unfolding along
   along-below b i (readAct c k) m g next h f = along-below b i (k (m c)) m _ next h f
   along-below b i (write c v a) m g next h f = along-below b i a _ _ next h f
@@ -49,15 +50,19 @@ module _ (l : Loop) where
   from-below zero i m g = tt
   from-below (suc k) i m g =
       let e : suc i + k ≡ i + suc k = omega arith in
-      along-below (i + suc k) i (l .body i) m g (from l k (suc i)) (omega arith) (λ m g. subst (λ (b : ℕ). Below b (from l k (suc i) m g .outcome)) e (from-below k (suc i) m g))
+      along-below (i + suc k) i (l .body i) m g (from l k (suc i)) (omega arith)
+      (λ m g. subst (λ (b : ℕ). Below b (from l k (suc i) m g .outcome)) e (from-below k (suc i) m g))
 
   serial-below : Below (l .iterations) (serial l .outcome)
   unfolding serial
-  serial-below = let e : 0 + l .iterations ≡ l .iterations = omega arith in subst (λ (b : ℕ). Below b (from l (l .iterations) 0 (l .entry) [] .outcome)) e (from-below (l .iterations) 0 (l .entry) [])
+  serial-below =
+      let e : 0 + l .iterations ≡ l .iterations = omega arith in
+      subst (λ (b : ℕ). Below b (from l (l .iterations) 0 (l .entry) [] .outcome)) e (from-below (l .iterations) 0 (l .entry) [])
 
 -- ---- the answer's numbers
 
-pub with-numbers : (v : Verdict) (M : List ℤ) (W : List ℕ) (r : Served) (M′ : List ℤ) (W′ : List ℕ) → SerialOf v M W r M′ W′ → SerialOf v M W r M′ W′ × (servedNumbers r ≡ serialNumbers v M (length W))
+pub with-numbers : (v : Verdict) (M : List ℤ) (W : List ℕ) (r : Served) (M′ : List ℤ) (W′ : List ℕ) → SerialOf v M W r M′ W′
+    → SerialOf v M W r M′ W′ × (servedNumbers r ≡ serialNumbers v M (length W))
 unfolding SerialOf serialNumbers servedNumbers
 with-numbers (refused n k) M W r M′ W′ h = (h, ap servedNumbers (h .0))
 with-numbers (good s) M W r M′ W′ h = (h, by-number (runNumber s (length M) (length W) []) h)
@@ -73,7 +78,8 @@ module _ (text : List ℕ) (M : List ℤ) (W : List ℕ) where
   unfolding SerialOf
   serial-refused n k e = subst (λ (v : Verdict). SerialOf v M W (Refused n k) M W) (sym e) (refl, refl, refl)
 
-  by-number : (s : State) (n : ℕ) (r : Served) (M′ : List ℤ) (W′ : List ℕ) → read text ≡ good s → runNumber s (length M) (length W) [] ≡ n → ServesBy s n M W r M′ W′ → SerialOf (read text) M W r M′ W′
+  by-number : (s : State) (n : ℕ) (r : Served) (M′ : List ℤ) (W′ : List ℕ) → read text ≡ good s → runNumber s (length M) (length W) [] ≡ n
+      → ServesBy s n M W r M′ W′ → SerialOf (read text) M W r M′ W′
   unfolding SerialOf
   by-number s n r M′ W′ e en h = subst (λ (v : Verdict). SerialOf v M W r M′ W′) (sym e) (subst (λ (k : ℕ). ServesBy s k M W r M′ W′) (sym en) h)
 
@@ -137,12 +143,18 @@ module _ (text : List ℕ) (M : List ℤ) (W : List ℕ) where
           value-fits m em =
               let sane = accepted-sane text s (a .verdict) in
               let late = leb-true 6 (s .stage) (accepted-finished text s (a .verdict)) in
-              let loop = sane .loop (omega (arith, late)) in
-              (omega (arith, inside, loop .few-iterations), subst (λ (m : ℤ). SFits w32 (m +ℤ pos (t .iteration .0))) (sym (em ∙ a .prepares .from)) (loop .values-fit (t .iteration .0) inside))
+              let loop = sane .loop (omega (arith, late)) in (
+                omega (arith, inside, loop .few-iterations),
+                subst (λ (m : ℤ). SFits w32 (m +ℤ pos (t .iteration .0))) (sym (em ∙ a .prepares .from))
+                    (loop .values-fit (t .iteration .0) inside),
+              )
 
-          pub serial-fault : (v m w : ℤ) → m ≡ r .setting .from → v ≡ m +ℤ pos (t .iteration .0) → w ≡ v → SerialOf (read text) M W (Faulted (t .fault) (t .line) w) M′ W′
+          pub serial-fault : (v m w : ℤ) → m ≡ r .setting .from → v ≡ m +ℤ pos (t .iteration .0) → w ≡ v
+              → SerialOf (read text) M W (Faulted (t .fault) (t .line) w) M′ W′
           serial-fault v m w em ev ew = by-number s 0 (Faulted (t .fault) (t .line) w) M′ W′ (a .verdict) (number-is ∙ z) (record {
-            answer = ap (λ (x : ℤ). Faulted (t .fault) (t .line) x) (ew ∙ ev ∙ ap (λ (x : ℤ). x +ℤ pos (t .iteration .0)) (em ∙ a .prepares .from)) ∙ sym (ap (servedBy s M) outcome-is);
+            answer =
+                ap (λ (x : ℤ). Faulted (t .fault) (t .line) x) (ew ∙ ev ∙ ap (λ (x : ℤ). x +ℤ pos (t .iteration .0)) (em ∙ a .prepares .from))
+                ∙ sym (ap (servedBy s M) outcome-is);
             cells = is-serial .cells;
             kept = is-serial .kept;
           })

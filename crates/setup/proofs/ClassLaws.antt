@@ -10,24 +10,11 @@ use lib.Dec.{leb, ltb}
 use lib.ListN.{length, getD, set, drop, length-set}
 use lib.Seq.{drop-cons, getD-set-same, getD-set-other}
 use Rattle.rules.specs.Loop.{shared}
+use Rattle.rules.specs.Numbers.{class-number}
 use Rattle.syntax.specs.Known.{Entry, nowhere}
 use Rattle.syntax.specs.Meaning.{class-of}
-use Rattle.names.specs.Table.{firstAt, sizeAt, countIn, classOf, Row, Tabled}
-use Rattle.tables.specs.Layout.{class-number}
+use Rattle.names.specs.Table.{firstAt, sizeAt, countIn, Row, Tabled}
 use Rattle.setup.specs.Classes.{Filled, Marked, Classifies}
-
--- ---- numbers
-
-pub number-low : (n : ℕ) → n < 2 → 0 ≡ class-number (classOf n)
-number-low zero h = refl
-number-low (suc zero) h = refl
-number-low (suc (suc n)) h = absurd (omega arith)
-
-pub number-high : (n : ℕ) → (n < 2 → ⊥) → (n ≡ 2 → ⊥) → 2 ≡ class-number (classOf n)
-number-high zero a b = absurd (a (omega arith))
-number-high (suc zero) a b = absurd (a (omega arith))
-number-high (suc (suc zero)) a b = absurd (b refl)
-number-high (suc (suc (suc n))) a b = refl
 
 -- ---- cells filled one after another
 
@@ -69,7 +56,8 @@ class-none [] (suc n) c e = absurd (omega arith)
 class-none (x ∷ t) zero c e = absurd (omega arith)
 class-none (x ∷ t) (suc n) c e = class-none t n c (omega arith)
 
-class-step : (e : Entry) (es : List Entry) (c : ℕ) (b : Bool) → leb (e .first) c && ltb c (e .first + e .size) ≡ b → class-of (e ∷ es) c ≡ cond b (e .class) (class-of es c)
+class-step : (e : Entry) (es : List Entry) (c : ℕ) (b : Bool) → leb (e .first) c && ltb c (e .first + e .size) ≡ b
+    → class-of (e ∷ es) c ≡ cond b (e .class) (class-of es c)
 unfolding class-of
 class-step e es c b h = ap (λ (x : Bool). cond x (e .class) (class-of es c)) h
 
@@ -97,19 +85,27 @@ module _ (T : List ℕ) (n : ℕ) (before C C′ : List ℕ) (i k : ℕ) (ek : k
     row = d .rows i (omega (arith, h .few, d .count))
 
     this : class-of (drop i t) c ≡ class-of (e ∷ drop k t) c
-    this = let z : suc i ≡ k = omega arith in ap (λ (u : List Entry). class-of u c) (drop-cons t i nowhere (omega (arith, h .few, d .count))) ∙ ap (λ (j : ℕ). class-of (e ∷ drop j t) c) z
+    this =
+        let z : suc i ≡ k = omega arith in
+        ap (λ (u : List Entry). class-of u c) (drop-cons t i nowhere (omega (arith, h .few, d .count))) ∙ ap (λ (j : ℕ). class-of (e ∷ drop j t) c) z
 
     by : (b : Bool) → leb (e .first) c && ltb c (e .first + e .size) ≡ b → class-of (drop i t) c ≡ cond b (e .class) (class-of (drop k t) c)
     by b y = this ∙ class-step e (drop k t) c b y
 
-    other : (firstAt T i ≤ c → c < firstAt T i + sizeAt T i → ⊥) → leb (e .first) c && ltb c (e .first + e .size) ≡ false → getD C′ c 0 ≡ class-number (class-of (drop i t) c)
+    other : (firstAt T i ≤ c → c < firstAt T i + sizeAt T i → ⊥) → leb (e .first) c && ltb c (e .first + e .size) ≡ false
+        → getD C′ c 0 ≡ class-number (class-of (drop i t) c)
     other z y = m .outside c (λ p q. z p (omega arith)) ∙ h .numbers t d c l ∙ ap class-number (sym (by false y))
 
     number : getD C′ c 0 ≡ class-number (class-of (drop i t) c)
     number = elim (decLe (firstAt T i) c) [
       | yes p ↦ elim (decLt c (firstAt T i + sizeAt T i)) [
-        | yes q ↦ m .inside c p (omega arith) ∙ ap class-number (row .class) ∙ ap class-number (sym (by true (λ j. le-leb (e .first) c (omega (arith, row .first)) j && lt-ltb c (e .first + e .size) (omega (arith, row .first, row .size)) j)))
-        | no q ↦ other (λ _ z. q z) (λ j. le-leb (e .first) c (omega (arith, row .first)) j && le-ltb c (e .first + e .size) (omega (arith, row .first, row .size)) j)
+        | yes q ↦
+            m .inside c p (omega arith) ∙ row .class
+            ∙ ap class-number
+            (sym (by true (λ j. le-leb (e .first) c (omega (arith, row .first)) j
+            && lt-ltb c (e .first + e .size) (omega (arith, row .first, row .size)) j)))
+        | no q ↦ other (λ _ z. q z) (λ j. le-leb (e .first) c (omega (arith, row .first)) j
+            && le-ltb c (e .first + e .size) (omega (arith, row .first, row .size)) j)
       ]
       | no p ↦ other (λ z _. p z) (ap (λ (x : Bool). x && ltb c (e .first + e .size)) (lt-leb (e .first) c (omega (arith, row .first))))
     ]

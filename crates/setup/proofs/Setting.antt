@@ -8,17 +8,19 @@ use lib.ListN.{length, getD}
 use lib.IntN.{ℤ, pos, _+ℤ_}
 use Rattle.rules.specs.Cells.{cellOf, listed}
 use Rattle.rules.proofs.CellsLaws.{listed-cells}
+use Rattle.rules.specs.Numbers.{class-number}
 use Rattle.syntax.specs.Known.{State, cells}
 use Rattle.syntax.specs.Text.{good, read}
 use Rattle.syntax.specs.Meaning.{class-of, loopOf, partitionOf}
-use Rattle.syntax.proofs.Sane.{Sane, accepted-sane, accepted-finished}
+use Rattle.syntax.specs.Sane.{Sane}
+use Rattle.syntax.proofs.Sane.{accepted-sane, accepted-finished}
 use Rattle.syntax.proofs.ProperLoop.{accepted-proper}
 use Rattle.code.specs.Instr.{Instr, instructions, words, resume}
 use Rattle.code.specs.Compile.{codeOf}
 use Rattle.code.proofs.Words.{instructions-words}
 use Rattle.code.proofs.RangedCode.{code-ranged}
 use Rattle.code.proofs.Compiled.{compiled-text}
-use Rattle.tables.specs.Layout.{row-at, class-number}
+use Rattle.tables.specs.Layout.{row-at}
 use Rattle.trial.specs.declared.Setting.{Setting}
 use Rattle.trial.specs.Standing.{Suits, Coded}
 use Rattle.trial.specs.Start.{Entry, Starts}
@@ -63,7 +65,9 @@ module _ (text : List ℕ) (s : State) (e : read text ≡ good s) (M : List ℤ)
   size-is = refl
 
   -- the cells as lent, their classes and n words
-  module _ (size : length M ≡ cells (s .table)) (C : List ℕ) (long : cells (s .table) ≤ length C) (cl : (c : ℕ) → c < cells (s .table) → getD C c 0 ≡ class-number (class-of (s .table) c)) (n : ℕ) (room : row-at (s .processors) (cells (s .table)) ≤ n) where
+  module _ (size : length M ≡ cells (s .table)) (C : List ℕ) (long : cells (s .table) ≤ length C)
+      (cl : (c : ℕ) → c < cells (s .table) → getD C c 0 ≡ class-number (class-of (s .table) c)) (n : ℕ)
+      (room : row-at (s .processors) (cells (s .table)) ≤ n) where
     entry : Entry (s .processors) (loopOf s M) M C n
     unfolding loopOf
     entry = record {
@@ -75,7 +79,8 @@ module _ (text : List ℕ) (s : State) (e : read text ≡ good s) (M : List ℤ)
     }
 
     -- the code and the numbers that the reader found
-    pub starts-by : (K : List ℕ) (g : Setting) → K ≡ words (codeOf s) → g .processors ≡ s .processors → g .iterations ≡ s .count → g .from ≡ s .from → Starts K g (loopOf s M) M C n
+    pub starts-by : (K : List ℕ) (g : Setting) → K ≡ words (codeOf s) → g .processors ≡ s .processors → g .iterations ≡ s .count → g .from ≡ s .from
+        → Starts K g (loopOf s M) M C n
     unfolding loopOf
     starts-by K g ek ep ei ef = record {
       coded = subst (λ (k : List ℕ). Coded k (g .from) (loopOf s M)) (sym ek) (subst (λ (m : ℤ). Coded (words (codeOf s)) m (loopOf s M)) (sym ef) coded);

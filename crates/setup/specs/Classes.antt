@@ -5,8 +5,8 @@ use Prim.Native.Nat.{ℕ, _+_, _≤_, _<_, min}
 use lib.ListN.{length, getD}
 use Rattle.syntax.specs.Known.{Entry}
 use Rattle.syntax.specs.Meaning.{class-of}
-use Rattle.names.specs.Table.{firstAt, sizeAt, clauseAt, classOf, Tabled}
-use Rattle.tables.specs.Layout.{class-number}
+use Rattle.rules.specs.Numbers.{class-number}
+use Rattle.names.specs.Table.{firstAt, sizeAt, classAt, Tabled}
 
 -- C is `before` with x from a up to e
 pub record Filled (before : List ℕ) (a e x : ℕ) (C : List ℕ) : Type 0 where
@@ -16,7 +16,7 @@ pub record Filled (before : List ℕ) (a e x : ℕ) (C : List ℕ) : Type 0 wher
 
 -- with the class of entry i for those of its cells that are below n
 abbrev pub Marked : List ℕ → ℕ → ℕ → List ℕ → List ℕ → Type 0
-Marked T i n before C = Filled before (firstAt T i) (min (firstAt T i + sizeAt T i) n) (class-number (classOf (clauseAt T i))) C
+Marked T i n before C = Filled before (firstAt T i) (min (firstAt T i + sizeAt T i) n) (classAt T i) C
 
 -- the first n numbers of C are the classes of the cells, by the names that T stands for; the others are as they were
 pub record Classifies (T : List ℕ) (n : ℕ) (before C : List ℕ) : Type 0 where

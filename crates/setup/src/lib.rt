@@ -2,24 +2,9 @@
 ghost use mathlib.Core.Path.{_≡_};
 ghost use Prim.Native.Nat.{_≤_, _<_, min};
 ghost use lib.ListN.{length};
-ghost use Rattle.names.specs.Table.{mostNames, classOf};
-ghost use Rattle.tables.specs.Layout.{class-number};
+ghost use Rattle.names.specs.Table.{mostNames};
 ghost use Rattle.setup.specs.Classes.{Filled, Marked, Classifies};
 use names::Table;
-
-// The number of a class by its clause.
-fn number_of(clause: u32) -> u32
-    ensures { λ r. ⌜ r ≡ class-number (classOf clause) ⌝ }
-{
-    if clause < 2 {
-        return tables::SHARED;
-    }
-    if clause == 2 {
-        tables::LASTPRIVATE
-    } else {
-        tables::REDUCTION
-    }
-}
 
 // A number for the cells from one up to another.
 fn fill(out: &mut [u32], first: usize, end: usize, number: u32)
@@ -46,7 +31,7 @@ fn mark(table: &Table, i: usize, count: usize, out: &mut [u32])
 {
     let first = names::first_of(table, i);
     let end = smaller(names::end_of(table, i), count);
-    fill(out, first, end, number_of(names::clause_of(table, i)));
+    fill(out, first, end, names::class_of(table, i));
 }
 
 // The class of each of the first cells, name by name from the last, so that the first that has a cell decides.
@@ -54,7 +39,7 @@ pub fn classes(table: &Table, count: usize, out: &mut [u32])
     requires { ⌜ (count ≤ length (now out)) × (length (now out) ≤ 4096) ⌝ }
     ensures { λ _. ⌜ Classifies (now (table .entry)) count (now (out .entry)) (now (out .exit)) ⌝ }
 {
-    fill(out, 0, count, tables::SHARED);
+    fill(out, 0, count, rules::SHARED);
     let mut i = names::count(table);
     while 0 < i {
         i -= 1;

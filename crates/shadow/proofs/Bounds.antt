@@ -10,15 +10,15 @@ use Rattle.rules.specs.Loop.{Loop, Partition}
 use Rattle.rules.specs.Log.{Log, each, writes, Has, Exposed}
 use Rattle.rules.specs.Proper.{Proper}
 use Rattle.rules.specs.Merge.{touches, count, sum, pairs, written-cells}
-use Rattle.rules.proofs.TrialRun.{whose}
-use Rattle.rules.specs.LogLaws.{has-nil}
-use Rattle.shadow.specs.Tables.{Tables}
+use Rattle.rules.specs.Owner.{whose}
+use Rattle.rules.specs.LogLaws.{has-nil, exposed-nil}
+use Rattle.shadow.specs.Tables.{Tables, table}
 use Rattle.shadow.proofs.Sets.{Size, size-zero, size-out, size-in, size-part, Stamp}
-use Rattle.shadow.proofs.Judged.{Judged, exposed-nil}
+use Rattle.shadow.proofs.Judged.{Judged}
 use Rattle.shadow.proofs.Rows.{judged, touched-right, touches-nil}
 use Rattle.shadow.proofs.ReadOff.{low}
-use Rattle.shadow.proofs.Counts.{Inside}
-use Rattle.shadow.proofs.Shows.{worker, table, Ascending, ascending-groups, within-groups, within-iterations, tables-right}
+use Rattle.shadow.specs.Orderly.{Inside, worker, Ascending}
+use Rattle.shadow.proofs.Shows.{ascending-groups, within-groups, within-iterations, tables-right}
 
 size-most : {S : ℕ → Type 0} {n k : ℕ} → Size S n k → k ≤ n
 size-most size-zero = omega arith
@@ -62,16 +62,25 @@ tables-bounded l δ h g x a =
     let t = ascending-groups l δ h x a in
     let u = within-groups l δ h x in
     let w = tables-right l δ h g x a in
-    let j : (c : ℕ) → Judged (δ .group) (whose δ) (δ .groups) c g (table l δ g .rows c) = λ c. judged (δ .group) (whose δ) (l .plus) (l .zero) c (δ .groups) g t u in
+    let j : (c : ℕ) → Judged (δ .group) (whose δ) (δ .groups) c g (table l δ g .rows c) = λ c. judged (δ .group) (whose δ) (l .plus) (l .zero) c
+    (δ .groups) g t u in
     record {
       met = λ c. size-most (j c .met);
       writers = λ c. size-part (λ i y. inl y) (j c .writers) (j c .met);
       wrote = λ c. stamp-most (whose δ) (δ .groups) (j c .wrote) (low (δ .group) (whose δ) (l .plus) (l .zero) (δ .groups) c g t u (Has writes c) has-nil);
       exposed = λ c. stamp-most (whose δ) (δ .groups) (j c .exposed) (low (δ .group) (whose δ) (l .plus) (l .zero) (δ .groups) c g t u (Exposed c) exposed-nil);
       touched = λ c. stamp-most (worker l δ) (l .iterations) (touched-right (δ .group) (whose δ) (l .plus) (l .zero) c g a) (touched-low c);
-      pair-count = omega (arith, w .pair-count, sum-most (l .iterations) (l .size) (λ i. count (l .size) (λ c. touches c (each i g))) (λ i. count-most (l .size) (λ c. touches c (each i g))));
+      pair-count = omega (
+        arith,
+        w .pair-count,
+        sum-most (l .iterations) (l .size) (λ i. count (l .size) (λ c. touches c (each i g)))
+            (λ i. count-most (l .size) (λ c. touches c (each i g))),
+      );
       cell-count = omega (arith, w .cell-count, count-most (l .size) (λ c. touches c g));
     }
   where
     touched-low : (c i : ℕ) → touches c (each i g) ≡ true → i < l .iterations
-    touched-low c i q = elim (decLt i (l .iterations)) [ yes y ↦ y | no y ↦ absurd (touches-nil (δ .group) (whose δ) (l .plus) (l .zero) c (each i g) (within-iterations l δ h x i (omega arith)) q) ]
+    touched-low c i q = elim (decLt i (l .iterations)) [
+      | yes y ↦ y
+      | no y ↦ absurd (touches-nil (δ .group) (whose δ) (l .plus) (l .zero) c (each i g) (within-iterations l δ h x i (omega arith)) q)
+    ]

@@ -4,7 +4,7 @@ use mathlib.Core.Logic.{_≢_, inl, inr, _↔_}
 use mathlib.Core.List.{[], _∷_}
 use mathlib.Core.Bool.{true}
 use mathlib.Core.Option.{some}
-use Prim.Native.Nat.{ℕ, _<_}
+use Prim.Native.Nat.{ℕ}
 use native.Mathlib.Decide.{ℕ-discrete, decLe}
 use native.Mathlib.Omega.{arith}
 use lib.IntN.{ℤ}
@@ -12,18 +12,11 @@ use Rattle.rules.specs.ChooseLaws.{pick-other}
 use Rattle.rules.specs.Log.{Kind, reads, writes, updates, Access, access, iteration, Log, only, written, Has, older, Exposed, earlier}
 use Rattle.rules.specs.LogLaws.{only-same, only-other, has-cases, exposed-cases}
 use Rattle.rules.specs.Merge.{touches}
+use Rattle.shadow.specs.Orderly.{Latest}
 use Rattle.shadow.proofs.Sets.{Same, Adds, Tops}
 
--- Within a processor the groups go in ascending order: none of its groups above the newest access's has an access before it.
 module _ (γ π : ℕ → ℕ) where
-  abbrev pub Latest : ℕ → Log → Type 0
-  Latest g l = (j : ℕ) → π j ≡ π g → g < j → only γ j l ≡ []
-
-  pub data InTurn : Log → Type 0 where
-    turn-nil : InTurn []
-    turn-cons : {e : Access} {l : Log} → Latest (γ (iteration e)) l → InTurn l → InTurn (e ∷ l)
-
-  pub latest-tops : (Q : Log → Type 0) → ¬ Q [] → (i : ℕ) (l : Log) → Latest i l → Tops π i (λ g. Q (only γ g l))
+  pub latest-tops : (Q : Log → Type 0) → ¬ Q [] → (i : ℕ) (l : Log) → Latest γ π i l → Tops π i (λ g. Q (only γ g l))
   latest-tops Q z i l h g x e = elim (decLe g i) [ yes y ↦ y | no y ↦ absurd (z (subst Q (h g e (omega arith)) x)) ]
 
 module _ (γ : ℕ → ℕ) (e : Access) (l : Log) (Q : Log → Type 0) where

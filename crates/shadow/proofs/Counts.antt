@@ -17,14 +17,10 @@ use Rattle.rules.proofs.TouchLaws.{touch-of, touches-write, touches-update}
 use Rattle.rules.proofs.SumLaws.{Within, within-tail}
 use Rattle.shadow.specs.Tables.{Tables, tables, note}
 use Rattle.shadow.proofs.Sets.{stamp-has}
-use Rattle.shadow.proofs.Change.{InTurn, latest-tops, touches-else}
+use Rattle.shadow.proofs.Change.{latest-tops, touches-else}
+use Rattle.shadow.specs.Orderly.{Inside, inside-nil, inside-cons, InTurn}
 use Rattle.shadow.proofs.Rows.{turn-newest, turn-tail, touched-right, touches-nil}
 use Rattle.shadow.proofs.ReadOff.{mark1-right, mark8-right}
-
--- accesses are by iterations below n, of cells below k
-pub data Inside (n k : ℕ) : Log → Type 0 where
-  inside-nil : Inside n k []
-  inside-cons : {q : Kind} {i c : ℕ} {v : ℤ} {l : Log} → i < n → c < k → Inside n k l → Inside n k (access q i c v ∷ l)
 
 count-flip : (k c : ℕ) (f f′ : ℕ → Bool) → c < k → f c ≡ false → f′ c ≡ true → ((d : ℕ) → c ≢ d → f′ d ≡ f d) → count k f′ ≡ suc (count k f)
 unfolding count
@@ -98,7 +94,10 @@ module _ (l : Log) (k : Kind) (i c : ℕ) (v : ℤ) where
 
 each-read : (l : Log) (i c : ℕ) (v : ℤ) (j d : ℕ) → touches d (each j (access reads i c v ∷ l)) ≡ touches d (each j l)
 unfolding touches
-each-read l i c v j d = elim (ℕ-discrete i j) [ no m ↦ ap (touches d) (only-other (λ a. a) (access reads i c v) m l) | yes e ↦ ap (touches d) (only-same (λ a. a) (access reads i c v) e l) ]
+each-read l i c v j d = elim (ℕ-discrete i j) [
+  | no m ↦ ap (touches d) (only-other (λ a. a) (access reads i c v) m l)
+  | yes e ↦ ap (touches d) (only-same (λ a. a) (access reads i c v) e l)
+]
 
 module _ (L : Loop) (γ π : ℕ → ℕ) where
   abbrev proc : ℕ → ℕ
@@ -108,30 +107,39 @@ module _ (L : Loop) (γ π : ℕ → ℕ) where
   unfolding pairs
   pairs-same l m h = ap (sum (L .iterations)) (fun-ext (λ j. ap (count (L .size)) (fun-ext (λ d. h j d))))
 
-  pairs-more : (l : Log) (k : Kind) (i c : ℕ) (v : ℤ) → Counts k → i < L .iterations → c < L .size → touches c (each i l) ≡ false → pairs L (access k i c v ∷ l) ≡ suc (pairs L l)
+  pairs-more : (l : Log) (k : Kind) (i c : ℕ) (v : ℤ) → Counts k → i < L .iterations → c < L .size → touches c (each i l) ≡ false
+      → pairs L (access k i c v ∷ l) ≡ suc (pairs L l)
   unfolding pairs
   pairs-more l k i c v f a b q = sum-bump (L .iterations) i _ _ a
-      (count-flip (L .size) c (λ d. touches d (each i l)) (λ d. touches d (each i (access k i c v ∷ l))) b q (each-here l k i c v f) (λ d m. each-else l k i c v i d (inr m)))
+      (count-flip (L .size) c (λ d. touches d (each i l)) (λ d. touches d (each i (access k i c v ∷ l))) b q (each-here l k i c v f)
+      (λ d m. each-else l k i c v i d (inr m)))
       (λ j m. ap (count (L .size)) (fun-ext (λ d. each-else l k i c v j d (inl m))))
 
   abbrev all : Log → Tables
   all l = tables γ π (L .plus) (L .zero) l
 
   -- an access that counts
-  paired-right : (l : Log) (k : Kind) (i c : ℕ) (v : ℤ) → Counts k → i < L .iterations → c < L .size → InTurn (λ i. i) proc (access k i c v ∷ l) → all l .pairs ≡ pairs L l
+  paired-right : (l : Log) (k : Kind) (i c : ℕ) (v : ℤ) → Counts k → i < L .iterations → c < L .size → InTurn (λ i. i) proc (access k i c v ∷ l)
+      → all l .pairs ≡ pairs L l
       → pick (all l .rows c .own (proc i) .touched) (suc i) (all l .pairs) (suc (all l .pairs)) ≡ pairs L (access k i c v ∷ l)
   paired-right l k i c v f a b t h =
       let s = touched-right γ π (L .plus) (L .zero) c l (turn-tail (λ i. i) proc t) in
       elim (ℕ-discrete (all l .rows c .own (proc i) .touched) (suc i)) [
-        | yes p ↦ pick-same p (all l .pairs) (suc (all l .pairs)) ∙ h ∙ sym (pairs-same l (access k i c v ∷ l) (each-again l k i c v f (s .down (proc i) i p .1)))
+        | yes p ↦
+            pick-same p (all l .pairs) (suc (all l .pairs)) ∙ h
+            ∙ sym (pairs-same l (access k i c v ∷ l) (each-again l k i c v f (s .down (proc i) i p .1)))
         | no p ↦ pick-other p (all l .pairs) (suc (all l .pairs)) ∙ ap suc h ∙ sym (pairs-more l k i c v f a b (not-true (touches c (each i l))
-            (λ q. p (stamp-has proc s (latest-tops (λ i. i) proc (λ m. touches c m ≡ true) (touches-nil γ π (L .plus) (L .zero) c [] refl) i l (turn-newest (λ i. i) proc t)) q))))
+            (λ q. p (stamp-has proc s
+            (latest-tops (λ i. i) proc (λ m. touches c m ≡ true) (touches-nil γ π (L .plus) (L .zero) c [] refl) i l
+            (turn-newest (λ i. i) proc t))
+            q))))
       ]
 
   pub pairs-right : (l : Log) → Inside (L .iterations) (L .size) l → InTurn (λ i. i) proc l → all l .pairs ≡ pairs L l
   unfolding tables note pairs only touches
   pairs-right [] inside-nil t = sym (sum-none (L .iterations) _ (λ j. count-none (L .size) _ (λ d. refl)))
-  pairs-right (access reads i c v ∷ l) (inside-cons a b x) t = pairs-right l x (turn-tail (λ i. i) proc t) ∙ sym (pairs-same l (access reads i c v ∷ l) (each-read l i c v))
+  pairs-right (access reads i c v ∷ l) (inside-cons a b x) t =
+      pairs-right l x (turn-tail (λ i. i) proc t) ∙ sym (pairs-same l (access reads i c v ∷ l) (each-read l i c v))
   pairs-right (access writes i c v ∷ l) (inside-cons a b x) t = paired-right l writes i c v counts-writes a b t (pairs-right l x (turn-tail (λ i. i) proc t))
   pairs-right (access updates i c v ∷ l) (inside-cons a b x) t = paired-right l updates i c v counts-updates a b t (pairs-right l x (turn-tail (λ i. i) proc t))
 
@@ -139,7 +147,8 @@ module _ (L : Loop) (γ π : ℕ → ℕ) where
   module _ (n : ℕ) where
     again : (l : Log) (k : Kind) (i c : ℕ) (v : ℤ) → Counts k → touches c l ≡ true → written-cells L (access k i c v ∷ l) ≡ written-cells L l
     unfolding written-cells
-    again l k i c v f q = ap (count (L .size)) (fun-ext (λ d. elim (ℕ-discrete c d) [ yes e ↦ rw (← e) (f c i v l ∙ sym q) | no m ↦ touches-else d k i c v l m ]))
+    again l k i c v f q = ap (count (L .size))
+        (fun-ext (λ d. elim (ℕ-discrete c d) [ yes e ↦ rw (← e) (f c i v l ∙ sym q) | no m ↦ touches-else d k i c v l m ]))
 
     celled-right : (l : Log) (k : Kind) (i c : ℕ) (v : ℤ) → Counts k → c < L .size → InTurn γ π l → Within γ n l → (m : ℕ) → m ≡ written-cells L l
         → cond (all l .rows c .updated) m (pick (all l .rows c .writers) 0 (suc m) m) ≡ written-cells L (access k i c v ∷ l)

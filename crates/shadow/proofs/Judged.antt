@@ -1,7 +1,7 @@
 -- The tables of a log hold what the log says.
 use mathlib.Core.Path.{_≡_, refl, subst}
 use mathlib.Core.Logic.{_≢_, _⊎_, inl, inr, _↔_}
-use mathlib.Core.List.{[], _∷_}
+use mathlib.Core.List.{_∷_}
 use mathlib.Core.Bool.{Bool, true}
 use Prim.Native.Nat.{ℕ, suc, _<_}
 use native.Mathlib.Decide.{ℕ-discrete}
@@ -10,11 +10,12 @@ use lib.IntN.{ℤ}
 use Rattle.rules.specs.Choose.{pick, put}
 use Rattle.rules.specs.ChooseLaws.{pick-same, pick-other}
 use Rattle.rules.specs.Log.{Kind, reads, writes, updates, Access, access, Log, only, Has, newest, older, Exposed, first, earlier}
-use Rattle.rules.specs.LogLaws.{has-nil}
+use Rattle.rules.specs.LogLaws.{has-nil, exposed-nil}
 use Rattle.rules.specs.Marks.{Mark4}
 use Rattle.shadow.specs.Tables.{Own, Row, noted, kept, newcomer}
 use Rattle.shadow.proofs.Sets.{Same, Adds, adds-same, Size, size-same, size-add, Stamp, stamp-same, stamp-has, stamp-put, stamp-keep}
-use Rattle.shadow.proofs.Change.{Latest, latest-tops, same-of, adds-of, has-leaves, exposed-leaves}
+use Rattle.shadow.proofs.Change.{latest-tops, same-of, adds-of, has-leaves, exposed-leaves}
+use Rattle.shadow.specs.Orderly.{Latest}
 
 apart-rw : reads ≢ writes
 apart-rw e = let z : _≡_ {A = ℕ} 0 1 = cc in omega arith
@@ -33,9 +34,6 @@ apart-ru e = let z : _≡_ {A = ℕ} 0 1 = cc in omega arith
 
 pub apart-wu : writes ≢ updates
 apart-wu e = let z : _≡_ {A = ℕ} 0 1 = cc in omega arith
-
-pub exposed-nil : {c : ℕ} → Exposed c [] → ⊥
-exposed-nil h = elim h [ ]
 
 -- the groups that wrote c, those that read it exposed, and either
 module _ (γ : ℕ → ℕ) (c : ℕ) (l : Log) where
@@ -87,7 +85,8 @@ module _ (γ π : ℕ → ℕ) (n c : ℕ) (e : Access) (l : Log) (w : Same (W �
     crossed = mark4-same (j .crossed);
   }
 
-module _ (γ π : ℕ → ℕ) (plus : ℤ → ℤ → ℤ) (n c : ℕ) (l : Log) (i : ℕ) (v : ℤ) (r : Row) (low : γ i < n) (late : Latest γ π (γ i) l) (j : Judged γ π n c l r) where
+module _ (γ π : ℕ → ℕ) (plus : ℤ → ℤ → ℤ) (n c : ℕ) (l : Log) (i : ℕ) (v : ℤ) (r : Row) (low : γ i < n) (late : Latest γ π (γ i) l)
+    (j : Judged γ π n c l r) where
   abbrev g : ℕ
   g = γ i
 
@@ -129,7 +128,8 @@ module _ (γ π : ℕ → ℕ) (plus : ℤ → ℤ → ℤ) (n c : ℕ) (l : Log
   read-exposed : Stamp π (E γ c (access reads i c v ∷ l)) (λ p. put (r .own) (π g) (kept plus reads g i v o) p .exposed)
   read-exposed = elim (ℕ-discrete (o .wrote) (suc g)) [
     | yes p ↦ stamp-keep π (λ (a : Own). a .exposed) (r .own) (read-keeps-E (wrote-yes p)) (pick-same p (o .exposed) (suc g)) (j .exposed)
-    | no p ↦ stamp-put π (λ (a : Own). a .exposed) (r .own) (read-adds-E (wrote-no p)) (latest-tops γ π (Exposed c) exposed-nil g l late) (pick-other p (o .exposed) (suc g)) (j .exposed)
+    | no p ↦ stamp-put π (λ (a : Own). a .exposed) (r .own) (read-adds-E (wrote-no p)) (latest-tops γ π (Exposed c) exposed-nil g l late)
+        (pick-other p (o .exposed) (suc g)) (j .exposed)
   ]
 
   read-crossed : (r .crossed ≡ true) ↔ Mark4 γ c (access reads i c v ∷ l)

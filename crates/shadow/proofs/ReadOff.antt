@@ -11,15 +11,15 @@ use Rattle.rules.specs.Choose.{below}
 use Rattle.rules.specs.ChooseLaws.{below-yes, below-no}
 use Rattle.rules.specs.Loop.{Class, shared, lastprivate, reduction}
 use Rattle.rules.specs.Log.{reads, writes, updates, Log, only, Has, newest, older, Exposed, first, earlier, Ordinary, a-read, a-write}
-use Rattle.rules.specs.LogLaws.{has-nil, has-only, has-all}
+use Rattle.rules.specs.LogLaws.{has-nil, has-only, has-all, exposed-nil}
 use Rattle.rules.specs.Obstacles.{Clash, Stale, Mixed, ObstacleAt}
 use Rattle.rules.proofs.SumLaws.{Within}
 use Rattle.rules.specs.Marks.{Mark1, Mark2, Mark4, mark1?, mark2?, mark4?, weight, marks}
 use Rattle.rules.specs.Decide.{has?}
 use Rattle.shadow.specs.Tables.{Row, Stale-row, Blocked, shown}
 use Rattle.shadow.proofs.Sets.{size-some, size-has, size-two, size-both, size-rest, size-less}
-use Rattle.shadow.proofs.Change.{InTurn}
-use Rattle.shadow.proofs.Judged.{W, E, M, Judged, exposed-nil}
+use Rattle.shadow.specs.Orderly.{InTurn}
+use Rattle.shadow.proofs.Judged.{W, E, M, Judged}
 use Rattle.shadow.proofs.Rows.{row, judged, updated-right}
 
 -- a read has a write before it or is exposed
@@ -102,7 +102,10 @@ module _ (γ π : ℕ → ℕ) (plus : ℤ → ℤ → ℤ) (nought : ℤ) (n c 
     λ (b, two).
         let w = size-some (j .writers) b in
         let d = size-two (j .met) two in
-        elim (ℕ-discrete (w .0) (d .0)) [ yes e ↦ (w .0, d .1, λ (q : w .0 ≡ d .1). d .2 (sym e ∙ q), w .2, ordinary-of (d .4)) | no m ↦ (w .0, d .0, m, w .2, ordinary-of (d .3)) ],
+        elim (ℕ-discrete (w .0) (d .0)) [
+          | yes e ↦ (w .0, d .1, λ (q : w .0 ≡ d .1). d .2 (sym e ∙ q), w .2, ordinary-of (d .4))
+          | no m ↦ (w .0, d .0, m, w .2, ordinary-of (d .3))
+        ],
     λ (a, b, m, w, o). let y = ordinary-cases o in (mark1-right .1 (a, w), size-both (j .met) (low-M a (inl w)) (low-M b y) m (inl w) y),
   )
 

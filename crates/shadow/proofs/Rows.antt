@@ -12,13 +12,14 @@ use Rattle.rules.specs.ChooseLaws.{pick-same, pick-other, put-same, put-other}
 use Rattle.rules.specs.Choose.{put}
 use Rattle.rules.specs.Loop.{Loop}
 use Rattle.rules.specs.Log.{Kind, reads, writes, updates, Access, access, iteration, Log, only, each, written, Has, newest, Exposed}
-use Rattle.rules.specs.LogLaws.{only-same, only-other, written-newest, written-only-leaving, has-nil}
+use Rattle.rules.specs.LogLaws.{only-same, only-other, written-newest, written-only-leaving, has-nil, exposed-nil}
 use Rattle.rules.specs.Merge.{touches, add, total}
 use Rattle.rules.proofs.SumLaws.{Within, within-tail, within-newest}
 use Rattle.shadow.specs.Tables.{Own, Row, kept, noted, note, blank, tables}
 use Rattle.shadow.proofs.Sets.{size-none, Stamp, stamp-same, stamp-put, stamp-keep, put-keeps}
-use Rattle.shadow.proofs.Change.{Latest, latest-tops, InTurn, turn-cons, same-of, adds-of, has-leaves, exposed-leaves, touches-else, written-else}
-use Rattle.shadow.proofs.Judged.{Judged, judged-same, judged-noted, exposed-nil, apart-ru, apart-wu}
+use Rattle.shadow.proofs.Change.{latest-tops, same-of, adds-of, has-leaves, exposed-leaves, touches-else, written-else}
+use Rattle.shadow.specs.Orderly.{Latest, InTurn, turn-cons}
+use Rattle.shadow.proofs.Judged.{Judged, judged-same, judged-noted, apart-ru, apart-wu}
 
 module _ (γ π : ℕ → ℕ) where
   pub turn-newest : {e : Access} {l : Log} → InTurn γ π (e ∷ l) → Latest γ π (γ (iteration e)) l
@@ -47,12 +48,14 @@ module _ (γ π : ℕ → ℕ) (plus : ℤ → ℤ → ℤ) (nought : ℤ) (c : 
   row-start = refl
 
   -- by induction: an access of c, and one of another cell
-  module _ (P : Log → Row → Type 0) (start : P [] (blank γ π plus nought)) (here : (k : Kind) (i : ℕ) (v : ℤ) (l : Log) → P l (row l) → P (access k i c v ∷ l) (after k i v (row l)))
+  module _ (P : Log → Row → Type 0) (start : P [] (blank γ π plus nought))
+      (here : (k : Kind) (i : ℕ) (v : ℤ) (l : Log) → P l (row l) → P (access k i c v ∷ l) (after k i v (row l)))
       (else : (k : Kind) (i d : ℕ) (v : ℤ) (l : Log) → d ≢ c → P l (row l) → P (access k i d v ∷ l) (row l)) where
     pub row-ind : (l : Log) → P l (row l)
     row-ind [] = subst (P []) (sym row-start) start
     row-ind (access k i d v ∷ l) = elim (ℕ-discrete d c) [
-      | yes q ↦ subst (λ (x : ℕ). P (access k i x v ∷ l) (row (access k i x v ∷ l))) (sym q) (subst (P (access k i c v ∷ l)) (sym (row-here k i v l)) (here k i v l (row-ind l)))
+      | yes q ↦ subst (λ (x : ℕ). P (access k i x v ∷ l) (row (access k i x v ∷ l))) (sym q)
+          (subst (P (access k i c v ∷ l)) (sym (row-here k i v l)) (here k i v l (row-ind l)))
       | no m ↦ subst (P (access k i d v ∷ l)) (sym (row-else k i d v l m)) (else k i d v l m (row-ind l))
     ]
 
@@ -63,7 +66,8 @@ module _ (γ π : ℕ → ℕ) (plus : ℤ → ℤ → ℤ) (nought : ℤ) (c : 
       here
       (λ k i d v l m h. let f = has-leaves c updates l (λ (x : (k ≡ updates) × (d ≡ c)). m (x .1)) in (λ q. f .0 (h .0 q), λ x. h .1 (f .1 x)))
     where
-      here : (k : Kind) (i : ℕ) (v : ℤ) (l : Log) → (row l .updated ≡ true) ↔ Has updates c l → (after k i v (row l) .updated ≡ true) ↔ Has updates c (access k i c v ∷ l)
+      here : (k : Kind) (i : ℕ) (v : ℤ) (l : Log) → (row l .updated ≡ true) ↔ Has updates c l
+          → (after k i v (row l) .updated ≡ true) ↔ Has updates c (access k i c v ∷ l)
       here reads i v l h = let f = has-leaves c updates l (λ (x : (reads ≡ updates) × (c ≡ c)). apart-ru (x .0)) in (λ q. f .0 (h .0 q), λ x. h .1 (f .1 x))
       here writes i v l h = let f = has-leaves c updates l (λ (x : (writes ≡ updates) × (c ≡ c)). apart-wu (x .0)) in (λ q. f .0 (h .0 q), λ x. h .1 (f .1 x))
       here updates i v l h = (λ q. newest, λ x. refl)
@@ -80,7 +84,8 @@ module _ (γ π : ℕ → ℕ) (plus : ℤ → ℤ → ℤ) (nought : ℤ) (c : 
           met = size-none (λ g x. elim x [ inl y ↦ has-nil y | inr y ↦ exposed-nil y ]) n;
           crossed = (λ (q : false ≡ true). absurd (let z : _≡_ {A = ℕ} 0 1 = cc in omega arith), λ (g, x, y). absurd (has-nil y));
         })
-        (λ k i v l h t u. judged-noted γ π plus n c l i v (row l) (within-newest γ n (access k i c v) l u) (turn-newest γ π t) (h (turn-tail γ π t) (within-tail γ n (access k i c v) l u)) k)
+        (λ k i v l h t u. judged-noted γ π plus n c l i v (row l) (within-newest γ n (access k i c v) l u) (turn-newest γ π t)
+        (h (turn-tail γ π t) (within-tail γ n (access k i c v) l u)) k)
         (λ k i d v l m h t u. judged-same γ π n c (access k i d v) l
         (same-of γ (access k i d v) l (Has writes c) (has-leaves c writes (only γ (γ i) l) (λ x. m (x .1))))
         (same-of γ (access k i d v) l (Exposed c) (exposed-leaves c (only γ (γ i) l) (λ x. m (x .1 .0))))
@@ -94,11 +99,15 @@ module _ (γ π : ℕ → ℕ) (plus : ℤ → ℤ → ℤ) (nought : ℤ) (c : 
     unfolding written
     valued = row-ind (λ l r. InTurn γ π l → Within γ n l → Valued l r)
         (λ t u p g (q : 0 ≡ suc g). absurd (omega arith))
-        (λ k i v l h t u. here k i v l (h (turn-tail γ π t) (within-tail γ n (access k i c v) l u)) (judged l (turn-tail γ π t) (within-tail γ n (access k i c v) l u)))
-        (λ k i d v l m h t u p g q. written-only-leaving γ c g (access k i d v) l (λ a. written-else c k i d v a m) ∙ h (turn-tail γ π t) (within-tail γ n (access k i d v) l u) p g q)
+        (λ k i v l h t u. here k i v l (h (turn-tail γ π t) (within-tail γ n (access k i c v) l u))
+        (judged l (turn-tail γ π t) (within-tail γ n (access k i c v) l u)))
+        (λ k i d v l m h t u p g q. written-only-leaving γ c g (access k i d v) l (λ a. written-else c k i d v a m)
+        ∙ h (turn-tail γ π t) (within-tail γ n (access k i d v) l u) p g q)
       where
-        leaves : (k : Kind) (i : ℕ) (v : ℤ) (l : Log) → ((a : Log) → written c (access k i c v ∷ a) ≡ written c a) → (o : Own) → o .wrote ≡ row l .own (π (γ i)) .wrote → o .value ≡ row l .own (π (γ i)) .value
-            → Valued l (row l) → (p g : ℕ) → put (row l .own) (π (γ i)) o p .wrote ≡ suc g → written c (only γ g (access k i c v ∷ l)) ≡ some (put (row l .own) (π (γ i)) o p .value)
+        leaves : (k : Kind) (i : ℕ) (v : ℤ) (l : Log) → ((a : Log) → written c (access k i c v ∷ a) ≡ written c a) → (o : Own)
+            → o .wrote ≡ row l .own (π (γ i)) .wrote → o .value ≡ row l .own (π (γ i)) .value
+            → Valued l (row l) → (p g : ℕ) → put (row l .own) (π (γ i)) o p .wrote ≡ suc g
+            → written c (only γ g (access k i c v ∷ l)) ≡ some (put (row l .own) (π (γ i)) o p .value)
         leaves k i v l f o a b h p g q =
             written-only-leaving γ c g (access k i c v) l f
             ∙ h p g (sym (put-keeps (λ (s : Own). s .wrote) (row l .own) (π (γ i)) o a p) ∙ q)
@@ -117,7 +126,8 @@ module _ (γ π : ℕ → ℕ) (plus : ℤ → ℤ → ℤ) (nought : ℤ) (c : 
               | no m ↦
                   let s = put-other m (row l .own) o in
                   let w : row l .own p .wrote ≡ suc g = sym (ap (λ (s : Own). s .wrote) s) ∙ q in
-                  ap (written c) (only-other γ (access writes i c v) (λ (z : γ i ≡ g). m (ap π z ∙ j .wrote .down p g w .0)) l) ∙ h p g w ∙ ap (λ (s : Own). some (s .value)) (sym s)
+                  ap (written c) (only-other γ (access writes i c v) (λ (z : γ i ≡ g). m (ap π z ∙ j .wrote .down p g w .0)) l) ∙ h p g w
+                  ∙ ap (λ (s : Own). some (s .value)) (sym s)
             ]
 
   -- the iterations that wrote or updated c
@@ -138,10 +148,13 @@ module _ (γ π : ℕ → ℕ) (plus : ℤ → ℤ → ℤ) (nought : ℤ) (c : 
     where
       here : (k : Kind) (i : ℕ) (v : ℤ) (l : Log) → Stamp (λ i. π (γ i)) (Touches l) (λ p. row l .own p .touched) → Latest (λ i. i) (λ i. π (γ i)) i l
           → Stamp (λ i. π (γ i)) (Touches (access k i c v ∷ l)) (λ p. after k i v (row l) .own p .touched)
-      here reads i v l h t = stamp-keep (λ i. π (γ i)) (λ (s : Own). s .touched) (row l .own) (same-of (λ i. i) (access reads i c v) l (λ a. touches c a ≡ true) (λ x. x, λ x. x)) refl h
-      here writes i v l h t = stamp-put (λ i. π (γ i)) (λ (s : Own). s .touched) (row l .own) (adds-of (λ i. i) (access writes i c v) l (λ a. touches c a ≡ true) (λ x. pick-same refl true _) (pick-same refl true _))
+      here reads i v l h t = stamp-keep (λ i. π (γ i)) (λ (s : Own). s .touched) (row l .own)
+          (same-of (λ i. i) (access reads i c v) l (λ a. touches c a ≡ true) (λ x. x, λ x. x)) refl h
+      here writes i v l h t = stamp-put (λ i. π (γ i)) (λ (s : Own). s .touched) (row l .own)
+          (adds-of (λ i. i) (access writes i c v) l (λ a. touches c a ≡ true) (λ x. pick-same refl true _) (pick-same refl true _))
           (latest-tops (λ i. i) (λ i. π (γ i)) (λ a. touches c a ≡ true) (touches-nil [] refl) i l t) refl h
-      here updates i v l h t = stamp-put (λ i. π (γ i)) (λ (s : Own). s .touched) (row l .own) (adds-of (λ i. i) (access updates i c v) l (λ a. touches c a ≡ true) (λ x. pick-same refl true _) (pick-same refl true _))
+      here updates i v l h t = stamp-put (λ i. π (γ i)) (λ (s : Own). s .touched) (row l .own)
+          (adds-of (λ i. i) (access updates i c v) l (λ a. touches c a ≡ true) (λ x. pick-same refl true _) (pick-same refl true _))
           (latest-tops (λ i. i) (λ i. π (γ i)) (λ a. touches c a ≡ true) (touches-nil [] refl) i l t) refl h
 
 -- the partial sums: what the processor's accesses add
@@ -161,9 +174,13 @@ module _ (γ π : ℕ → ℕ) (L : Loop) (c : ℕ) where
 
       -- an access that adds nothing to c
       leaves : (e : Access) (l : Log) → ((x : ℤ) → add L c e x ≡ x) → (p : ℕ) → total L c (only proc p (e ∷ l)) ≡ total L c (only proc p l)
-      leaves e l f p = elim (ℕ-discrete (proc (iteration e)) p) [ yes q ↦ ap (total L c) (only-same proc e q l) ∙ f (total L c (only proc p l)) | no m ↦ ap (total L c) (only-other proc e m l) ]
+      leaves e l f p = elim (ℕ-discrete (proc (iteration e)) p) [
+        | yes q ↦ ap (total L c) (only-same proc e q l) ∙ f (total L c (only proc p l))
+        | no m ↦ ap (total L c) (only-other proc e m l)
+      ]
 
-      keeps : (e : Access) (l : Log) → ((x : ℤ) → add L c e x ≡ x) → (q : ℕ) (o : Own) → o .sum ≡ at l .own q .sum → Summed l (at l) → (p : ℕ) → put (at l .own) q o p .sum ≡ total L c (only proc p (e ∷ l))
+      keeps : (e : Access) (l : Log) → ((x : ℤ) → add L c e x ≡ x) → (q : ℕ) (o : Own) → o .sum ≡ at l .own q .sum → Summed l (at l) → (p : ℕ)
+          → put (at l .own) q o p .sum ≡ total L c (only proc p (e ∷ l))
       keeps e l f q o a h p = put-keeps (λ (s : Own). s .sum) (at l .own) q o a p ∙ h p ∙ sym (leaves e l f p)
 
       here : (k : Kind) (i : ℕ) (v : ℤ) (l : Log) → Summed l (at l) → Summed (access k i c v ∷ l) (after γ π (L .plus) (L .zero) c k i v (at l))
@@ -172,8 +189,11 @@ module _ (γ π : ℕ → ℕ) (L : Loop) (c : ℕ) where
       here updates i v l h p =
           let o = kept (L .plus) updates (γ i) i v (at l .own (proc i)) in
           elim (ℕ-discrete (proc i) p) [
-            | yes q ↦ ap (λ (s : Own). s .sum) (put-same q (at l .own) o) ∙ ap (L .plus v) (h (proc i)) ∙ ap (λ (j : ℕ). L .plus v (total L c (only proc j l))) q
-                ∙ sym (pick-same refl (L .plus v (total L c (only proc p l))) (total L c (only proc p l))) ∙ ap (total L c) (sym (only-same proc (access updates i c v) q l))
+            | yes q ↦
+                ap (λ (s : Own). s .sum) (put-same q (at l .own) o) ∙ ap (L .plus v) (h (proc i))
+                ∙ ap (λ (j : ℕ). L .plus v (total L c (only proc j l))) q
+                ∙ sym (pick-same refl (L .plus v (total L c (only proc p l))) (total L c (only proc p l)))
+                ∙ ap (total L c) (sym (only-same proc (access updates i c v) q l))
             | no m ↦ ap (λ (s : Own). s .sum) (put-other m (at l .own) o) ∙ h p ∙ ap (total L c) (sym (only-other proc (access updates i c v) m l))
           ]
 

@@ -67,10 +67,16 @@ module _ {S S′ : ℕ → Type 0} where
 
   pub size-less : {n j k g : ℕ} → ((g : ℕ) → S g → S′ g) → Size S n j → Size S′ n k → g < n → S′ g → ¬ S g → j < k
   size-less f size-zero size-zero b x m = absurd (omega arith)
-  size-less {g = g} f (size-out {n = n} h s) (size-out h′ s′) b x m = elim (ℕ-discrete n g) [ yes e ↦ absurd (h′ (subst S′ (sym e) x)) | no y ↦ size-less f s s′ (omega arith) x m ]
+  size-less {g = g} f (size-out {n = n} h s) (size-out h′ s′) b x m = elim (ℕ-discrete n g) [
+    | yes e ↦ absurd (h′ (subst S′ (sym e) x))
+    | no y ↦ size-less f s s′ (omega arith) x m
+  ]
   size-less f (size-out h s) (size-in h′ s′) b x m = omega (arith, size-part f s s′)
   size-less f (size-in {n = n} h s) (size-out h′ s′) b x m = absurd (h′ (f n h))
-  size-less {g = g} f (size-in {n = n} h s) (size-in h′ s′) b x m = elim (ℕ-discrete n g) [ yes e ↦ absurd (m (subst S e h)) | no y ↦ omega (arith, size-less f s s′ (omega arith) x m) ]
+  size-less {g = g} f (size-in {n = n} h s) (size-in h′ s′) b x m = elim (ℕ-discrete n g) [
+    | yes e ↦ absurd (m (subst S e h))
+    | no y ↦ omega (arith, size-less f s s′ (omega arith) x m)
+  ]
 
 module _ {S : ℕ → Type 0} where
   pub size-some : {n k : ℕ} → Size S n k → 0 < k → (g : ℕ) × (g < n) × S g
@@ -101,7 +107,10 @@ module _ {S : ℕ → Type 0} where
 
 -- what one processor keeps changes, and the part f of it does not
 pub put-keeps : {A B : Type 0} (f : A → B) (own : ℕ → A) (p : ℕ) (o : A) → f o ≡ f (own p) → (q : ℕ) → f (put own p o q) ≡ f (own q)
-put-keeps {B} f own p o e q = elim (ℕ-discrete p q) [ yes z ↦ ap f (put-same z own o) ∙ e ∙ ap {B = B} (λ (j : ℕ). f (own j)) z | no z ↦ ap f (put-other z own o) ]
+put-keeps {B} f own p o e q = elim (ℕ-discrete p q) [
+  | yes z ↦ ap f (put-same z own o) ∙ e ∙ ap {B = B} (λ (j : ℕ). f (own j)) z
+  | no z ↦ ap f (put-other z own o)
+]
 
 -- s p is 1 + the highest member of processor p, 0 if it has none
 pub record Stamp (π : ℕ → ℕ) (S : ℕ → Type 0) (s : ℕ → ℕ) : Type 0 where
@@ -124,7 +133,8 @@ module _ (π : ℕ → ℕ) where
       go zero e b = absurd (omega arith)
       go (suc g) e b = let r = t .down (π i) g e in omega (arith, a g (r .1) (r .0))
 
-  pub stamp-add : {S S′ : ℕ → Type 0} {s s′ : ℕ → ℕ} {i : ℕ} → Adds i S S′ → Tops i S → s′ (π i) ≡ suc i → ((p : ℕ) → p ≢ π i → s′ p ≡ s p) → Stamp π S s → Stamp π S′ s′
+  pub stamp-add : {S S′ : ℕ → Type 0} {s s′ : ℕ → ℕ} {i : ℕ} → Adds i S S′ → Tops i S → s′ (π i) ≡ suc i → ((p : ℕ) → p ≢ π i → s′ p ≡ s p)
+      → Stamp π S s → Stamp π S′ s′
   stamp-add {S} {S′} {s} {s′} {i} a t e o h = record {
     up = λ g x. elim (ℕ-discrete g i) [
       | yes q ↦ omega (arith, ap (λ (j : ℕ). s′ (π j)) q)

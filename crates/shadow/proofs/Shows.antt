@@ -15,33 +15,22 @@ use Rattle.rules.specs.Log.{Kind, access, Log, only, each, written, Has, newest
 use Rattle.rules.specs.LogLaws.{only-same, only-other, only-nil, has-all}
 use Rattle.rules.specs.Obstacles.{ObstacleAt, Obstructed}
 use Rattle.rules.specs.Proper.{Proper}
-use Rattle.rules.proofs.Progress.{owner, owner-from, owner-to, bounds-grow, group-holds, bound-first, bound-grows, bound-last}
+use Rattle.rules.proofs.Progress.{owner-from, owner-to, bounds-grow, group-holds, bound-first, bound-grows, bound-last}
+use Rattle.rules.specs.Owner.{owner, whose}
 use Rattle.rules.specs.Steps.{State}
-use Rattle.rules.proofs.TrialRun.{whose, home}
+use Rattle.rules.proofs.TrialRun.{home}
 use Rattle.rules.specs.Merge.{highest, updated, block, total, sum-of, gathered, merged-as, merged, pairs, written-cells}
 use Rattle.rules.proofs.TouchLaws.{updated-has, has-updated, both-ways}
 use Rattle.rules.proofs.SumLaws.{Within, sum-same}
 use Rattle.rules.specs.Marks.{marks}
-use Rattle.shadow.specs.Tables.{Row, Tables, tables, shown, Blocked, chosen, own-value, last-own}
+use Rattle.shadow.specs.Tables.{Row, Tables, table, shown, Blocked, chosen, own-value, last-own}
 use Rattle.shadow.proofs.Sets.{Stamp}
 use Rattle.shadow.proofs.Judged.{W}
-use Rattle.shadow.proofs.Change.{Latest, InTurn, turn-nil, turn-cons}
+use Rattle.shadow.specs.Orderly.{Latest, InTurn, turn-nil, turn-cons, Inside, inside-nil, inside-cons, worker, Ascending}
 use Rattle.shadow.proofs.Rows.{judged, valued, summed}
 use Rattle.shadow.proofs.ReadOff.{marks-right, obstacle-right, mark8-right}
-use Rattle.shadow.proofs.Counts.{Inside, inside-nil, inside-cons, pairs-right, cells-right}
+use Rattle.shadow.proofs.Counts.{pairs-right, cells-right}
 use Rattle.shadow.proofs.Merging.{own-right, last-right, chosen-right}
-
-module _ (l : Loop) (δ : Partition) where
-  -- the processor of an iteration
-  abbrev pub worker : ℕ → ℕ
-  worker i = whose δ (δ .group i)
-
-  abbrev pub table : Log → Tables
-  table g = tables (δ .group) (whose δ) (l .plus) (l .zero) g
-
-  -- each processor's iterations go in ascending order
-  abbrev pub Ascending : Log → Type 0
-  Ascending g = InTurn (λ i. i) worker g
 
 module _ (l : Loop) (δ : Partition) (h : Proper l δ) where
   -- the block that holds an iteration
@@ -65,7 +54,12 @@ module _ (l : Loop) (δ : Partition) (h : Proper l δ) where
   worker-grows : (i j : ℕ) → i ≤ j → j < l .iterations → worker l δ i ≤ worker l δ j
   worker-grows i j a b = elim (decLe (worker l δ i) (worker l δ j)) [
     | yes y ↦ y
-    | no y ↦ absurd (omega (arith, worker-from i (omega arith), worker-to j b, bounds-grow (bound δ) (bound-grows l δ h) (suc (worker l δ j)) (worker l δ i) (omega arith)))
+    | no y ↦ absurd (omega (
+      arith,
+      worker-from i (omega arith),
+      worker-to j b,
+      bounds-grow (bound δ) (bound-grows l δ h) (suc (worker l δ j)) (worker l δ i) (omega arith),
+    ))
   ]
 
   -- groups ascend with iterations
@@ -76,7 +70,10 @@ module _ (l : Loop) (δ : Partition) (h : Proper l δ) where
   ]
 
   group-below : (i : ℕ) → i < l .iterations → δ .group i < δ .groups
-  group-below i b = elim (decLt (δ .group i) (δ .groups)) [ yes y ↦ y | no y ↦ absurd (omega (arith, group-holds l δ h i b .0, h .cut-last (δ .group i) (omega arith))) ]
+  group-below i b = elim (decLt (δ .group i) (δ .groups)) [
+    | yes y ↦ y
+    | no y ↦ absurd (omega (arith, group-holds l δ h i b .0, h .cut-last (δ .group i) (omega arith)))
+  ]
 
   none-of : (γ : ℕ → ℕ) (j : ℕ) → ((i : ℕ) → i < l .iterations → γ i ≢ j) → {g : Log} → Inside (l .iterations) (l .size) g → only γ j g ≡ []
   unfolding only
@@ -90,7 +87,8 @@ module _ (l : Loop) (δ : Partition) (h : Proper l δ) where
   within-groups x j b = none-of (δ .group) j (λ i a. omega (arith, group-below i a)) x
 
   -- then groups ascend too
-  latest-group : (i : ℕ) → i < l .iterations → {g : Log} → Inside (l .iterations) (l .size) g → Latest (λ i. i) (worker l δ) i g → Latest (δ .group) (whose δ) (δ .group i) g
+  latest-group : (i : ℕ) → i < l .iterations → {g : Log} → Inside (l .iterations) (l .size) g → Latest (λ i. i) (worker l δ) i g
+      → Latest (δ .group) (whose δ) (δ .group i) g
   unfolding only
   latest-group i a inside-nil t j e b = refl
   latest-group i a (inside-cons {q = q} {i = m} {c = c} {v = v} {l = g} w z x) t j e b = only-other (δ .group) (access q m c v)
@@ -106,7 +104,9 @@ module _ (l : Loop) (δ : Partition) (h : Proper l δ) where
   unfolding only block
   block-is p inside-nil = refl
   block-is p (inside-cons {q = q} {i = i} {c = c} {v = v} {l = g} a b x) = elim (ℕ-discrete (worker l δ i) p) [
-    | yes e ↦ below-no (subst (λ (w : ℕ). bound δ w ≤ i) e (worker-from i a)) (block δ p g) _ ∙ below-yes (subst (λ (w : ℕ). i < bound δ (suc w)) e (worker-to i a)) (access q i c v ∷ block δ p g) (block δ p g)
+    | yes e ↦
+        below-no (subst (λ (w : ℕ). bound δ w ≤ i) e (worker-from i a)) (block δ p g) _
+        ∙ below-yes (subst (λ (w : ℕ). i < bound δ (suc w)) e (worker-to i a)) (access q i c v ∷ block δ p g) (block δ p g)
         ∙ ap (λ (m : Log). access q i c v ∷ m) (block-is p x) ∙ sym (only-same (worker l δ) (access q i c v) e g)
     | no n ↦ out n ∙ block-is p x ∙ sym (only-other (worker l δ) (access q i c v) n g)
   ]
@@ -154,9 +154,12 @@ tables-right l δ h g x a =
       private = λ c p i. valued (δ .group) (whose δ) (l .plus) (l .zero) c (δ .groups) g t u p i;
       block-last = λ c p. last-right (δ .group) (whose δ) (l .plus) (l .zero) c g p ∙ ap (written c) (sym (block-is l δ h p x));
       own = λ c i late. own-right (δ .group) (whose δ) (l .plus) (l .zero) c (δ .groups) g t u i late;
-      last = λ c. chosen-right (worker l δ) (l .plus) (l .zero) c (l .iterations) g (worker-grows l δ h) a (within-iterations l δ h x) (δ .group) (whose δ) (λ i. refl) (δ .processors) (worker-below l δ h);
+      last = λ c. chosen-right (worker l δ) (l .plus) (l .zero) c (l .iterations) g (worker-grows l δ h) a (within-iterations l δ h x) (δ .group)
+          (whose δ) (λ i. refl) (δ .processors) (worker-below l δ h);
       sums = λ c p. summed (δ .group) (whose δ) l c g p ∙ ap (total l c) (sym (block-is l δ h p x));
-      update = λ c. let m = mark8-right (δ .group) (whose δ) (l .plus) (l .zero) (δ .groups) c g t u in both-ways (table l δ g .rows c .updated) (updated c g) (λ q. has-updated (m .0 q)) (λ q. m .1 (updated-has c g q));
+      update = λ c.
+          let m = mark8-right (δ .group) (whose δ) (l .plus) (l .zero) (δ .groups) c g t u in
+          both-ways (table l δ g .rows c .updated) (updated c g) (λ q. has-updated (m .0 q)) (λ q. m .1 (updated-has c g q));
       pair-count = pairs-right l (δ .group) (whose δ) g x a;
       cell-count = cells-right l (δ .group) (whose δ) (δ .groups) g x t u;
     }
@@ -165,16 +168,23 @@ tables-right l δ h g x a =
 abbrev pub merged-off : Loop → Partition → Class → (ℕ → ℤ) → ℕ → Row → ℤ
 merged-off l δ shared m c r = m c
 merged-off l δ lastprivate m c r = Option·getD (chosen (r .own) (δ .processors)) (l .entry c)
-merged-off l δ reduction m c r = cond (r .updated) (l .plus (Option·getD (chosen (r .own) (δ .processors)) (l .entry c)) (sum-of l (δ .processors) (λ p. r .own p .sum))) (Option·getD (chosen (r .own) (δ .processors)) (l .entry c))
+merged-off l δ reduction m c r = cond (r .updated)
+    (l .plus (Option·getD (chosen (r .own) (δ .processors)) (l .entry c)) (sum-of l (δ .processors) (λ p. r .own p .sum)))
+    (Option·getD (chosen (r .own) (δ .processors)) (l .entry c))
 
-pub merged-right : (l : Loop) (δ : Partition) → Proper l δ → (s : State) (t : Tables) → Shows l δ (s .log) t → (c : ℕ) → merged-off l δ (l .class c) (s .cells) c (t .rows c) ≡ merged l δ s c
+pub merged-right : (l : Loop) (δ : Partition) → Proper l δ → (s : State) (t : Tables) → Shows l δ (s .log) t → (c : ℕ)
+    → merged-off l δ (l .class c) (s .cells) c (t .rows c) ≡ merged l δ s c
 unfolding merged gathered
 merged-right l δ h s t w c = go (l .class c)
   where
     go : (k : Class) → merged-off l δ k (s .cells) c (t .rows c) ≡ merged-as l δ k s c
     go shared = refl
     go lastprivate = ap (λ (o : Option ℤ). Option·getD o (l .entry c)) (w .last c)
-    go reduction = cc (w .last c, w .update c, sum-same l δ h (δ .processors) (λ p. t .rows c .own p .sum) (λ p. total l c (block δ p (s .log))) (λ p b. w .sums c p))
+    go reduction = cc (
+      w .last c,
+      w .update c,
+      sum-same l δ h (δ .processors) (λ p. t .rows c .own p .sum) (λ p. total l c (block δ p (s .log))) (λ p b. w .sums c p),
+    )
 
 -- the accessed cells are those below the size
 pub inside-cell : {n k c : ℕ} {q : Kind} {g : Log} → Inside n k g → Has q c g → c < k
@@ -182,7 +192,8 @@ inside-cell (inside-cons a b x) newest = b
 inside-cell (inside-cons a b x) (older h) = inside-cell x h
 
 -- some cell has an obstacle
-pub obstructed-right : (l : Loop) (δ : Partition) (g : Log) (t : Tables) → Inside (l .iterations) (l .size) g → Shows l δ g t → Obstructed l (δ .group) g ↔ ((c : ℕ) × (c < l .size) × Blocked (l .class c) (t .rows c))
+pub obstructed-right : (l : Loop) (δ : Partition) (g : Log) (t : Tables) → Inside (l .iterations) (l .size) g → Shows l δ g t
+    → Obstructed l (δ .group) g ↔ ((c : ℕ) × (c < l .size) × Blocked (l .class c) (t .rows c))
 obstructed-right l δ g t x w = (λ (c, o). (c, low (l .class c) c o, w .obstacle (l .class c) c .1 o), λ (c, b, o). (c, w .obstacle (l .class c) c .0 o))
   where
     at : {c : ℕ} {q : Kind} (i : ℕ) → Has q c (only (δ .group) i g) → c < l .size

@@ -7,7 +7,8 @@ use mathlib.Core.Option.{Option, none, some}
 use Prim.Native.Nat.{ℕ, zero, suc, _+_, _<_}
 use lib.IntN.{ℤ}
 use Rattle.rules.specs.Choose.{pick, put, below}
-use Rattle.rules.specs.Loop.{Class, shared, lastprivate, reduction}
+use Rattle.rules.specs.Loop.{Class, shared, lastprivate, reduction, Loop, Partition}
+use Rattle.rules.specs.Owner.{whose}
 use Rattle.rules.specs.Log.{Kind, reads, writes, updates, Access, access, Log}
 
 -- of a processor and a cell
@@ -87,12 +88,22 @@ module _ (γ π : ℕ → ℕ) (plus : ℤ → ℤ → ℤ) (nought : ℤ) where
   }
 
   abbrev pub blank : Row
-  blank = record { met = 0; writers = 0; crossed = false; updated = false; own = λ p. record { value = nought; wrote = 0; exposed = 0; sum = nought; touched = 0 } }
+  blank = record {
+    met = 0;
+    writers = 0;
+    crossed = false;
+    updated = false;
+    own = λ p. record { value = nought; wrote = 0; exposed = 0; sum = nought; touched = 0 };
+  }
 
   -- the tables of a log
   unfoldable pub tables : Log → Tables
   tables [] = record { rows = λ c. blank; pairs = 0; cells = 0 }
   tables (e ∷ l) = note e (tables l)
+
+-- of a loop's log
+abbrev pub table : Loop → Partition → Log → Tables
+table l δ g = tables (δ .group) (whose δ) (l .plus) (l .zero) g
 
 -- the private value of the highest of the processors below k that wrote
 unfoldable pub chosen : (ℕ → Own) → ℕ → Option ℤ

@@ -1,5 +1,5 @@
--- Words and signs that `pass` goes over, as the readers of the definitions meet them; readers one after another.
-use mathlib.Core.Path.{_≡_, refl, sym, _∙_, ap}
+-- Words and signs that `pass` goes over, as the readers of the definitions meet them.
+use mathlib.Core.Path.{_≡_, sym, _∙_, ap}
 use mathlib.Core.Bool.{Bool, true, cond}
 use mathlib.Core.List.{List}
 use Prim.Native.Nat.{ℕ, _≤_, _<_}
@@ -7,21 +7,11 @@ use Prim.Native.String.{String}
 use native.Mathlib.Omega.{arith}
 use lib.ListN.{length, drop}
 use Rattle.syntax.specs.Bytes.{bytes}
-use Rattle.syntax.specs.Reader.{Parsed, broken, done, Reader, next, expects, wants, peek-in, skip-in}
+use Rattle.syntax.specs.Reader.{broken, done, expects, wants, peek-in, skip-in}
 use Rattle.lexer.specs.Places.{Goes, Any, passes}
 use Rattle.lexer.proofs.Said.{signed, lettered, sign-text, word-text}
 use Rattle.lexer.proofs.PlaceLaws.{expects-passes, wants-passes, goes-some, pass-there, pass-not, pass-onward}
 use Rattle.parts.specs.Parts.{Passes}
-
--- ---- readers one after another
-
-pub next-assoc : {A B C : Type 0} (P : Parsed (List ℕ) A) (k : A → Reader (List ℕ) B) (h : B → Reader (List ℕ) C) → next (next P k) h ≡ next P (λ a u. next (k a u) h)
-next-assoc broken k h = refl
-next-assoc (done a u) k h = refl
-
-pub next-same : {A B : Type 0} (P : Parsed (List ℕ) A) (k h : A → Reader (List ℕ) B) → ((a : A) (u : List ℕ) → k a u ≡ h a u) → next P k ≡ next P h
-next-same broken k h e = refl
-next-same (done a u) k h e = e a u
 
 -- ---- a word or a sign at a place
 

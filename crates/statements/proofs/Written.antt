@@ -12,7 +12,7 @@ use Rattle.code.specs.Instr.{words}
 use Rattle.parts.specs.Answer.{Reads}
 use Rattle.parts.specs.declared.Got.{Got}
 use Rattle.parts.specs.declared.Got.the-variants.{Done}
-use Rattle.parts.proofs.Laws.{words-length}
+use Rattle.code.proofs.Words.{words-length}
 use Rattle.statements.specs.Statement.{codeLine, rankLine, Writes, Bounded}
 
 pub take-sets : (b : List ℕ) (i : ℕ) (ws : List ℕ) → i + length ws ≤ length b → take (i + length ws) (sets b i ws) ≡ take i b ++ ws
@@ -25,7 +25,8 @@ unfolding Bounded
 bounded-done s place r n p d h e = subst (Bounded s place) e h
 
 -- m is the code when the statement's own code is written
-pub reads-writes : (t : List Entry) (v : List ℕ) (k : ℕ) (s : List ℕ) (P : Parsed (List ℕ) Line) (place : ℕ) (b m a : List ℕ) (r : Got) → 2 * (place + 2 * length s) ≤ length m → take (2 * place) m ≡ take (2 * place) b
+pub reads-writes : (t : List Entry) (v : List ℕ) (k : ℕ) (s : List ℕ) (P : Parsed (List ℕ) Line) (place : ℕ) (b m a : List ℕ) (r : Got)
+    → 2 * (place + 2 * length s) ≤ length m → take (2 * place) m ≡ take (2 * place) b
     → Bounded s place r → Reads (codeLine t v k) (rankLine t v) s P place 0 m a r → Writes t v k s P place b a r
 unfolding Writes Reads
 reads-writes t v k s broken place b m a r room same w h = h

@@ -35,19 +35,23 @@ module _ (x : Role) (i : ℕ) (M : List ℤ) (W : List ℕ) (b : List ℤ) (r : 
 
   -- ---- where it leads
 
-  pub makes-read : (c : ℕ) (y : ℤ) (W′ : List ℕ) (a′ : List ℤ) (d : ℕ) (t′ : Point) → r .done ≡ Read c → Reads x i M W c W′ y → Pushed b (r .depth) y a′ d → t′ ≡ unstopped d (r .place) i → Makes x i M W b r (scene M W′ a′ t′)
+  pub makes-read : (c : ℕ) (y : ℤ) (W′ : List ℕ) (a′ : List ℤ) (d : ℕ) (t′ : Point) → r .done ≡ Read c → Reads x i M W c W′ y
+      → Pushed b (r .depth) y a′ d → t′ ≡ unstopped d (r .place) i → Makes x i M W b r (scene M W′ a′ t′)
   unfolding moved Fitting
   makes-read c y W′ a′ d t′ q g u f = record { fits = rw q tt; after = rw (q, f, g .words, u .array, u .deeper, g .value) }
 
-  pub makes-write : (c : ℕ) (y : ℤ) (M′ : List ℤ) (W′ : List ℕ) (t′ : Point) → r .done ≡ Write c y → SFits w32 y → Writes x i M W c y M′ W′ → t′ ≡ unstopped (r .depth) (r .place) i → Makes x i M W b r (scene M′ W′ b t′)
+  pub makes-write : (c : ℕ) (y : ℤ) (M′ : List ℤ) (W′ : List ℕ) (t′ : Point) → r .done ≡ Write c y → SFits w32 y → Writes x i M W c y M′ W′
+      → t′ ≡ unstopped (r .depth) (r .place) i → Makes x i M W b r (scene M′ W′ b t′)
   unfolding moved Fitting
   makes-write c y M′ W′ t′ q s g f = record { fits = rw q s; after = rw (q, f, g .cells, g .words) }
 
-  pub makes-update : (c : ℕ) (y : ℤ) (M′ : List ℤ) (W′ : List ℕ) (t′ : Point) → r .done ≡ Update c y → SFits w32 y → Updates x i M W c y M′ W′ → t′ ≡ unstopped (r .depth) (r .place) i → Makes x i M W b r (scene M′ W′ b t′)
+  pub makes-update : (c : ℕ) (y : ℤ) (M′ : List ℤ) (W′ : List ℕ) (t′ : Point) → r .done ≡ Update c y → SFits w32 y → Updates x i M W c y M′ W′
+      → t′ ≡ unstopped (r .depth) (r .place) i → Makes x i M W b r (scene M′ W′ b t′)
   unfolding moved Fitting
   makes-update c y M′ W′ t′ q s g f = record { fits = rw q s; after = rw (q, f, g .cells, g .words) }
 
-  pub makes-fault : (n k : ℕ) → r .done ≡ Fault n k → Makes x i M W b r (scene M W b (record { depth = r .depth; place = r .place; iteration = record { 0 = i }; fault = n; line = k }))
+  pub makes-fault : (n k : ℕ) → r .done ≡ Fault n k
+      → Makes x i M W b r (scene M W b (record { depth = r .depth; place = r .place; iteration = record { 0 = i }; fault = n; line = k }))
   unfolding moved Fitting
   makes-fault n k q = record { fits = rw q tt; after = rw q }
 

@@ -55,20 +55,23 @@ module _ (x : Role) (code : List ℕ) (z z′ : Scene) (g : Goes x code z z′) 
   -- a fault has a number other than 0
   pub fault-some : (k t : ℕ) → g .reached .done ≡ Fault k t → 0 < k
   unfolding left
-  fault-some k t e = resume-fault (instructions code) (z .point .place) (pendings (z .pending) (z .point .depth)) (variable x z) k t (rw e at (g .comes .meaning))
+  fault-some k t e = resume-fault (instructions code) (z .point .place) (pendings (z .pending) (z .point .depth)) (variable x z) k t
+      (rw e at (g .comes .meaning))
 
   pub goes-nearer : (e : ℕ) → z .point .fault ≡ 0 → at z < e → togo n e (z′ .point) < togo n e (z .point)
   unfolding moved
   goes-nearer e f b = by (g .reached .done) refl (g .makes .after)
     where
       -- past an access the machine stands further on
-      access : (m : Move) → g .reached .done ≡ m → 1 ≤ accesses m → z′ .point .fault ≡ 0 → at z′ ≡ at z → z′ .point .place ≡ g .reached .place → togo n e (z′ .point) < togo n e (z .point)
+      access : (m : Move) → g .reached .done ≡ m → 1 ≤ accesses m → z′ .point .fault ≡ 0 → at z′ ≡ at z → z′ .point .place ≡ g .reached .place
+          → togo n e (z′ .point) < togo n e (z .point)
       access m q y h i p =
           let u : z .point .place + accesses m ≤ g .reached .place = rw q at (g .comes .forward) in
           let v : accesses m ≤ n - z .point .place = rw q at (g .comes .inside) in
           nearer-on n e (z .point) (z′ .point) f h i (omega arith) (omega arith)
 
-      by : (m : Move) → g .reached .done ≡ m → z′ ≡ moved x (at z) (z .cells) (z .words) (g .pending) (g .reached .place) (g .reached .depth) m → togo n e (z′ .point) < togo n e (z .point)
+      by : (m : Move) → g .reached .done ≡ m → z′ ≡ moved x (at z) (z .cells) (z .words) (g .pending) (g .reached .place) (g .reached .depth) m
+          → togo n e (z′ .point) < togo n e (z .point)
       by (Read c) q h = access (Read c) q (omega arith) (ap (λ (u : Scene). u .point .fault) h) (ap at h) (ap (λ (u : Scene). u .point .place) h)
       by (Write c v) q h = access (Write c v) q (omega arith) (ap (λ (u : Scene). u .point .fault) h) (ap at h) (ap (λ (u : Scene). u .point .place) h)
       by (Update c v) q h = access (Update c v) q (omega arith) (ap (λ (u : Scene). u .point .fault) h) (ap at h) (ap (λ (u : Scene). u .point .place) h)

@@ -24,7 +24,7 @@ fn seen(
     match manner {
         Manner::InPlace => cells[cell],
         Manner::ByClass => {
-            if tables::class_of(w, row) == tables::SHARED {
+            if tables::class_of(w, row) == rules::SHARED {
                 return cells[cell];
             }
             noting::own_value(w, row, own, group)
@@ -57,7 +57,7 @@ fn store(manner: Manner, cells: &mut [i32], class: u32, cell: usize, value: i32)
             cells[cell] = value;
         }
         Manner::ByClass => {
-            if class == tables::SHARED {
+            if class == rules::SHARED {
                 cells[cell] = value;
             }
         }

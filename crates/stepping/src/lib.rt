@@ -120,7 +120,8 @@ fn go_on(
     t: Point,
 ) -> Point
     requires { ⌜ CanGo role (now code) (scene (now cells) (now w) (now pending) t) ⌝ }
-    ensures { λ r. ⌜ Goes role (now (code .entry)) (scene (now (cells .entry)) (now (w .entry)) (now (pending .entry)) t) (scene (now (cells .exit)) (now (w .exit)) (now (pending .exit)) r) ⌝ }
+    ensures { λ r. ⌜ Goes role (now (code .entry)) (scene (now (cells .entry)) (now (w .entry)) (now (pending .entry)) t)
+        (scene (now (cells .exit)) (now (w .exit)) (now (pending .exit)) r) ⌝ }
 {
     let i = t.iteration;
     let v = value_at(role.from, i);
@@ -150,7 +151,8 @@ pub fn carry_on(
     extent: Extent,
 ) -> Point
     requires { ⌜ CanCarry role (now code) (scene (now cells) (now w) (now pending) from) ⌝ }
-    ensures { λ r. ⌜ Carries extent role (now (code .entry)) (scene (now (cells .entry)) (now (w .entry)) (now (pending .entry)) from) (scene (now (cells .exit)) (now (w .exit)) (now (pending .exit)) r) ⌝ }
+    ensures { λ r. ⌜ Carries extent role (now (code .entry)) (scene (now (cells .entry)) (now (w .entry)) (now (pending .entry)) from)
+        (scene (now (cells .exit)) (now (w .exit)) (now (pending .exit)) r) ⌝ }
 {
     let end = role.end;
     let mut t = from;

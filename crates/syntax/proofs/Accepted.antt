@@ -13,8 +13,8 @@ use Rattle.syntax.specs.Grammar.{Line, declare, give, direct, loop, insi
 use Rattle.syntax.specs.Reader.{parse}
 use Rattle.syntax.specs.Known.{State, nothing, after, Open, otherwise-after, end-if-after}
 use Rattle.syntax.specs.Conditions.{names, limits, stands, finished, stageOf}
-use Rattle.syntax.specs.Text.{Verdict, refused, good, judged, judge-line, is-last, go-on, judge, read}
-use Rattle.syntax.specs.Follows.{Program, spoken, written, InOrder, Follows, learnt}
+use Rattle.syntax.specs.Text.{Verdict, refused, good, judged, judge-line, is-last, then-judge, judge, read}
+use Rattle.syntax.specs.Follows.{Program, spoken, shown, InOrder, Follows, learnt}
 use Rattle.syntax.proofs.TestLaws.{both-hold}
 use Rattle.syntax.proofs.Spelling.{both-true}
 use Rattle.syntax.proofs.Sound.{parse-sound}
@@ -50,11 +50,11 @@ at-end false d h e = let z : _≡_ {A = ℕ} 0 1 = cc in absurd (omega arith)
 
 -- ---- the stage after a line is the line's
 
-stage-after : (k : ℕ) (l : Line) (s : State) → after k l s .stage ≡ stageOf l
+pub stage-after : (k : ℕ) (l : Line) (s : State) → after k l s .stage ≡ stageOf l
 unfolding after
 stage-after k (declare d ds) s = refl
 stage-after k (give x i is) s = refl
-stage-after k (direct a p b) s = refl
+stage-after k (direct cs) s = refl
 stage-after k (loop v l m j n) s = refl
 stage-after k (inside (assign r e)) s = refl
 stage-after k (inside (when a r b)) s = refl
@@ -76,9 +76,11 @@ stage-after k close s = refl
 -- line k is skipped, or stands for l: then it is in order, and at the end of the text finishes it
 data Good (k : ℕ) (last : Bool) (s : State) (b : List ℕ) (t : State) : Type 0 where
   skips : skipped-line b ≡ true → s ≡ t → (last ≡ true → finished (t .stage) ≡ true) → Good k last s b t
-  speaks : (l : Line) → skipped-line b ≡ false → tokens b ≡ showLine l → stands s l ≡ true → names s l ≡ true → limits s l ≡ true → after k l s ≡ t → (last ≡ true → finished (t .stage) ≡ true) → Good k last s b t
+  speaks : (l : Line) → skipped-line b ≡ false → tokens b ≡ showLine l → stands s l ≡ true → names s l ≡ true → limits s l ≡ true → after k l s ≡ t
+      → (last ≡ true → finished (t .stage) ≡ true) → Good k last s b t
 
-judged-good : (k : ℕ) (last : Bool) (s : State) (b : List ℕ) (t : State) → skipped-line b ≡ false → (o : Option Line) → parse (tokens b) ≡ o → judged k last s o ≡ good t → Good k last s b t
+judged-good : (k : ℕ) (last : Bool) (s : State) (b : List ℕ) (t : State) → skipped-line b ≡ false → (o : Option Line) → parse (tokens b) ≡ o
+    → judged k last s o ≡ good t → Good k last s b t
 unfolding judged
 judged-good k last s b t n none p h = absurd (not-good h)
 judged-good k last s b t n (some l) p h =
@@ -87,7 +89,8 @@ judged-good k last s b t n (some l) p h =
     let (u, h2) = met (names s l) 3 k _ h1 in
     let (v, h3) = met (limits s l) 4 k _ h2 in
     let e = same-good h3 in
-    speaks l n (parse-sound (tokens b) l p) y u v e (λ q. subst (λ (w : ℕ). finished w ≡ true) (sym (stage-after k l s) ∙ ap (λ (r : State). r .stage) e) (at-end last (finished (stageOf l)) z q))
+    speaks l n (parse-sound (tokens b) l p) y u v e
+    (λ q. subst (λ (w : ℕ). finished w ≡ true) (sym (stage-after k l s) ∙ ap (λ (r : State). r .stage) e) (at-end last (finished (stageOf l)) z q))
 
 line-good : (k : ℕ) (last : Bool) (s : State) (b : List ℕ) (t : State) → judge-line k last s b ≡ good t → (sound-line b ≡ true) × Good k last s b t
 unfolding judge-line
@@ -95,12 +98,15 @@ line-good k last s b t h =
     let (x, h1) = met (sound-line b) 2 k _ h in
     (x, go (skipped-line b) refl h1)
   where
-    go : (c : Bool) → skipped-line b ≡ c → choose c (λ _. cond (last && not (finished (s .stage))) (refused 2 k) (good s)) (λ _. judged k last s (parse (tokens b))) ≡ good t → Good k last s b t
+    go : (c : Bool) → skipped-line b ≡ c
+        → choose c (λ _. cond (last && not (finished (s .stage))) (refused 2 k) (good s)) (λ _. judged k last s (parse (tokens b))) ≡ good t
+        → Good k last s b t
     go true e h = skipped (last && not (finished (s .stage))) refl h
       where
         skipped : (c : Bool) → last && not (finished (s .stage)) ≡ c → cond c (refused 2 k) (good s) ≡ good t → Good k last s b t
         skipped true p q = absurd (not-good q)
-        skipped false p q = let i = same-good q in skips e i (λ r. subst (λ (w : State). finished (w .stage) ≡ true) i (at-end last (finished (s .stage)) p r))
+        skipped false p q =
+            let i = same-good q in skips e i (λ r. subst (λ (w : State). finished (w .stage) ≡ true) i (at-end last (finished (s .stage)) p r))
     go false e h = judged-good k last s b t e (parse (tokens b)) refl h
 
 -- ---- sound
@@ -109,11 +115,12 @@ line-good k last s b t h =
 record Says (k : ℕ) (s : State) (ls : List (List ℕ)) (t : State) : Type 0 where
   program : Program
   sound : all sound-line ls ≡ true
-  spelled : spoken k ls ≡ map written program
+  spelled : spoken k ls ≡ map shown program
   ordered : InOrder s program
   known : learnt s program ≡ t
 
-judge-sound : (k : ℕ) (s : State) (ls : List (List ℕ)) (t : State) → (is-last ls ≡ true → finished (s .stage) ≡ true) → judge k s ls ≡ good t → Says k s ls t
+judge-sound : (k : ℕ) (s : State) (ls : List (List ℕ)) (t : State) → (is-last ls ≡ true → finished (s .stage) ≡ true) → judge k s ls ≡ good t
+    → Says k s ls t
 unfolding judge spoken learnt
 judge-sound k s [] t f h = record { program = []; sound = refl; spelled = refl; ordered = f refl; known = same-good h }
 judge-sound k s (b ∷ ls) t f h = go (λ u. judge-sound (suc k) u ls t) (judge-line k (is-last ls) s b) refl h
@@ -139,7 +146,7 @@ judge-sound k s (b ∷ ls) t f h = go (λ u. judge-sound (suc k) u ls t) (judge-
     done u (speaks l e i y n m j q) = q
 
     go : ((u : State) → (is-last ls ≡ true → finished (u .stage) ≡ true) → judge (suc k) u ls ≡ good t → Says (suc k) u ls t)
-        → (v : Verdict) → judge-line k (is-last ls) s b ≡ v → go-on v (λ u. judge (suc k) u ls) ≡ good t → Says k s (b ∷ ls) t
+        → (v : Verdict) → judge-line k (is-last ls) s b ≡ v → then-judge v (λ u. judge (suc k) u ls) ≡ good t → Says k s (b ∷ ls) t
     go ih (refused n j) e q = absurd (not-good q)
     go ih (good u) e q = let r = line-good k (is-last ls) s b u e in more u r (ih u (done u (r .1)) q)
 
@@ -155,21 +162,30 @@ unfinished {last} {done} f = go last done f
     go true d f = ap not (f refl)
     go false d f = refl
 
-judged-it : (k : ℕ) (last : Bool) (s : State) (l : Line) → stands s l ≡ true → names s l ≡ true → limits s l ≡ true → (last ≡ true → finished (stageOf l) ≡ true) → judged k last s (some l) ≡ good (after k l s)
+judged-it : (k : ℕ) (last : Bool) (s : State) (l : Line) → stands s l ≡ true → names s l ≡ true → limits s l ≡ true
+    → (last ≡ true → finished (stageOf l) ≡ true) → judged k last s (some l) ≡ good (after k l s)
 unfolding judged
-judged-it k last s l y n m f = ap (λ (c : Bool). choose c (λ _. refused 2 k) (λ _. choose (not (names s l)) (λ _. refused 3 k) (λ _. choose (not (limits s l)) (λ _. refused 4 k) (λ _. good (after k l s)))))
+judged-it k last s l y n m f =
+    ap (λ (c : Bool). choose c (λ _. refused 2 k)
+    (λ _. choose (not (names s l)) (λ _. refused 3 k) (λ _. choose (not (limits s l)) (λ _. refused 4 k) (λ _. good (after k l s)))))
     (ap (λ (c : Bool). not c || (last && not (finished (stageOf l)))) y ∙ unfinished f)
     ∙ goes 3 k _ n (goes 4 k _ m refl)
 
-line-skips : (k : ℕ) (last : Bool) (s : State) (b : List ℕ) → sound-line b ≡ true → skipped-line b ≡ true → (last ≡ true → finished (s .stage) ≡ true) → judge-line k last s b ≡ good s
+line-skips : (k : ℕ) (last : Bool) (s : State) (b : List ℕ) → sound-line b ≡ true → skipped-line b ≡ true → (last ≡ true → finished (s .stage) ≡ true)
+    → judge-line k last s b ≡ good s
 unfolding judge-line
-line-skips k last s b x e f = goes 2 k _ x (ap (λ (c : Bool). choose c (λ _. cond (last && not (finished (s .stage))) (refused 2 k) (good s)) (λ _. judged k last s (parse (tokens b)))) e
+line-skips k last s b x e f =
+    goes 2 k _ x (ap (λ (c : Bool). choose c (λ _. cond (last && not (finished (s .stage))) (refused 2 k) (good s))
+    (λ _. judged k last s (parse (tokens b)))) e
     ∙ ap (λ (c : Bool). cond c (refused 2 k) (good s)) (unfinished f))
 
-line-speaks : (k : ℕ) (last : Bool) (s : State) (b : List ℕ) (l : Line) → sound-line b ≡ true → skipped-line b ≡ false → tokens b ≡ showLine l → stands s l ≡ true → names s l ≡ true → limits s l ≡ true
+line-speaks : (k : ℕ) (last : Bool) (s : State) (b : List ℕ) (l : Line) → sound-line b ≡ true → skipped-line b ≡ false → tokens b ≡ showLine l
+    → stands s l ≡ true → names s l ≡ true → limits s l ≡ true
     → (last ≡ true → finished (stageOf l) ≡ true) → judge-line k last s b ≡ good (after k l s)
 unfolding judge-line
-line-speaks k last s b l x e i y n m f = goes 2 k _ x (ap (λ (c : Bool). choose c (λ _. cond (last && not (finished (s .stage))) (refused 2 k) (good s)) (λ _. judged k last s (parse (tokens b)))) e
+line-speaks k last s b l x e i y n m f =
+    goes 2 k _ x (ap (λ (c : Bool). choose c (λ _. cond (last && not (finished (s .stage))) (refused 2 k) (good s))
+    (λ _. judged k last s (parse (tokens b)))) e
     ∙ ap (judged k last s) (ap parse i ∙ parse-complete l) ∙ judged-it k last s l y n m f)
 
 heads : {x y : ℕ × List Token} {xs ys : List (ℕ × List Token)} → x ∷ xs ≡ y ∷ ys → x ≡ y
@@ -179,7 +195,7 @@ tails : {x y : ℕ × List Token} {xs ys : List (ℕ × List Token)} → x ∷ x
 tails {x} {y} {xs} {ys} h = cc
 
 -- the program of no lines
-none-left : (p : Program) → [] ≡ map written p → p ≡ []
+none-left : (p : Program) → [] ≡ map shown p → p ≡ []
 none-left [] h = refl
 none-left (q ∷ p) h = let z : _≡_ {A = ℕ} 0 1 = cc in absurd (omega arith)
 
@@ -188,38 +204,47 @@ ends [] h = refl
 ends (l ∷ ls) h = let z : _≡_ {A = ℕ} 0 1 = cc in absurd (omega arith)
 
 -- at the last line the program ends
-finishes : (k : ℕ) (ls : List (List ℕ)) (s : State) (p : Program) → spoken k ls ≡ map written p → InOrder s p → is-last ls ≡ true → finished (s .stage) ≡ true
+finishes : (k : ℕ) (ls : List (List ℕ)) (s : State) (p : Program) → spoken k ls ≡ map shown p → InOrder s p → is-last ls ≡ true
+    → finished (s .stage) ≡ true
 unfolding spoken
 finishes k ls s p h o e =
     let i : p ≡ [] = none-left p (ap (spoken k) (sym (ends ls e)) ∙ h) in
     subst (InOrder s) i o
 
-judge-complete : (k : ℕ) (s : State) (ls : List (List ℕ)) (p : Program) → all sound-line ls ≡ true → spoken k ls ≡ map written p → InOrder s p → judge k s ls ≡ good (learnt s p)
+judge-complete : (k : ℕ) (s : State) (ls : List (List ℕ)) (p : Program) → all sound-line ls ≡ true → spoken k ls ≡ map shown p → InOrder s p
+    → judge k s ls ≡ good (learnt s p)
 unfolding judge spoken learnt
 judge-complete k s [] p x h o = ap (λ (q : Program). good (learnt s q)) (sym (none-left p h))
-judge-complete k s (b ∷ ls) p x h o = go (skipped-line b) refl p h o (λ u q. judge-complete (suc k) u ls q (both-true (sound-line b) (all sound-line ls) x .1))
+judge-complete k s (b ∷ ls) p x h o =
+    go (skipped-line b) refl p h o (λ u q. judge-complete (suc k) u ls q (both-true (sound-line b) (all sound-line ls) x .1))
   where
-    speak : (p : Program) → skipped-line b ≡ false → (k, tokens b) ∷ spoken (suc k) ls ≡ map written p → InOrder s p
-        → ((u : State) (q : Program) → spoken (suc k) ls ≡ map written q → InOrder u q → judge (suc k) u ls ≡ good (learnt u q)) → judge k s (b ∷ ls) ≡ good (learnt s p)
+    speak : (p : Program) → skipped-line b ≡ false → (k, tokens b) ∷ spoken (suc k) ls ≡ map shown p → InOrder s p
+        → ((u : State) (q : Program) → spoken (suc k) ls ≡ map shown q → InOrder u q → judge (suc k) u ls ≡ good (learnt u q))
+        → judge k s (b ∷ ls) ≡ good (learnt s p)
     speak [] e h o ih = let z : _≡_ {A = ℕ} 0 1 = cc in absurd (omega arith)
     speak ((j, l) ∷ q) e h o ih =
         let i : tokens b ≡ showLine l = ap (λ (r : ℕ × List Token). r .1) (heads h) in
         let n : k ≡ j = ap (λ (r : ℕ × List Token). r .0) (heads h) in
-        let r : spoken (suc k) ls ≡ map written q = tails h in
+        let r : spoken (suc k) ls ≡ map shown q = tails h in
         let o′ = subst (λ (m : ℕ). InOrder (after m l s) q) (sym n) (o .3) in
-        ap (λ (v : Verdict). go-on v (λ u. judge (suc k) u ls))
-        (line-speaks k (is-last ls) s b l (both-true (sound-line b) (all sound-line ls) x .0) e i (o .0) (o .1) (o .2) (λ z. subst (λ (w : ℕ). finished w ≡ true) (stage-after k l s) (finishes (suc k) ls (after k l s) q r o′ z)))
+        ap (λ (v : Verdict). then-judge v (λ u. judge (suc k) u ls))
+        (line-speaks k (is-last ls) s b l (both-true (sound-line b) (all sound-line ls) x .0) e i (o .0) (o .1) (o .2)
+        (λ z. subst (λ (w : ℕ). finished w ≡ true) (stage-after k l s) (finishes (suc k) ls (after k l s) q r o′ z)))
         ∙ ih (after k l s) q r o′
         ∙ ap (λ (m : ℕ). good (learnt (after m l s) q)) n
 
-    go : (c : Bool) → skipped-line b ≡ c → (p : Program) → cond c (spoken (suc k) ls) ((k, tokens b) ∷ spoken (suc k) ls) ≡ map written p → InOrder s p
-        → ((u : State) (q : Program) → spoken (suc k) ls ≡ map written q → InOrder u q → judge (suc k) u ls ≡ good (learnt u q)) → judge k s (b ∷ ls) ≡ good (learnt s p)
-    go true e p h o ih = ap (λ (v : Verdict). go-on v (λ u. judge (suc k) u ls)) (line-skips k (is-last ls) s b (both-true (sound-line b) (all sound-line ls) x .0) e (finishes (suc k) ls s p h o)) ∙ ih s p h o
+    go : (c : Bool) → skipped-line b ≡ c → (p : Program) → cond c (spoken (suc k) ls) ((k, tokens b) ∷ spoken (suc k) ls) ≡ map shown p
+        → InOrder s p
+        → ((u : State) (q : Program) → spoken (suc k) ls ≡ map shown q → InOrder u q → judge (suc k) u ls ≡ good (learnt u q))
+        → judge k s (b ∷ ls) ≡ good (learnt s p)
+    go true e p h o ih =
+        ap (λ (v : Verdict). then-judge v (λ u. judge (suc k) u ls))
+        (line-skips k (is-last ls) s b (both-true (sound-line b) (all sound-line ls) x .0) e (finishes (suc k) ls s p h o)) ∙ ih s p h o
     go false e p h o ih = speak p e h o ih
 
 -- ---- the whole text
 
-some-lines : (s : List ℕ) → is-last (lines s) ≡ false
+pub some-lines : (s : List ℕ) → is-last (lines s) ≡ false
 unfolding lines
 some-lines [] = refl
 some-lines (b ∷ s) = go (eqb b 10) (lines s)
@@ -229,26 +254,30 @@ some-lines (b ∷ s) = go (eqb b 10) (lines s)
     go false [] = refl
     go false (l ∷ ls) = refl
 
+not-none : (s : List ℕ) → is-last (lines s) ≡ true → ⊥
+not-none s e = let f = some-lines s in let z : _≡_ {A = ℕ} 0 1 = cc in omega arith
+
 pub read-sound : (text : List ℕ) (s : State) → read text ≡ good s → (p : Program) × Follows text p × (learnt nothing p ≡ s)
 unfolding read
 read-sound text s h =
     let (x, h1) = passed (ltb 2048 (length text)) 1 0 _ h in
-    let r = judge-sound 1 nothing (lines (map lower text)) s (λ e. let f = some-lines (map lower text) in let z : _≡_ {A = ℕ} 0 1 = cc in absurd (omega arith)) h1 in
+    let r = judge-sound 1 nothing (lines (map lower text)) s (λ e. absurd (not-none (map lower text) e)) h1 in
     (r .program, record { short = ltb-false 2048 (length text) x; sound = r .sound; spelled = r .spelled; ordered = r .ordered }, r .known)
 
 pub read-complete : (text : List ℕ) (p : Program) → Follows text p → read text ≡ good (learnt nothing p)
 unfolding read
-read-complete text p f = ap (λ (c : Bool). choose c (λ _. refused 1 0) (λ _. judge 1 nothing (lines (map lower text)))) (le-ltb 2048 (length text) (f .short))
+read-complete text p f =
+    ap (λ (c : Bool). choose c (λ _. refused 1 0) (λ _. judge 1 nothing (lines (map lower text)))) (le-ltb 2048 (length text) (f .short))
     ∙ judge-complete 1 nothing (lines (map lower text)) p (f .sound) (f .spelled) (f .ordered)
 
-same-written : (p q : Program) → map written p ≡ map written q → p ≡ q
+same-written : (p q : Program) → map shown p ≡ map shown q → p ≡ q
 same-written [] [] h = refl
 same-written [] (y ∷ q) h = let z : _≡_ {A = ℕ} 0 1 = cc in absurd (omega arith)
 same-written (x ∷ p) [] h = let z : _≡_ {A = ℕ} 0 1 = cc in absurd (omega arith)
 same-written ((j, l) ∷ p) ((k, m) ∷ q) h =
     let a : j ≡ k = ap (λ (r : ℕ × List Token). r .0) (heads h) in
     let b : showLine l ≡ showLine m = ap (λ (r : ℕ × List Token). r .1) (heads h) in
-    let c : map written p ≡ map written q = tails h in
+    let c : map shown p ≡ map shown q = tails h in
     let d : some l ≡ some m = sym (parse-complete l) ∙ ap parse b ∙ parse-complete m in
     let e : l ≡ m = cc in
     cc (same-written p q c)

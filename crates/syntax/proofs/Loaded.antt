@@ -9,8 +9,8 @@ use mir.Syntax.{w32}
 use mir.Val.{SFits}
 use Rattle.syntax.specs.Known.{Entry, cells}
 use Rattle.syntax.specs.Text.{initial, loaded}
-use Rattle.syntax.proofs.TestLaws.{Each, each-append, each-replicate}
-use Rattle.syntax.proofs.Table.{Data, SaneEntry, SaneTable}
+use Rattle.syntax.specs.Sane.{Each, Data, SaneEntry, SaneTable}
+use Rattle.syntax.proofs.TestLaws.{each-append, each-replicate}
 
 pub initial-length : (e : Entry) (g : Option (List ℤ)) → Data (e .size) g → length (initial e g) ≡ e .size
 initial-length e none h = length-replicate (e .size) (pos 0)
@@ -25,8 +25,10 @@ unfolding loaded
 loaded-each [] h = (refl, tt)
 loaded-each (e ∷ es) h =
     let (n, f) = loaded-each es (h .1) in
-    let g = h .0 .given in
-    (omega (arith, length-append (initial e (e .given)) (loaded es), initial-length e (e .given) g), each-append (SFits w32) (initial e (e .given)) (loaded es) (initial-fits e (e .given) g) f)
+    let g = h .0 .given in (
+      omega (arith, length-append (initial e (e .given)) (loaded es), initial-length e (e .given) g),
+      each-append (SFits w32) (initial e (e .given)) (loaded es) (initial-fits e (e .given) g) f,
+    )
 
 pub loaded-length : (t : List Entry) → SaneTable t → length (loaded t) ≡ cells t
 loaded-length t h = loaded-each t (h .sized) .0

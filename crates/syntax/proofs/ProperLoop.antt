@@ -20,10 +20,11 @@ use Rattle.syntax.specs.Known.{Entry, find, cells, State, Stmts, stop, s
 use Rattle.syntax.specs.Conditions.{refName, finished}
 use Rattle.syntax.specs.Text.{read as accepts, good}
 use Rattle.syntax.specs.Meaning.{is-reduction, same-ref, summand, is-update, remainder, led, located, divides, isVariable, eval, evalTerms, evalTerm, evalFactors, evalFactor, place, assigned, exec, class-of, loopOf, partitionOf}
+use Rattle.syntax.specs.Sane.{SaneEntry, SaneTable, Sane}
 use Rattle.syntax.proofs.Spelling.{both-true}
 use Rattle.syntax.proofs.TestLaws.{choose-each, each-weaken}
-use Rattle.syntax.proofs.Sane.{Sane, accepted-sane, accepted-finished}
-use Rattle.syntax.proofs.Table.{SaneEntry, SaneTable, find-each, find-ends, find-first, class-of-found}
+use Rattle.syntax.proofs.Sane.{accepted-sane, accepted-finished}
+use Rattle.syntax.proofs.Table.{find-each, find-ends, find-first, class-of-found}
 use Rattle.int32.specs.Integers as integers
 
 -- "An update is an assignment to a cell of a reduction name"
@@ -68,7 +69,8 @@ record Kept (t : List Entry) (P : Act → Type 0) : Type 0 where
   faults : (n line : ℕ) → P (fault n line)
 
 module _ (t : List Entry) (v : List ℕ) (x : ℤ) (h : SaneTable t) (filled : 0 < cells t) (P : Act → Type 0) (keep : Kept t P) where
-  located-kept : (line : ℕ) (y : List ℕ) (i : ℤ) (k : ℕ → Act) → ((c : ℕ) → Meant t y c → P (k c)) → P (located line (find y t .first) (find y t .size) i k)
+  located-kept : (line : ℕ) (y : List ℕ) (i : ℤ) (k : ℕ → Act) → ((c : ℕ) → Meant t y c → P (k c))
+      → P (located line (find y t .first) (find y t .size) i k)
   unfolding located
   located-kept line y (pos n) k q = choose-each P (leb 1 n && leb n (find y t .size)) _ _ (λ e.
       let (a, b) = both-true (leb 1 n) (leb n (find y t .size)) e in
@@ -100,7 +102,8 @@ module _ (t : List Entry) (v : List ℕ) (x : ℤ) (h : SaneTable t) (filled : 0
 
     evalFactor-kept : (line : ℕ) (f : Factor) (k : ℤ → Act) → ((y : ℤ) → P (k y)) → P (evalFactor t v x line f k)
     evalFactor-kept line (literal d) k q = q _
-    evalFactor-kept line (cell r) k q = choose-each P (isVariable t v x r) _ _ (λ _. q x) (λ _. place-kept line r _ (λ c m. keep .reads c k (m .below) q))
+    evalFactor-kept line (cell r) k q =
+        choose-each P (isVariable t v x r) _ _ (λ _. q x) (λ _. place-kept line r _ (λ c m. keep .reads c k (m .below) q))
     evalFactor-kept line (rdiv a b) k q = eval-kept line a _ (λ y. eval-kept line b _ (λ z. divides-kept line _ y z k q))
     evalFactor-kept line (brackets e) k q = eval-kept line e k q
 
@@ -123,7 +126,8 @@ module _ (t : List Entry) (v : List ℕ) (x : ℤ) (h : SaneTable t) (filled : 0
   exec-kept stop after q = q
   exec-kept (set line r e rest) after q = assigned-kept line r e _ (exec-kept rest after q)
   exec-kept (if-then line a rel b f rest) after q = branch-kept line a b rel _ _ (exec-kept f _ (exec-kept rest after q)) (exec-kept rest after q)
-  exec-kept (if-else line a rel b f g rest) after q = branch-kept line a b rel _ _ (exec-kept f _ (exec-kept rest after q)) (exec-kept g _ (exec-kept rest after q))
+  exec-kept (if-else line a rel b f g rest) after q =
+      branch-kept line a b rel _ _ (exec-kept f _ (exec-kept rest after q)) (exec-kept g _ (exec-kept rest after q))
 
 -- ---- the two properties
 

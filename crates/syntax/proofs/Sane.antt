@@ -1,70 +1,26 @@
 -- What the lines of an accepted text have made known is sane: the invariant that each good line keeps.
 use mathlib.Core.Path.{_≡_, refl, subst}
-use mathlib.Core.Bool.{true, false, _&&_}
-use mathlib.Core.List.{List, [], _∷_, _++_}
-use mathlib.Core.Logic.{_⊎_, inl, inr}
-use Prim.Native.Nat.{ℕ, suc, _+_, _≤_, _<_}
+use mathlib.Core.Bool.{true, _&&_}
+use mathlib.Core.List.{List, [], _∷_}
+use Prim.Native.Nat.{ℕ, suc, _≤_, _<_}
 use native.Mathlib.Omega.{arith}
-use lib.Dec.{leb, eqb}
+use lib.Dec.{leb}
 use lib.ListN.{length, length-append}
-use lib.IntN.{pos, natAbs, _+ℤ_}
-use mir.Syntax.{w32}
-use mir.Val.{SFits}
 use borrow.Author.Tests.{leb-true, eqb-true, not-true}
-use Rattle.syntax.specs.Bytes.{all}
+use Rattle.syntax.specs.Bytes.{all, between}
 use Rattle.syntax.specs.Grammar.{number, Lead, Statement, assign, when, otherwise, end-if, Line, declare, give, direct, loop, inside, end-do, close}
-use Rattle.syntax.specs.Known.{Entry, known, cells, values, closed, turned, opened, Stmts, heading, signed, iterations, stop, set, Open, State, nothing, then-do, otherwise-after, end-if-after, stating, after}
-use Rattle.syntax.specs.Conditions.{digits, inLine, names, small, limits, several, may-miss, follows, fits, stands, finished, none-open}
+use Rattle.syntax.specs.Known.{Entry, cells, values, closed, turned, opened, Stmts, heading, signed, iterations, stop, set, Open, State, nothing, then-do, otherwise-after, end-if-after, stating, threads-in, processors-by, after}
+use Rattle.syntax.specs.Conditions.{digits, inLine, names, small, limits, stands, finished, none-open}
 use Rattle.syntax.specs.Text.{read, good}
 use Rattle.syntax.specs.Follows.{Program, InOrder, learnt}
+use Rattle.syntax.specs.Sane.{Each, SaneTable, SaneLine, SaneStmts, SaneOpen, Sane}
 use Rattle.syntax.proofs.Spelling.{both-true}
-use Rattle.syntax.proofs.TestLaws.{either-holds, Each}
-use Rattle.syntax.proofs.Table.{SaneTable, cells-filled}
+use Rattle.syntax.proofs.Order.{follows-order, follows-next, in-place}
+use Rattle.syntax.proofs.Table.{cells-filled}
 use Rattle.syntax.proofs.TableLines.{declare-sane, give-sane, give-cells, classify-sane, classify-cells}
 use Rattle.syntax.proofs.LoopValues.{signed-size, iteration-fits}
-use Rattle.syntax.proofs.Statements.{SaneLine, line-sane, SaneStmts, SaneOpen, then-do-sane, closed-sane, turned-sane}
-use Rattle.syntax.proofs.Theorem.{accepted-sound}
-
--- once `do` stood
-pub record SaneLoop (s : State) : Type 0 where
-  pub undeclared : known (s .variable) (s .table) ≡ false
-  pub few-iterations : s .count ≤ 65535
-  pub from-small : natAbs (s .from) ≤ 2147483647
-  pub values-fit : (i : ℕ) → i < s .count → SFits w32 (s .from +ℤ pos i)
-  pub statements : SaneStmts (s .table) (s .variable) (s .inner)
-  pub opens : Each (SaneOpen (s .table) (s .variable)) (s .opens)
-  pub few-opens : length (s .opens) ≤ 8
-
--- by the lines that stood: 1 `integer`, 3 the directive, 4 `do`, 6 `end do`
-pub record Sane (s : State) : Type 0 where
-  pub table : SaneTable (s .table)
-  pub some-cells : 1 ≤ s .stage → 0 < cells (s .table)
-  pub some-processors : 3 ≤ s .stage → 1 ≤ s .processors
-  pub few-processors : 3 ≤ s .stage → s .processors ≤ 8
-  pub loop : 4 ≤ s .stage → SaneLoop s
-  pub none-yet : s .stage < 4 → (s .opens ≡ []) × (s .inner ≡ stop)
-  pub none-open : 6 ≤ s .stage → s .opens ≡ []
-
--- ---- the lines before a line
-
--- the line before stands at most one before, or two where what stands between may miss
-follows-cases : (k n : ℕ) → follows k n ≡ true → (n ≤ suc k) ⊎ ((n ≡ k + 2) × (may-miss (k + 1) ≡ true))
-follows-cases k n h = elim (either-holds (eqb n (k + 1)) _ h) [
-  | inl a ↦ inl (omega (arith, eqb-true n (k + 1) a))
-  | inr b ↦ elim (either-holds (several k && eqb n k) _ b) [
-    | inl c ↦ inl (omega (arith, eqb-true n k (both-true (several k) (eqb n k) c .1)))
-    | inr d ↦ let (e, f) = both-true (may-miss (k + 1)) (eqb n (k + 2)) d in inr (eqb-true n (k + 2) f, e)
-  ]
-]
-
-follows-near : (k n : ℕ) → follows k n ≡ true → n ≤ suc (suc k)
-follows-near k n h = elim (follows-cases k n h) [ inl a ↦ omega arith | inr b ↦ omega (arith, b .0) ]
-
-follows-next : (k n : ℕ) → follows k (suc n) ≡ true → may-miss n ≡ false → n ≤ k
-follows-next k n h m = elim (follows-cases k (suc n) h) [
-  | inl a ↦ omega arith
-  | inr b ↦ let e : k + 1 ≡ n = omega (arith, b .0) in let f : may-miss n ≡ true = rw e at (b .1) in let z : _≡_ {A = ℕ} 0 1 = cc in absurd (omega arith)
-]
+use Rattle.syntax.proofs.Statements.{line-sane, then-do-sane, closed-sane, turned-sane}
+use Rattle.syntax.proofs.Accepted.{read-sound}
 
 -- ---- each line
 
@@ -104,11 +60,11 @@ stating-sane j s os b h k l x y n c =
 
 loop-sane : (s : State) (v : List ℕ) (l : Lead) (m : List ℕ) (k : Lead) (n : List ℕ) (j : ℕ) → stands s (loop v l m k n) ≡ true
     → names s (loop v l m k n) ≡ true → limits s (loop v l m k n) ≡ true → Sane s → Sane (after j (loop v l m k n) s)
-unfolding stands names limits inLine after
+unfolding names limits inLine after
 loop-sane s v l m k n j a b c h =
     let (p, q) = both-true (all small (digits m ∷ digits n ∷ [])) (leb (iterations (signed l (number m)) (signed k (number n))) 65535) c in
     let (x, y) = both-true (small (digits m)) (small (digits n) && true) p in
-    let o : 3 ≤ s .stage = follows-next (s .stage) 3 (both-true _ true a .0) refl in
+    let o : 3 ≤ s .stage = follows-next (s .stage) 3 (in-place (loop v l m k n) s a .0) refl in
     let x′ = leb-true (number m) 2147483647 x in
     let y′ = leb-true (number n) 2147483647 (both-true (small (digits n)) true y .0) in
     record {
@@ -146,7 +102,8 @@ module _ (k : ℕ) (s : State) (h : Sane s) (stood : 4 ≤ s .stage) where
   unfolding after limits
   statement-sane (assign r e) q l =
       let b = set k r e stop in
-      stated (s .opens) (then-do (s .inner) b) (then-do-sane _ _ (s .inner) b (h .loop stood .statements) (q, tt)) (h .loop stood .opens) (h .loop stood .few-opens)
+      stated (s .opens) (then-do (s .inner) b) (then-do-sane _ _ (s .inner) b (h .loop stood .statements) (q, tt)) (h .loop stood .opens)
+      (h .loop stood .few-opens)
   statement-sane (when a rel b) q l =
       stated (opened k a rel b (s .inner) ∷ s .opens) stop tt
       (record { condition = q; before = h .loop stood .statements; first = tt }, h .loop stood .opens)
@@ -162,26 +119,35 @@ none-open-nil (o ∷ os) h = let z : _≡_ {A = ℕ} 0 1 = cc in absurd (omega a
 ending-sane : (j : ℕ) (s : State) → Sane s → 4 ≤ s .stage → 4 ≤ j → s .opens ≡ [] → Sane (stating j s (s .opens) (s .inner))
 ending-sane j s h k l e = let q = h .loop k in stating-sane j s (s .opens) (s .inner) h k l (q .statements) (q .opens) (q .few-opens) (λ _. e)
 
+-- `num_threads` stands once, within its limits
+one-thread : (ps : List (List ℕ)) → length ps ≡ 1 → all (λ p. between 1 8 (number p)) ps ≡ true → (1 ≤ processors-by ps) × (processors-by ps ≤ 8)
+one-thread [] e h = absurd (omega arith)
+one-thread (p ∷ ps) e h =
+    let (u, v) = both-true (leb 1 (number p)) (leb (number p) 8) (both-true (between 1 8 (number p)) _ h .0) in (leb-true _ _ u, leb-true _ _ v)
+
 pub after-sane : (k : ℕ) (l : Line) (s : State) → stands s l ≡ true → names s l ≡ true → limits s l ≡ true → Sane s → Sane (after k l s)
-unfolding stands limits after
+unfolding limits after
 after-sane k (declare d ds) s a n l h =
     let t = declare-sane s d ds n l (h .table) in
     heading-sane 1 _ 0 (omega arith) t (cells-filled _ t (rw (length-append (s .table)) (omega arith))) (λ e. absurd (omega arith))
 after-sane k (give x i is) s a n l h =
-    let p : 1 ≤ s .stage = follows-next (s .stage) 1 (both-true _ (fits (s .opens) (give x i is)) a .0) refl in
+    let p : 1 ≤ s .stage = follows-next (s .stage) 1 (in-place (give x i is) s a .0) refl in
     heading-sane 2 _ 0 (omega arith) (give-sane s x i is n l (h .table)) (rw (give-cells x (values (i ∷ is)) (s .table)) (h .some-cells p))
     (λ e. absurd (omega arith))
-after-sane k (direct x p y) s a n l h =
-    let q = follows-near (s .stage) 3 (both-true _ true a .0) in
-    heading-sane 3 _ (number p) (omega arith) (classify-sane (x ++ y) (s .table) (h .table)) (rw (classify-cells (x ++ y) (s .table)) (h .some-cells (omega arith)))
-    (λ _. let (u, v) = both-true (leb 1 (number p)) (leb (number p) 8) (both-true (all small (inLine (direct x p y))) _ l .1) in (leb-true _ _ u, leb-true _ _ v))
+after-sane k (direct cs) s a n l h =
+    let (f, o) = in-place (direct cs) s a in
+    let q = follows-order (s .stage) 3 f .1 in
+    heading-sane 3 _ (processors-by (threads-in cs)) (omega arith) (classify-sane cs (s .table) (h .table))
+    (rw (classify-cells cs (s .table)) (h .some-cells (omega arith)))
+    (λ _. one-thread (threads-in cs) (eqb-true (length (threads-in cs)) 1 o) (both-true (all small (inLine (direct cs))) _ l .1))
 after-sane k (loop v l m j n) s a b c h = loop-sane s v l m j n k a b c h
-after-sane k (inside t) s a n l h = statement-sane k s h (follows-next (s .stage) 4 (both-true _ (fits (s .opens) (inside t)) a .0) refl) t (line-sane s t n l) l
+after-sane k (inside t) s a n l h =
+    statement-sane k s h (follows-next (s .stage) 4 (in-place (inside t) s a .0) refl) t (line-sane s t n l) l
 after-sane k (end-do j) s a n l h =
-    let (p, q) = both-true (follows (s .stage) 6) (none-open (s .opens)) a in
-    ending-sane 6 s h (omega (arith, follows-near (s .stage) 6 p)) (omega arith) (none-open-nil (s .opens) q)
+    let (p, q) = in-place (end-do j) s a in
+    ending-sane 6 s h (omega (arith, follows-order (s .stage) 6 p .1)) (omega arith) (none-open-nil (s .opens) q)
 after-sane k close s a n l h =
-    let p : 6 ≤ s .stage = follows-next (s .stage) 6 (both-true _ true a .0) refl in
+    let p : 6 ≤ s .stage = follows-next (s .stage) 6 (in-place close s a .0) refl in
     ending-sane 7 s h (omega arith) (omega arith) (h .none-open p)
 
 -- ---- whole texts
@@ -208,7 +174,7 @@ learnt-finished s [] o = o
 learnt-finished s ((k, l) ∷ p) o = learnt-finished (after k l s) p (o .3)
 
 pub accepted-sane : (text : List ℕ) (s : State) → read text ≡ good s → Sane s
-accepted-sane text s h = let (p, f, e) = accepted-sound text s h in subst Sane e (learnt-sane nothing p (f .ordered) nothing-sane)
+accepted-sane text s h = let (p, f, e) = read-sound text s h in subst Sane e (learnt-sane nothing p (f .ordered) nothing-sane)
 
 pub accepted-finished : (text : List ℕ) (s : State) → read text ≡ good s → finished (s .stage) ≡ true
-accepted-finished text s h = let (p, f, e) = accepted-sound text s h in subst (λ t. finished (t .stage) ≡ true) e (learnt-finished nothing p (f .ordered))
+accepted-finished text s h = let (p, f, e) = read-sound text s h in subst (λ t. finished (t .stage) ≡ true) e (learnt-finished nothing p (f .ordered))

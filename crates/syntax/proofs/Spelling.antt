@@ -1,4 +1,4 @@
--- The tokens from one place of a line to another, and what a reader that has read something has met. Laws: nothing here need be believed.
+-- Laws of the tokens from one place of a line to another (`Spells`), and what a reader that has read something has met.
 use mathlib.Core.Path.{_≡_, refl, sym, _∙_, ap, subst₂}
 use mathlib.Core.Logic.{_⊎_, inl, inr}
 use mathlib.Core.Bool.{Bool, true, false, cond, _&&_}
@@ -8,8 +8,9 @@ use Prim.Native.Nat.{ℕ, zero, suc}
 use Prim.Native.String.{String}
 use native.Mathlib.Omega.{arith}
 use lib.Dec.{T, eqb, eqb→eq}
-use Rattle.syntax.specs.Bytes.{choose, same, bytes, Token, name, word, digits, sign, word-of}
+use Rattle.syntax.specs.Bytes.{choose, same, bytes, Token, name, other-word, digits, sign, word-of}
 use Rattle.syntax.specs.Reader.{Parsed, broken, done, Reader, next, kind, text, is, expects, wants, readName, readDigits}
+use Rattle.syntax.specs.Spelled.{Spells, here, token}
 
 -- Parsed
 
@@ -21,7 +22,8 @@ pub same-done : {S A : Type 0} {a b : A} {s u : S} (Q : A → S → Type 0) → 
 same-done {a} {b} {s} {u} Q h q = let p : a ≡ b = cc in let e : s ≡ u = cc in subst₂ Q p e q
 
 -- a reader after another has read something: then so has the first
-pub bound : {S A B P : Type 0} (r : Parsed S A) (k : A → Reader S B) {b : B} {u : S} → next r k ≡ done b u → ((a : A) (m : S) → r ≡ done a m → k a m ≡ done b u → P) → P
+pub bound : {S A B P : Type 0} (r : Parsed S A) (k : A → Reader S B) {b : B} {u : S} → next r k ≡ done b u
+    → ((a : A) (m : S) → r ≡ done a m → k a m ≡ done b u → P) → P
 bound broken k h go = absurd (not-done h)
 bound (done a m) k h go = go a m refl h
 
@@ -57,7 +59,7 @@ same-true (x ∷ xs) (y ∷ ys) h =
 unfoldable pub tokenly : ℕ → List ℕ → Option Token
 tokenly zero b = none
 tokenly (suc zero) b = some (name b)
-tokenly (suc (suc zero)) b = some (word b)
+tokenly (suc (suc zero)) b = some (other-word b)
 tokenly (suc (suc (suc zero))) b = some (digits b)
 tokenly (suc (suc (suc (suc n)))) b = some (sign b)
 
@@ -65,7 +67,7 @@ pub tokenly-is : (o : Option Token) → tokenly (kind o) (text o) ≡ o
 unfolding tokenly
 tokenly-is none = refl
 tokenly-is (some (name b)) = refl
-tokenly-is (some (word b)) = refl
+tokenly-is (some (other-word b)) = refl
 tokenly-is (some (digits b)) = refl
 tokenly-is (some (sign b)) = refl
 
@@ -79,17 +81,16 @@ is-true t o h =
     let d : text (some t) ≡ text o = same-true _ _ q in
     sym (tokenly-is o) ∙ sym (ap (λ k. tokenly k (text (some t))) e ∙ ap (tokenly (kind o)) d) ∙ tokenly-is (some t)
 
--- from one place on stand these tokens, and then comes the other place
-pub data Spells {S : Type 0} (peek : S → Option Token) (skip : S → S) : S → List Token → S → Type 0 where
-  here : {s : S} → Spells peek skip s [] s
-  token : {s u : S} {t : Token} {ts : List Token} → peek s ≡ some t → Spells peek skip (skip s) ts u → Spells peek skip s (t ∷ ts) u
+infixr 30 _▸_
+-- one after the other
+pub _▸_ : {S : Type 0} {peek : S → Option Token} {skip : S → S} {s m u : S} {xs ys : List Token} → Spells peek skip s xs m
+    → Spells peek skip m ys u → Spells peek skip s (xs ++ ys) u
+_▸_ here k = k
+_▸_ (token e h) k = token e (h ▸ k)
 
 module _ {S : Type 0} (peek : S → Option Token) (skip : S → S) where
-  pub spells-both : {s m u : S} {xs ys : List Token} → Spells peek skip s xs m → Spells peek skip m ys u → Spells peek skip s (xs ++ ys) u
-  spells-both here k = k
-  spells-both (token e h) k = token e (spells-both h k)
-
-  pub spells-split : {s u : S} (xs : List Token) {ys : List Token} → Spells peek skip s (xs ++ ys) u → (m : S) × Spells peek skip s xs m × Spells peek skip m ys u
+  pub spells-split : {s u : S} (xs : List Token) {ys : List Token} → Spells peek skip s (xs ++ ys) u
+      → (m : S) × Spells peek skip s xs m × Spells peek skip m ys u
   spells-split {s} [] h = (s, here, h)
   spells-split (x ∷ xs) (token e h) = let (m, a, b) = spells-split xs h in (m, token e a, b)
 

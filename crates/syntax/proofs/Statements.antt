@@ -1,23 +1,17 @@
--- The statements of an accepted text, closed and open: each stands on a line whose names and numbers are in order. By the table and the loop's
--- variable alone, since these stay as they are once statements come.
+-- The statements of an accepted text, closed and open, are sane: each stands on a line whose names and numbers are in order.
 use mathlib.Core.Path.{_≡_, refl, _∙_, ap}
-use mathlib.Core.Bool.{Bool, true, false, not, _&&_}
-use mathlib.Core.List.{List, []}
+use mathlib.Core.Bool.{Bool, true, _&&_}
+use mathlib.Core.List.{List}
 use mathlib.Core.Option.{Option, none, some}
 use Prim.Native.Nat.{ℕ}
-use lib.IntN.{pos}
-use borrow.Author.Tests.{not-true}
 use Rattle.int32.specs.declared.Relation.{Relation}
-use Rattle.syntax.specs.Bytes.{all, same}
+use Rattle.syntax.specs.Bytes.{all}
 use Rattle.syntax.specs.Grammar.{Expr, Ref, Statement, assign, when, otherwise, end-if, inside}
 use Rattle.syntax.specs.Known.{Entry, State, Stmts, stop, set, if-then, if-else, then-do, Open, branched, closed, turned}
-use Rattle.syntax.specs.Conditions.{opens, mentions, inRef, inLine, rightly, refName, singly, names, small, bounds, limits}
+use Rattle.syntax.specs.Conditions.{mentions, inRef, inLine, rightly, singly, names, small, bounds, limits}
+use Rattle.syntax.specs.Sane.{scope, SaneLine, SaneStmts, SaneFirst, SaneOpen}
 use Rattle.syntax.proofs.Spelling.{both-true}
 use Rattle.syntax.proofs.TestLaws.{all-parts}
-
--- what names and numbers of a statement are judged by
-abbrev pub scope : List Entry → List ℕ → State
-scope t v = record { stage = 0; table = t; processors = 0; variable = v; from = pos 0; count = 0; opens = []; inner = stop }
 
 singly-scope : (s : State) (l : Statement) → singly (scope (s .table) (s .variable)) (inside l) ≡ singly s (inside l)
 singly-scope s (assign r e) = refl
@@ -28,26 +22,6 @@ singly-scope s (end-if j) = refl
 pub names-scope : (s : State) (l : Statement) → names (scope (s .table) (s .variable)) (inside l) ≡ names s (inside l)
 unfolding names
 names-scope s l = ap (λ (b : Bool). all (rightly (s .table) (s .variable)) (inLine (inside l)) && b) (singly-scope s l)
-
-pub record SaneLine (t : List Entry) (v : List ℕ) (l : Statement) : Type 0 where
-  pub named : names (scope t v) (inside l) ≡ true
-  pub bounded : all small (inLine (inside l)) ≡ true
-
-abbrev pub SaneStmts : List Entry → List ℕ → Stmts → Type 0
-SaneStmts t v stop = Unit {0}
-SaneStmts t v (set k r e rest) = SaneLine t v (assign r e) × SaneStmts t v rest
-SaneStmts t v (if-then k a rel b p rest) = SaneLine t v (when a rel b) × SaneStmts t v p × SaneStmts t v rest
-SaneStmts t v (if-else k a rel b p q rest) = SaneLine t v (when a rel b) × SaneStmts t v p × SaneStmts t v q × SaneStmts t v rest
-
--- the first part of an open `if`, once `else` was met
-abbrev pub SaneFirst : List Entry → List ℕ → Option Stmts → Type 0
-SaneFirst t v none = Unit {0}
-SaneFirst t v (some p) = SaneStmts t v p
-
-pub record SaneOpen (t : List Entry) (v : List ℕ) (o : Open) : Type 0 where
-  pub condition : SaneLine t v (when (o .left) (o .relation) (o .right))
-  pub before : SaneStmts t v (o .before)
-  pub first : SaneFirst t v (o .first)
 
 pub line-sane : (s : State) (l : Statement) → names s (inside l) ≡ true → limits s (inside l) ≡ true → SaneLine (s .table) (s .variable) l
 unfolding limits
@@ -61,23 +35,10 @@ module _ (t : List Entry) (v : List ℕ) where
     unfolding inLine
     assign-small = all-parts small (inRef 0 r) (mentions 0 e) (h .bounded)
 
-    pub assign-rightly : (all (rightly t v) (inRef 0 r) ≡ true) × (all (rightly t v) (mentions 0 e) ≡ true)
-    unfolding inLine names
-    assign-rightly = all-parts (rightly t v) (inRef 0 r) (mentions 0 e) (both-true _ (singly (scope t v) (inside (assign r e))) (h .named) .0)
-
-    -- not "v ... assigned"
-    pub assign-target : same (refName r) v ≡ false
-    unfolding inLine names
-    assign-target = not-true _ (both-true (all (rightly t v) (inLine (inside (assign r e)))) (not (same (refName r) v)) (h .named) .1)
-
   module _ (a : Expr) (rel : Relation) (b : Expr) (h : SaneLine t v (when a rel b)) where
     pub when-small : (all small (mentions 0 a) ≡ true) × (all small (mentions 0 b) ≡ true)
     unfolding inLine
     when-small = all-parts small (mentions 0 a) (mentions 0 b) (h .bounded)
-
-    pub when-rightly : (all (rightly t v) (mentions 0 a) ≡ true) × (all (rightly t v) (mentions 0 b) ≡ true)
-    unfolding inLine names
-    when-rightly = all-parts (rightly t v) (mentions 0 a) (mentions 0 b) (both-true _ (singly (scope t v) (inside (when a rel b))) (h .named) .0)
 
   -- ---- statements in one another
 

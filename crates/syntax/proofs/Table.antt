@@ -1,45 +1,17 @@
 -- The table of an accepted text's names: its entries follow one another from cell 0 on, so the cells of the entry that a name finds are cells
 -- of the table, and their class is that entry's.
 use mathlib.Core.Path.{_≡_}
-use mathlib.Core.Bool.{Bool, true, false, cond, _&&_, _||_}
-use mathlib.Core.List.{List, [], _∷_, map}
-use mathlib.Core.Option.{Option, none, some}
+use mathlib.Core.Bool.{Bool, true, false, cond, _&&_}
+use mathlib.Core.List.{List, [], _∷_}
 use Prim.Native.Nat.{ℕ, zero, suc, _+_, _≤_, _<_}
 use native.Mathlib.Omega.{arith}
 use lib.Dec.{ltb, leb}
 use lib.ListN.{length, getD, take}
-use lib.IntN.{ℤ}
-use mir.Syntax.{w32}
-use mir.Val.{SFits}
 use borrow.Author.Tests.{lt-ltb, le-ltb, le-leb}
-use Rattle.syntax.specs.Known.{Entry, named, known, nowhere, find, cells}
-use Rattle.syntax.specs.Conditions.{different}
+use Rattle.syntax.specs.Known.{Entry, named, nowhere, find, cells}
 use Rattle.syntax.specs.Meaning.{class-of}
-use Rattle.syntax.proofs.TestLaws.{both-hold, cond-each, Each}
-
--- "in declared order": from cell c on each entry begins where the one before it ends
-abbrev pub Laid : ℕ → List Entry → Type 0
-Laid c [] = Unit {0}
-Laid c (e ∷ es) = (e .first ≡ c) × Laid (c + e .size) es
-
--- data: "a value for each cell of the name"
-abbrev pub Data : ℕ → Option (List ℤ) → Type 0
-Data n none = Unit {0}
-Data n (some vs) = (length vs ≡ n) × Each (SFits w32) vs
-
--- "array length 1 to 4,096"
-pub record SaneEntry (e : Entry) : Type 0 where
-  pub some-cells : 1 ≤ e .size
-  pub few-cells : e .size ≤ 4096
-  pub given : Data (e .size) (e .given)
-
--- "names 16", "N to 4,096", no name twice
-pub record SaneTable (t : List Entry) : Type 0 where
-  pub laid : Laid 0 t
-  pub sized : Each SaneEntry t
-  pub apart : different (map (λ e. e .name) t) ≡ true
-  pub few-names : length t ≤ 16
-  pub few-cells : cells t ≤ 4096
+use Rattle.syntax.specs.Sane.{Each, Laid, SaneEntry, SaneTable}
+use Rattle.syntax.proofs.TestLaws.{both-hold, cond-each}
 
 pub cells-filled : (t : List Entry) → SaneTable t → 0 < length t → 0 < cells t
 cells-filled [] h k = absurd (omega arith)
@@ -58,15 +30,6 @@ pub find-each : (P : Entry → Type 0) (x : List ℕ) (t : List Entry) → P now
 unfolding find
 find-each P x [] n h = n
 find-each P x (e ∷ es) n h = cond-each P (named x e) (h .0) (find-each P x es n (h .1))
-
-pub find-known : (P : Entry → Type 0) (x : List ℕ) (t : List Entry) → known x t ≡ true → Each P t → P (find x t)
-unfolding find
-find-known P x [] k h = let z : _≡_ {A = ℕ} 0 1 = cc in absurd (omega arith)
-find-known P x (e ∷ es) k h = go (named x e) k (λ r. find-known P x es r (h .1))
-  where
-    go : (b : Bool) → b || known x es ≡ true → (known x es ≡ true → P (find x es)) → P (cond b e (find x es))
-    go true r ih = h .0
-    go false r ih = ih r
 
 -- its cells lie from a up to below z
 record Between (a z : ℕ) (e : Entry) : Type 0 where

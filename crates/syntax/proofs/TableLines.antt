@@ -12,19 +12,19 @@ use lib.IntN.{ℤ}
 use mir.Syntax.{w32}
 use mir.Val.{SFits}
 use borrow.Author.Tests.{leb-true, eqb-true, not-true}
-use Rattle.syntax.specs.Bytes.{all, any, same}
+use Rattle.syntax.specs.Bytes.{all, any, same, between}
 use Rattle.syntax.specs.Grammar.{number, Declared, Item, item, Clause, declare, give}
 use Rattle.syntax.specs.Known.{Entry, named, known, find, total, cells, declaredName, declaredSize, signed, copiesOf, copies, values, State, entries, give-to, classify}
-use Rattle.syntax.specs.Conditions.{concat, digits, inItem, inLine, isGiven, different, rightly, names, small, within, limits}
+use Rattle.syntax.specs.Conditions.{concat, digits, inItem, inLine, isGiven, different, rightly, names, small, limits}
+use Rattle.syntax.specs.Sane.{Each, Laid, SaneEntry, SaneTable}
 use Rattle.syntax.proofs.Spelling.{both-true, same-true}
-use Rattle.syntax.proofs.TestLaws.{both-hold, neither-holds, cond-each, same-comm-false, all-parts, any-append, Each, each-append, each-none, none-each, each-replicate, each-weaken, each-map}
-use Rattle.syntax.proofs.Table.{Laid, SaneEntry, SaneTable}
+use Rattle.syntax.proofs.TestLaws.{both-hold, neither-holds, cond-each, same-comm-false, all-parts, any-append, each-append, each-none, none-each, each-replicate, each-weaken, each-map}
 use Rattle.syntax.proofs.LoopValues.{signed-size, small-fits}
 
 abbrev nameOf : Entry → List ℕ
 nameOf e = e .name
 
-total-append : {A : Type 0} (f : A → ℕ) (xs ys : List A) → total f (xs ++ ys) ≡ total f xs + total f ys
+pub total-append : {A : Type 0} (f : A → ℕ) (xs ys : List A) → total f (xs ++ ys) ≡ total f xs + total f ys
 total-append f [] ys = omega arith
 total-append f (x ∷ xs) ys = omega (arith, total-append f xs ys)
 
@@ -32,17 +32,18 @@ total-append f (x ∷ xs) ys = omega (arith, total-append f xs ys)
 
 laid-append : (c : ℕ) (t u : List Entry) → Laid c t → Laid (c + cells t) u → Laid c (t ++ u)
 laid-append c [] u h k = let e : c + 0 ≡ c = omega arith in rw e at k
-laid-append c (e ∷ es) u h k = (h .0, laid-append (c + e .size) es u (h .1) (let q : c + (e .size + cells es) ≡ c + e .size + cells es = omega arith in rw q at k))
+laid-append c (e ∷ es) u h k =
+    (h .0, laid-append (c + e .size) es u (h .1) (let q : c + (e .size + cells es) ≡ c + e .size + cells es = omega arith in rw q at k))
 
 entries-laid : (c : ℕ) (ds : List Declared) → Laid c (entries c ds)
 entries-laid c [] = tt
 entries-laid c (d ∷ ds) = (refl, entries-laid (c + declaredSize d) ds)
 
-entries-cells : (c : ℕ) (ds : List Declared) → cells (entries c ds) ≡ total declaredSize ds
+pub entries-cells : (c : ℕ) (ds : List Declared) → cells (entries c ds) ≡ total declaredSize ds
 entries-cells c [] = refl
 entries-cells c (d ∷ ds) = ap (_+_ (declaredSize d)) (entries-cells (c + declaredSize d) ds)
 
-entries-length : (c : ℕ) (ds : List Declared) → length (entries c ds) ≡ length ds
+pub entries-length : (c : ℕ) (ds : List Declared) → length (entries c ds) ≡ length ds
 entries-length c [] = refl
 entries-length c (d ∷ ds) = ap suc (entries-length (c + declaredSize d) ds)
 
@@ -50,12 +51,14 @@ entries-names : (c : ℕ) (ds : List Declared) → map nameOf (entries c ds) ≡
 entries-names c [] = refl
 entries-names c (d ∷ ds) = ap (_∷_ (declaredName d)) (entries-names (c + declaredSize d) ds)
 
-entries-sane : (c : ℕ) (ds : List Declared) → all (λ d. within 1 4096 (declaredSize d)) ds ≡ true → Each SaneEntry (entries c ds)
+entries-sane : (c : ℕ) (ds : List Declared) → all (λ d. between 1 4096 (declaredSize d)) ds ≡ true → Each SaneEntry (entries c ds)
 entries-sane c [] h = tt
 entries-sane c (d ∷ ds) h =
-    let (a, b) = both-true (within 1 4096 (declaredSize d)) (all (λ d. within 1 4096 (declaredSize d)) ds) h in
-    let (p, q) = both-true (leb 1 (declaredSize d)) (leb (declaredSize d) 4096) a in
-    (record { some-cells = leb-true 1 (declaredSize d) p; few-cells = leb-true (declaredSize d) 4096 q; given = tt }, entries-sane (c + declaredSize d) ds b)
+    let (a, b) = both-true (between 1 4096 (declaredSize d)) (all (λ d. between 1 4096 (declaredSize d)) ds) h in
+    let (p, q) = both-true (leb 1 (declaredSize d)) (leb (declaredSize d) 4096) a in (
+      record { some-cells = leb-true 1 (declaredSize d) p; few-cells = leb-true (declaredSize d) 4096 q; given = tt },
+      entries-sane (c + declaredSize d) ds b,
+    )
 
 different-parts : (x : List ℕ) (xs : List (List ℕ)) → different (x ∷ xs) ≡ true → (any (same x) xs ≡ false) × (different xs ≡ true)
 different-parts x xs h = let (a, b) = both-true (not (any (same x) xs)) (different xs) h in (not-true _ a, b)
@@ -66,7 +69,8 @@ different-append : (t : List Entry) (xs : List (List ℕ)) → different (map na
 different-append [] xs p q n = q
 different-append (e ∷ es) xs p q n =
     let (u, b) = different-parts (e .name) (map nameOf es) p in
-    let w : any (same (e .name)) xs ≡ false = none-each (λ x. known x (e ∷ es) ≡ false) (same (e .name)) (λ x k. same-comm-false x (e .name) (unknown x k .0)) xs n in
+    let apart : (x : List ℕ) → known x (e ∷ es) ≡ false → same (e .name) x ≡ false = λ x k. same-comm-false x (e .name) (unknown x k .0) in
+    let w : any (same (e .name)) xs ≡ false = none-each (λ x. known x (e ∷ es) ≡ false) (same (e .name)) apart xs n in
     let r = each-weaken (λ x. known x (e ∷ es) ≡ false) (λ x. known x es ≡ false) (λ x k. unknown x k .1) xs n in
     let m : any (same (e .name)) (map nameOf es ++ xs) ≡ false = any-append (same (e .name)) (map nameOf es) xs ∙ cc in
     both-hold (ap not m) (different-append es xs b q r)
@@ -78,8 +82,9 @@ map-append-names : (t u : List Entry) → map nameOf (t ++ u) ≡ map nameOf t +
 map-append-names [] u = refl
 map-append-names (e ∷ es) u = ap (_∷_ (e .name)) (map-append-names es u)
 
-append-sane : (t : List Entry) (ds : List Declared) → SaneTable t → different (map declaredName ds) ≡ true → Each (λ x. known x t ≡ false) (map declaredName ds)
-    → length t + length ds ≤ 16 → all (λ d. within 1 4096 (declaredSize d)) ds ≡ true → cells t + total declaredSize ds ≤ 4096
+append-sane : (t : List Entry) (ds : List Declared) → SaneTable t → different (map declaredName ds) ≡ true
+    → Each (λ x. known x t ≡ false) (map declaredName ds)
+    → length t + length ds ≤ 16 → all (λ d. between 1 4096 (declaredSize d)) ds ≡ true → cells t + total declaredSize ds ≤ 4096
     → SaneTable (t ++ entries (cells t) ds)
 append-sane t ds h p n x y z =
     let c = cells t in
@@ -92,15 +97,17 @@ append-sane t ds h p n x y z =
       few-cells = rw (total-append (λ e. e .size) t u, entries-cells c ds) z;
     }
 
-pub declare-sane : (s : State) (d : Declared) (ds : List Declared) → names s (declare d ds) ≡ true → limits s (declare d ds) ≡ true → SaneTable (s .table)
+pub declare-sane : (s : State) (d : Declared) (ds : List Declared) → names s (declare d ds) ≡ true → limits s (declare d ds) ≡ true
+    → SaneTable (s .table)
     → SaneTable (s .table ++ entries (cells (s .table)) (d ∷ ds))
 unfolding names limits
 declare-sane s d ds n l h =
     let t = s .table in
     let xs = map declaredName (d ∷ ds) in
-    let (p, q) = both-true (different xs) (not (any (λ x. known x t) xs)) (both-true (all (rightly (s .table) (s .variable)) (inLine (declare d ds))) _ n .1) in
+    let (_, o) = both-true (all (rightly (s .table) (s .variable)) (inLine (declare d ds))) _ n in
+    let (p, q) = both-true (different xs) (not (any (λ x. known x t) xs)) o in
     let (x, yz) = both-true (leb (length t + length (d ∷ ds)) 16) _ (both-true (all small (inLine (declare d ds))) _ l .1) in
-    let (y, z) = both-true (all (λ e. within 1 4096 (declaredSize e)) (d ∷ ds)) (leb (cells t + total declaredSize (d ∷ ds)) 4096) yz in
+    let (y, z) = both-true (all (λ e. between 1 4096 (declaredSize e)) (d ∷ ds)) (leb (cells t + total declaredSize (d ∷ ds)) 4096) yz in
     append-sane t (d ∷ ds) h p (each-none _ (λ x. known x t) (λ x e. e) xs (not-true _ q)) (leb-true _ _ x) y (leb-true _ _ z)
 
 -- ---- entries that keep their cells
@@ -137,7 +144,8 @@ classify-shape cs = record { names = λ e. refl; firsts = λ e. refl; sizes = λ
 
 pub classify-sane : (cs : List Clause) (t : List Entry) → SaneTable t → SaneTable (map (classify cs) t)
 classify-sane cs t h = map-sane (classify cs) (classify-shape cs) t h
-    (each-map SaneEntry SaneEntry (classify cs) (λ e s. record { some-cells = s .some-cells; few-cells = s .few-cells; given = s .given }) t (h .sized))
+    (each-map SaneEntry SaneEntry (classify cs) (λ e s. record { some-cells = s .some-cells; few-cells = s .few-cells; given = s .given }) t
+    (h .sized))
 
 give-shape : (x : List ℕ) (vs : List ℤ) → Shape (give-to x vs)
 give-shape x vs = record {
@@ -165,14 +173,17 @@ values-fit [] h = tt
 values-fit (item r l d ∷ is) h =
     let (a, b) = all-parts small (inItem (item r l d)) (concat inItem is) h in
     each-append (SFits w32) (replicate (copiesOf r) (signed l (number d))) (values is)
-    (each-replicate (SFits w32) (copiesOf r) (signed l (number d)) (small-fits _ (omega (arith, signed-size l (number d), written r a)))) (values-fit is b)
+    (each-replicate (SFits w32) (copiesOf r) (signed l (number d)) (small-fits _ (omega (arith, signed-size l (number d), written r a))))
+    (values-fit is b)
   where
     written : (r : Option (List ℕ)) → all small (inItem (item r l d)) ≡ true → number d ≤ 2147483647
     written none h = leb-true (number d) 2147483647 (both-true (small (digits d)) true h .0)
-    written (some r) h = leb-true (number d) 2147483647 (both-true (small (digits d)) true (both-true (small (digits r)) (all small (digits d ∷ [])) h .1) .0)
+    written (some r) h =
+        leb-true (number d) 2147483647 (both-true (small (digits d)) true (both-true (small (digits r)) (all small (digits d ∷ [])) h .1) .0)
 
 -- no other entry has the name
-give-others : (x : List ℕ) (vs : List ℤ) (es : List Entry) → any (same x) (map nameOf es) ≡ false → Each SaneEntry es → Each SaneEntry (map (give-to x vs) es)
+give-others : (x : List ℕ) (vs : List ℤ) (es : List Entry) → any (same x) (map nameOf es) ≡ false → Each SaneEntry es
+    → Each SaneEntry (map (give-to x vs) es)
 give-others x vs [] n h = tt
 give-others x vs (e ∷ es) n h =
     let (a, b) = neither-holds (named x e) (any (same x) (map nameOf es)) n in
@@ -195,7 +206,8 @@ give-entries x vs (e ∷ es) d k f h = go (named x e) refl k (λ r. give-entries
     )
     go false p q ih = (h .0, ih q)
 
-pub give-sane : (s : State) (x : List ℕ) (i : Item) (is : List Item) → names s (give x i is) ≡ true → limits s (give x i is) ≡ true → SaneTable (s .table)
+pub give-sane : (s : State) (x : List ℕ) (i : Item) (is : List Item) → names s (give x i is) ≡ true → limits s (give x i is) ≡ true
+    → SaneTable (s .table)
     → SaneTable (map (give-to x (values (i ∷ is))) (s .table))
 unfolding names limits inLine
 give-sane s x i is n l h =

@@ -1,4 +1,4 @@
--- Laws of the tests over lists that the definitions are written with (`all`, `any`, `same`), and `Each`, the like of `all` for what is no test.
+-- Laws of the tests over lists that the definitions are written with (`all`, `any`, `same`), and of `Each`, the like of `all` for what is no test.
 use mathlib.Core.Path.{_≡_, refl, sym, _∙_, ap}
 use mathlib.Core.Logic.{_⊎_, inl, inr}
 use mathlib.Core.Bool.{Bool, true, false, cond, _&&_, _||_, and-assoc, or-assoc}
@@ -8,6 +8,7 @@ use native.Mathlib.Omega.{arith}
 use lib.ListN.{length, getD, replicate, drop}
 use borrow.Author.Tests.{eq-eqb}
 use Rattle.syntax.specs.Bytes.{choose, all, any, same}
+use Rattle.syntax.specs.Sane.{Each}
 use Rattle.syntax.proofs.Spelling.{both-true, same-true}
 
 -- ---- tests
@@ -62,10 +63,6 @@ any-append p (x ∷ xs) ys = ap (_||_ (p x)) (any-append p xs ys) ∙ sym (or-as
 
 -- ---- Each
 
-abbrev pub Each : {A : Type 0} → (A → Type 0) → List A → Type 0
-Each P [] = Unit {0}
-Each P (x ∷ xs) = P x × Each P xs
-
 module _ {A : Type 0} (P : A → Type 0) where
   pub each-append : (xs ys : List A) → Each P xs → Each P ys → Each P (xs ++ ys)
   each-append [] ys h k = k
@@ -92,7 +89,8 @@ pub each-weaken : {A : Type 0} (P Q : A → Type 0) → ((x : A) → P x → Q x
 each-weaken P Q g [] h = tt
 each-weaken P Q g (x ∷ xs) h = (g x (h .0), each-weaken P Q g xs (h .1))
 
-pub each-map : {A B : Type 0} (P : A → Type 0) (Q : B → Type 0) (f : A → B) → ((x : A) → P x → Q (f x)) → (xs : List A) → Each P xs → Each Q (map f xs)
+pub each-map : {A B : Type 0} (P : A → Type 0) (Q : B → Type 0) (f : A → B) → ((x : A) → P x → Q (f x)) → (xs : List A) → Each P xs
+    → Each Q (map f xs)
 each-map P Q f g [] h = tt
 each-map P Q f g (x ∷ xs) h = (g x (h .0), each-map P Q f g xs (h .1))
 
@@ -108,7 +106,8 @@ same-truth false false f g = refl
 pub all-on : (p : ℕ → Bool) (s : List ℕ) (i : ℕ) → i < length s → p (getD s i 0) ≡ true → all p (drop i s) ≡ all p (drop (i + 1) s)
 all-on p [] i h e = absurd (omega arith)
 all-on p (b ∷ s) zero h e = ap (λ (x : Bool). x && all p s) e
-all-on p (b ∷ s) (suc i) h e = let z : suc i + 1 ≡ suc (i + 1) = omega arith in all-on p s i (omega arith) e ∙ ap (λ (n : ℕ). all p (drop n (b ∷ s))) (sym z)
+all-on p (b ∷ s) (suc i) h e =
+    let z : suc i + 1 ≡ suc (i + 1) = omega arith in all-on p s i (omega arith) e ∙ ap (λ (n : ℕ). all p (drop n (b ∷ s))) (sym z)
 
 pub all-off : (p : ℕ → Bool) (s : List ℕ) (i : ℕ) → i < length s → p (getD s i 0) ≡ false → all p (drop i s) ≡ false
 all-off p [] i h e = absurd (omega arith)

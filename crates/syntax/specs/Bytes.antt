@@ -76,17 +76,17 @@ lines (b ∷ s) = cond (eqb b 10) ([] ∷ after-newline s (lines s)) (in-front b
 
 -- a word that may be a name, a word that is no name, a string of digits or a sign, with its bytes
 pub data Token : Type 0 where
-  name word digits sign : List ℕ → Token
+  name other-word digits sign : List ℕ → Token
 
 abbrev pub kindOf : Token → ℕ
 kindOf (name b) = 1
-kindOf (word b) = 2
+kindOf (other-word b) = 2
 kindOf (digits b) = 3
 kindOf (sign b) = 4
 
 abbrev pub bytesOf : Token → List ℕ
 bytesOf (name b) = b
-bytesOf (word b) = b
+bytesOf (other-word b) = b
 bytesOf (digits b) = b
 bytesOf (sign b) = b
 
@@ -101,7 +101,7 @@ reserved =
 
 -- "Names are a letter and up to 30 letters, digits or underscores"
 abbrev pub word-of : List ℕ → Token
-word-of w = cond (leb (length w) 31 && not (any (same w) reserved)) (name w) (word w)
+word-of w = cond (leb (length w) 31 && not (any (same w) reserved)) (name w) (other-word w)
 
 -- how many bytes at the front have p
 unfoldable pub run : (ℕ → Bool) → List ℕ → ℕ

@@ -6,9 +6,9 @@ use mathlib.Core.Option.{Option, none, some}
 use Prim.Native.Nat.{ℕ, suc, _+_}
 use lib.Dec.{ltb, leb, eqb}
 use lib.ListN.{length}
-use Rattle.syntax.specs.Bytes.{all, any, same}
-use Rattle.syntax.specs.Grammar.{number, Expr, expr, Terms, no-terms, terms, Term, term, Factors, no-factors, factors, Factor, literal, cell, rdiv, brackets, Ref, single, element, Declared, one, array, Item, item, Clause, clause, assign, when, otherwise, end-if, Line, declare, give, direct, loop, inside, end-do, close}
-use Rattle.syntax.specs.Known.{Entry, Open, State, declaredName, declaredSize, total, signed, copies, iterations, cells, known, find}
+use Rattle.syntax.specs.Bytes.{all, any, same, between}
+use Rattle.syntax.specs.Grammar.{number, Expr, expr, Terms, no-terms, terms, Term, term, Factors, no-factors, factors, Factor, literal, cell, rdiv, brackets, Ref, single, element, Declared, one, array, Item, item, Clause, clause, threads, assign, when, otherwise, end-if, Line, declare, give, direct, loop, inside, end-do, close}
+use Rattle.syntax.specs.Known.{Entry, Open, State, declaredName, declaredSize, total, signed, copies, iterations, cells, known, find, threads-in}
 
 -- ---- what a line's names and limits are judged by
 
@@ -60,7 +60,7 @@ concat f (x ∷ xs) = f x ++ concat f xs
 unfoldable pub inLine : Line → List Mention
 inLine (declare d ds) = concat inDeclared (d ∷ ds)
 inLine (give x i is) = concat inItem (i ∷ is)
-inLine (direct a p b) = digits p ∷ []
+inLine (direct cs) = map digits (threads-in cs)
 inLine (loop v l m k n) = digits m ∷ digits n ∷ []
 inLine (inside (assign r e)) = inRef 0 r ++ mentions 0 e
 inLine (inside (when a r b)) = mentions 0 a ++ mentions 0 b
@@ -91,14 +91,15 @@ different (x ∷ xs) = not (any (same x) xs) && different xs
 
 abbrev pub clauseNames : List Clause → List (List ℕ)
 clauseNames [] = []
-clauseNames (clause c x xs ∷ cs) = x ∷ (xs ++ clauseNames cs)
+clauseNames (clause k x xs ∷ cs) = x ∷ (xs ++ clauseNames cs)
+clauseNames (threads p ∷ cs) = clauseNames cs
 
 -- not "declared or given data twice, in two clauses or twice in one, ... v declared or assigned, data of the wrong count"
 abbrev pub singly : State → Line → Bool
 singly s (declare d ds) = let xs = map declaredName (d ∷ ds) in different xs && not (any (λ x. known x (s .table)) xs)
 singly s (give x i is) =
     known x (s .table) && (not (isGiven (find x (s .table) .given)) && eqb (total copies (i ∷ is)) (find x (s .table) .size))
-singly s (direct a p b) = let xs = clauseNames (a ++ b) in different xs && all (λ x. known x (s .table)) xs
+singly s (direct cs) = let xs = clauseNames cs in different xs && all (λ x. known x (s .table)) xs
 singly s (loop v l m k n) = not (known v (s .table))
 singly s (inside (assign r e)) = not (same (refName r) (s .variable))
 singly s (inside (when a r b)) = true
@@ -118,16 +119,13 @@ small (digits d) = leb (number d) 2147483647
 small (refers x b) = true
 small (opens n) = leb n 8
 
-abbrev pub within : ℕ → ℕ → ℕ → Bool
-within a z n = leb a n && leb n z
-
 -- "names 16; array length 1 to 4,096; N to 4,096; P 1 to 8; n to 65,535; `if` depth 8"
 abbrev pub bounds : State → Line → Bool
 bounds s (declare d ds) =
     leb (length (s .table) + length (d ∷ ds)) 16
-    && (all (λ x. within 1 4096 (declaredSize x)) (d ∷ ds) && leb (cells (s .table) + total declaredSize (d ∷ ds)) 4096)
+    && (all (λ x. between 1 4096 (declaredSize x)) (d ∷ ds) && leb (cells (s .table) + total declaredSize (d ∷ ds)) 4096)
 bounds s (give x i is) = true
-bounds s (direct a p b) = within 1 8 (number p)
+bounds s (direct cs) = all (λ p. between 1 8 (number p)) (threads-in cs)
 bounds s (loop v l m k n) = leb (iterations (signed l (number m)) (signed k (number n))) 65535
 bounds s (inside (assign r e)) = true
 bounds s (inside (when a r b)) = leb (suc (length (s .opens))) 8
@@ -145,7 +143,7 @@ limits s l = all small (inLine l) && bounds s l
 abbrev pub stageOf : Line → ℕ
 stageOf (declare d ds) = 1
 stageOf (give x i is) = 2
-stageOf (direct a p b) = 3
+stageOf (direct cs) = 3
 stageOf (loop v l m k n) = 4
 stageOf (inside t) = 5
 stageOf (end-do j) = 6
@@ -158,8 +156,8 @@ several k = eqb k 1 || (eqb k 2 || eqb k 5)
 abbrev pub may-miss : ℕ → Bool
 may-miss k = eqb k 2 || eqb k 5
 
-abbrev pub follows : ℕ → ℕ → Bool
-follows k n = eqb n (k + 1) || ((several k && eqb n k) || (may-miss (k + 1) && eqb n (k + 2)))
+abbrev pub may-follow : ℕ → ℕ → Bool
+may-follow k n = eqb n (k + 1) || ((several k && eqb n k) || (may-miss (k + 1) && eqb n (k + 2)))
 
 -- `else` stands in an open `if`, once
 abbrev pub else-fits : List Open → Bool
@@ -170,11 +168,11 @@ abbrev pub none-open : List Open → Bool
 none-open [] = true
 none-open (o ∷ os) = false
 
--- `else` in an open `if`, once; `end if` where an `if` is open; `end do` where none is; "a data repeat of 0 is 2"
+-- `else` in an open `if`, once; `end if` where an `if` is open; `end do` where none is; "a data repeat of 0 is 2"; "`num_threads(p)` exactly once"
 abbrev pub fits : List Open → Line → Bool
 fits os (declare d ds) = true
 fits os (give x i is) = all (λ j. ltb 0 (copies j)) (i ∷ is)
-fits os (direct a p b) = true
+fits os (direct cs) = eqb (length (threads-in cs)) 1
 fits os (loop v l m k n) = true
 fits os (inside (assign r e)) = true
 fits os (inside (when a r b)) = true
@@ -184,7 +182,7 @@ fits os (end-do j) = none-open os
 fits os close = true
 
 unfoldable pub stands : State → Line → Bool
-stands s l = follows (s .stage) (stageOf l) && fits (s .opens) l
+stands s l = may-follow (s .stage) (stageOf l) && fits (s .opens) l
 
 -- after `end do` the text is finished; "then optionally `!$omp end parallel do`"
 abbrev pub finished : ℕ → Bool

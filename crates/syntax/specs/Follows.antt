@@ -20,8 +20,8 @@ spoken k [] = []
 spoken k (l ∷ ls) = cond (skipped-line l) (spoken (suc k) ls) ((k, tokens l) ∷ spoken (suc k) ls)
 
 -- the tokens that the grammar writes
-abbrev pub written : ℕ × Line → ℕ × List Token
-written (k, l) = (k, showLine l)
+abbrev pub shown : ℕ × Line → ℕ × List Token
+shown (k, l) = (k, showLine l)
 
 -- each line stands in its place, its names and limits are in order after the lines before it, and the text is finished
 abbrev pub InOrder : State → Program → Type 0
@@ -31,7 +31,7 @@ InOrder s (q ∷ p) = (stands s (q .1) ≡ true) × (names s (q .1) ≡ true) ×
 pub record Follows (text : List ℕ) (p : Program) : Type 0 where
   pub short : length text ≤ 2048
   pub sound : all sound-line (lines (map lower text)) ≡ true
-  pub spelled : spoken 1 (lines (map lower text)) ≡ map written p
+  pub spelled : spoken 1 (lines (map lower text)) ≡ map shown p
   pub ordered : InOrder nothing p
 
 -- what a program makes known

@@ -5,9 +5,10 @@ use mathlib.Core.List.{List, [], _∷_, _++_}
 use mathlib.Core.Option.{Option, none, some}
 use Prim.Native.Nat.{ℕ, _+_, _-_, _*_}
 use Prim.Native.String.{String}
-use Rattle.rules.specs.Loop.{Class, shared, lastprivate, reduction}
 use Rattle.int32.specs.declared.Relation.{Relation}
 use Rattle.int32.specs.declared.Relation.the-variants.{Equal, Unequal, Less, AtMost, Greater, AtLeast}
+use Rattle.syntax.specs.declared.ClauseKind.{ClauseKind}
+use Rattle.syntax.specs.declared.ClauseKind.the-variants.{Shared, Lastprivate, Reduction}
 use Rattle.syntax.specs.Bytes.{bytes, Token, name, digits, sign, word-of}
 
 -- ---- literals
@@ -62,9 +63,10 @@ pub data Declared : Type 0 where
 pub data Item : Type 0 where
   item : Option (List ℕ) → Lead → List ℕ → Item
 
--- "`shared(list)`, `lastprivate(list)`, `reduction(+:list)`": "a list is one or more names parted by commas"
+-- "`shared(list)`, `lastprivate(list)`, `reduction(+:list)`": "a list is one or more names parted by commas"; and "`num_threads(p)`"
 pub data Clause : Type 0 where
-  clause : Class → List ℕ → List (List ℕ) → Clause
+  clause : ClauseKind → List ℕ → List (List ℕ) → Clause
+  threads : List ℕ → Clause
 
 -- "an assignment to a cell, or `if (e rel e) then`, statements, optional `else` and statements, `end if`": each on "one line of its own".
 -- (true: `endif`)
@@ -74,12 +76,12 @@ pub data Statement : Type 0 where
   otherwise : Statement
   end-if : Bool → Statement
 
--- 1 integer; 2 data; 3 the directive, with "clauses in any order: `num_threads(p)` exactly once"; 4 do; 5 a statement; 6 `end do` (true: `enddo`),
+-- 1 integer; 2 data; 3 the directive, with "clauses in any order"; 4 do; 5 a statement; 6 `end do` (true: `enddo`),
 -- 7 the closing directive
 pub data Line : Type 0 where
   declare : Declared → List Declared → Line
   give : List ℕ → Item → List Item → Line
-  direct : List Clause → List ℕ → List Clause → Line
+  direct : List Clause → Line
   loop : List ℕ → Lead → List ℕ → Lead → List ℕ → Line
   inside : Statement → Line
   end-do : Bool → Line
@@ -165,13 +167,14 @@ showSigned l d = showLead l ⌢ showDigits d
 abbrev pub showItem : Item → List Token
 showItem (item r l d) = showRepeat r ⌢ showSigned l d
 
-abbrev pub showClass : Class → List Token
-showClass shared = wd "shared" ⌢ sg "("
-showClass lastprivate = wd "lastprivate" ⌢ sg "("
-showClass reduction = wd "reduction" ⌢ sg "(" ⌢ sg "+" ⌢ sg ":"
+abbrev pub showKind : ClauseKind → List Token
+showKind Shared = wd "shared" ⌢ sg "("
+showKind Lastprivate = wd "lastprivate" ⌢ sg "("
+showKind Reduction = wd "reduction" ⌢ sg "(" ⌢ sg "+" ⌢ sg ":"
 
 abbrev pub showClause : Clause → List Token
-showClause (clause c x xs) = showClass c ⌢ showList showName x xs ⌢ sg ")"
+showClause (clause k x xs) = showKind k ⌢ showList showName x xs ⌢ sg ")"
+showClause (threads p) = wd "num_threads" ⌢ sg "(" ⌢ showDigits p ⌢ sg ")"
 
 unfoldable pub showClauses : List Clause → List Token
 showClauses [] = []
@@ -186,8 +189,7 @@ showStatement (end-if joined?) = cond joined? (wd "endif") (wd "end" ⌢ wd "if"
 unfoldable pub showLine : Line → List Token
 showLine (declare d ds) = wd "integer" ⌢ showList showDeclared d ds
 showLine (give x i is) = wd "data" ⌢ showName x ⌢ sg "/" ⌢ showList showItem i is ⌢ sg "/"
-showLine (direct a p b) =
-    sg "!$omp" ⌢ wd "parallel" ⌢ wd "do" ⌢ showClauses a ⌢ wd "num_threads" ⌢ sg "(" ⌢ showDigits p ⌢ sg ")" ⌢ showClauses b
+showLine (direct cs) = sg "!$omp" ⌢ wd "parallel" ⌢ wd "do" ⌢ showClauses cs
 showLine (loop v l m k n) = wd "do" ⌢ showName v ⌢ sg "=" ⌢ showSigned l m ⌢ sg "," ⌢ showSigned k n
 showLine (inside t) = showStatement t
 showLine (end-do joined?) = cond joined? (wd "enddo") (wd "end" ⌢ wd "do")

@@ -7,9 +7,11 @@ use Prim.Native.Nat.{ℕ, _+_}
 use lib.IntN.{ℤ, pos, negsuc, negℤ, _+ℤ_, _-ℤ_}
 use lib.ListN.{replicate}
 use Rattle.int32.specs.declared.Relation.{Relation}
-use Rattle.rules.specs.Loop.{Class, shared}
+use Rattle.rules.specs.Loop.{Class, shared, lastprivate, reduction}
+use Rattle.syntax.specs.declared.ClauseKind.{ClauseKind}
+use Rattle.syntax.specs.declared.ClauseKind.the-variants.{Shared, Lastprivate, Reduction}
 use Rattle.syntax.specs.Bytes.{any, same}
-use Rattle.syntax.specs.Grammar.{number, Lead, bare, plus, minus, Expr, Ref, Declared, one, array, Item, item, Clause, clause, assign, when, otherwise, end-if, Line, declare, give, direct, loop, inside, end-do, close}
+use Rattle.syntax.specs.Grammar.{number, Lead, bare, plus, minus, Expr, Ref, Declared, one, array, Item, item, Clause, clause, threads, assign, when, otherwise, end-if, Line, declare, give, direct, loop, inside, end-do, close}
 
 -- ---- names
 
@@ -145,19 +147,43 @@ entries c (d ∷ ds) =
     record { name = declaredName d; first = c; subscripted = takesSubscript d; size = declaredSize d; class = shared; given = none }
     ∷ entries (c + declaredSize d) ds
 
-abbrev pub give-to : List ℕ → List ℤ → Entry → Entry
-give-to x vs e =
-    cond (named x e)
-    (record { name = e .name; first = e .first; subscripted = e .subscripted; size = e .size; class = e .class; given = some vs })
-    e
+-- an entry with data, and one with another class
+abbrev pub with-data : List ℤ → Entry → Entry
+with-data vs e =
+    record { name = e .name; first = e .first; subscripted = e .subscripted; size = e .size; class = e .class; given = some vs }
 
+abbrev pub with-class : Class → Entry → Entry
+with-class c e =
+    record { name = e .name; first = e .first; subscripted = e .subscripted; size = e .size; class = c; given = e .given }
+
+abbrev pub give-to : List ℕ → List ℤ → Entry → Entry
+give-to x vs e = cond (named x e) (with-data vs e) e
+
+-- the digits of `num_threads`, as often as it stands
+abbrev pub threads-in : List Clause → List (List ℕ)
+threads-in [] = []
+threads-in (clause k x xs ∷ cs) = threads-in cs
+threads-in (threads p ∷ cs) = p ∷ threads-in cs
+
+-- P, where it stands once
+abbrev pub processors-by : List (List ℕ) → ℕ
+processors-by [] = 0
+processors-by (p ∷ ps) = number p
+
+-- the class that a clause gives its names
+abbrev pub class-by : ClauseKind → Class
+class-by Shared = shared
+class-by Lastprivate = lastprivate
+class-by Reduction = reduction
+
+-- "A name in no clause is shared"
 unfoldable pub class-in : List Clause → List ℕ → Class
 class-in [] x = shared
-class-in (clause c y ys ∷ cs) x = cond (any (same x) (y ∷ ys)) c (class-in cs x)
+class-in (clause k y ys ∷ cs) x = cond (any (same x) (y ∷ ys)) (class-by k) (class-in cs x)
+class-in (threads p ∷ cs) x = class-in cs x
 
 abbrev pub classify : List Clause → Entry → Entry
-classify cs e =
-    record { name = e .name; first = e .first; subscripted = e .subscripted; size = e .size; class = class-in cs (e .name); given = e .given }
+classify cs e = with-class (class-in cs (e .name)) e
 
 -- a line of the part before the statements
 abbrev pub heading : ℕ → List Entry → ℕ → State
@@ -191,7 +217,7 @@ end-if-after s (o ∷ os) = stating 5 s os (closed o (s .inner))
 unfoldable pub after : ℕ → Line → State → State
 after k (declare d ds) s = heading 1 (s .table ++ entries (cells (s .table)) (d ∷ ds)) 0
 after k (give x i is) s = heading 2 (map (give-to x (values (i ∷ is))) (s .table)) 0
-after k (direct a p b) s = heading 3 (map (classify (a ++ b)) (s .table)) (number p)
+after k (direct cs) s = heading 3 (map (classify cs) (s .table)) (processors-by (threads-in cs))
 after k (loop v l m j n) s = record {
   stage = 4;
   table = s .table;

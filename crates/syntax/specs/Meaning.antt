@@ -9,7 +9,7 @@ use Rattle.int32.specs.Integers.{sum, difference, product, negation, quotient, 
 use Rattle.rules.specs.Loop.{Act, read, write, update, fault, done, Class, shared, lastprivate, reduction, Loop, Partition}
 use Rattle.rules.specs.Blocks.{singles}
 use Rattle.rules.specs.Cells.{cellOf}
-use Rattle.syntax.specs.Bytes.{choose, same, Token, name, word, digits, sign, equal}
+use Rattle.syntax.specs.Bytes.{choose, same, Token, name, other-word, digits, sign, equal}
 use Rattle.syntax.specs.Grammar.{number, Lead, bare, plus, minus, Expr, expr, Terms, no-terms, terms, Term, term, Factors, no-factors, factors, Factor, literal, cell, rdiv, brackets, Ref, single, element, showRef}
 use Rattle.syntax.specs.Known.{Entry, find, cells, State, Stmts, stop, set, if-then, if-else}
 use Rattle.syntax.specs.Conditions.{refName}
@@ -24,7 +24,7 @@ no-zeros (d ∷ ds) = choose (eqb d 48) (λ _. no-zeros ds) (λ _. d ∷ ds)
 
 abbrev pub zeros-aside : Token → Token
 zeros-aside (name b) = name b
-zeros-aside (word b) = word b
+zeros-aside (other-word b) = other-word b
 zeros-aside (digits b) = digits (no-zeros b)
 zeros-aside (sign b) = sign b
 

@@ -8,11 +8,12 @@ use Prim.Native.Nat.{ℕ, zero, suc, _+_, _*_}
 use Prim.Native.String.{String}
 use lib.Dec.{eqb}
 use lib.ListN.{length, take, drop}
-use Rattle.rules.specs.Loop.{Class, shared, lastprivate, reduction}
 use Rattle.int32.specs.declared.Relation.{Relation}
 use Rattle.int32.specs.declared.Relation.the-variants.{Equal, Unequal, Less, AtMost, Greater, AtLeast}
+use Rattle.syntax.specs.declared.ClauseKind.{ClauseKind}
+use Rattle.syntax.specs.declared.ClauseKind.the-variants.{Shared, Lastprivate, Reduction}
 use Rattle.syntax.specs.Bytes.{choose, same, bytes, Token, kindOf, bytesOf, sign, word-of, token-of, token-size, trimmed}
-use Rattle.syntax.specs.Grammar.{Lead, bare, plus, minus, Expr, expr, Terms, no-terms, terms, Term, term, Factors, no-factors, factors, Factor, literal, cell, rdiv, brackets, Ref, single, element, Declared, one, array, Item, item, Clause, clause, assign, when, otherwise, end-if, Line, declare, give, direct, loop, inside, end-do, close}
+use Rattle.syntax.specs.Grammar.{Lead, bare, plus, minus, Expr, expr, Terms, no-terms, terms, Term, term, Factors, no-factors, factors, Factor, literal, cell, rdiv, brackets, Ref, single, element, Declared, one, array, Item, item, Clause, clause, threads, assign, when, otherwise, end-if, Line, declare, give, direct, loop, inside, end-do, close}
 
 -- what is read, and the place after it
 pub data Parsed (S A : Type 0) : Type 0 where
@@ -101,15 +102,28 @@ module _ {S : Type 0} (peek : S → Option Token) (skip : S → S) where
   abbrev pub readLead : Reader S Lead
   readLead s = cond (sees "+" s) (done plus (skip s)) (cond (sees "-" s) (done minus (skip s)) (done bare s))
 
+  -- a term and further terms, after a sign or none; two arguments and the bracket that ends them
+  abbrev pub readSum : Lead → Reader S Term → Reader S Terms → Reader S Expr
+  readSum l readFirst readRest = do
+    t ← readFirst
+    ts ← readRest
+    yield (expr l t ts)
+
+  abbrev pub readPair : {A : Type 0} → Reader S Expr → (Expr → Expr → A) → Reader S A
+  readPair readArgument mk = do
+    a ← readArgument
+    expects ","
+    b ← readArgument
+    expects ")"
+    yield (mk a b)
+
   -- Expressions. f bounds how deep the calls go: three for each token that is left, and four more, are enough.
   unfoldable mutual
     pub readExpr : ℕ → Reader S Expr
     readExpr zero = fail
     readExpr (suc f) = do
       l ← readLead
-      t ← readTerm f
-      ts ← readTerms f
-      yield (expr l t ts)
+      readSum l (readTerm f) (readTerms f)
 
     pub readTerms : ℕ → Reader S Terms
     readTerms zero = fail
@@ -150,11 +164,7 @@ module _ {S : Type 0} (peek : S → Option Token) (skip : S → S) where
           yield (brackets e)) (λ _.
         choose (says "rdiv" s) (λ _. at (skip s) do
           expects "("
-          a ← readExpr f
-          expects ","
-          b ← readExpr f
-          expects ")"
-          yield (rdiv a b)) (λ _. at s do
+          readPair (readExpr f) rdiv) (λ _. at s do
             r ← readRef f
             yield (cell r))))
 
@@ -182,6 +192,13 @@ module _ {S : Type 0} (peek : S → Option Token) (skip : S → S) where
         yield (a ∷ more))
       (λ _. done [] s)
 
+  -- one part, and further ones
+  abbrev pub readList : {A B : Type 0} → ℕ → Reader S A → (A → List A → B) → Reader S B
+  readList f r mk = do
+    a ← r
+    more ← readMore f r
+    yield (mk a more)
+
   -- 1. integer lines
   abbrev pub readDeclared : Reader S Declared
   readDeclared = do
@@ -196,9 +213,7 @@ module _ {S : Type 0} (peek : S → Option Token) (skip : S → S) where
   unfoldable pub readDeclare : ℕ → S → Parsed S Line
   readDeclare f s = at s do
     wants "integer"
-    d ← readDeclared
-    ds ← readMore f readDeclared
-    yield (declare d ds)
+    readList f readDeclared declare
 
   -- 2. data lines
   abbrev pub readSigned : {A : Type 0} → (Lead → List ℕ → A) → Reader S A
@@ -217,74 +232,97 @@ module _ {S : Type 0} (peek : S → Option Token) (skip : S → S) where
         readSigned (item (some r)))
       (λ _. readSigned (item none) s)
 
+  -- what follows `data`
+  abbrev pub readData : {A B : Type 0} → Reader S A → (List ℕ → A → B) → Reader S B
+  readData readItems mk = do
+    x ← readName
+    expects "/"
+    is ← readItems
+    expects "/"
+    yield (mk x is)
+
   unfoldable pub readGive : ℕ → S → Parsed S Line
   readGive f s = at s do
     wants "data"
-    x ← readName
-    expects "/"
-    i ← readItem
-    is ← readMore f readItem
-    expects "/"
-    yield (give x i is)
+    readData (readList f readItem (λ i is. (i, is))) (λ x (i, is). give x i is)
 
   -- 3. the directive, and 7. the closing one
-  abbrev pub readNames : ℕ → Class → Reader S Clause
-  readNames f c = do
-    x ← readName
-    xs ← readMore f readName
-    expects ")"
-    yield (clause c x xs)
 
-  abbrev pub readClause : ℕ → Reader S Clause
-  readClause f s =
+  -- the words and signs before the names of a clause
+  abbrev pub readKind : Reader S ClauseKind
+  readKind s =
       choose (says "shared" s) (λ _. at (skip s) do
         expects "("
-        readNames f shared) (λ _.
+        yield Shared) (λ _.
       choose (says "lastprivate" s) (λ _. at (skip s) do
         expects "("
-        readNames f lastprivate) (λ _. at s do
+        yield Lastprivate) (λ _. at s do
           wants "reduction"
           expects "("
           expects "+"
           expects ":"
-          readNames f reduction))
+          yield Reduction))
 
-  -- clauses up to num_threads or the line's end
+  -- the names, after them
+  abbrev pub readNames : ℕ → ClauseKind → Reader S Clause
+  readNames f k = do
+    x ← readName
+    xs ← readMore f readName
+    expects ")"
+    yield (clause k x xs)
+
+  abbrev pub readListed : ℕ → Reader S Clause
+  readListed f = do
+    k ← readKind
+    readNames f k
+
+  -- what follows `num_threads`
+  abbrev pub readThreads : Reader S (List ℕ)
+  readThreads = do
+    expects "("
+    p ← readDigits
+    expects ")"
+    yield p
+
+  abbrev pub readClause : ℕ → Reader S Clause
+  readClause f s =
+      choose (says "num_threads" s) (λ _. at (skip s) do
+        p ← readThreads
+        yield (threads p)) (λ _. readListed f s)
+
+  -- clauses up to the line's end
   unfoldable pub readClauses : ℕ → S → Parsed S (List Clause)
   readClauses zero s = broken
   readClauses (suc f) s =
-      choose (says "num_threads" s || eqb (kind (peek s)) 0)
+      choose (eqb (kind (peek s)) 0)
       (λ _. done [] s)
       (λ _. at s do
         c ← readClause f
         cs ← readClauses f
         yield (c ∷ cs))
 
-  unfoldable pub readDirective : ℕ → S → Parsed S Line
-  readDirective f s =
-      choose (says "end" (skip s))
-      (λ _. at s do
-        expects "!$omp"
-        wants "end"
-        wants "parallel"
-        wants "do"
-        yield close)
-      (λ _. at s do
-        expects "!$omp"
-        wants "parallel"
-        wants "do"
-        a ← readClauses f
-        wants "num_threads"
-        expects "("
-        p ← readDigits
-        expects ")"
-        b ← readClauses f
-        yield (direct a p b))
-
-  -- 4. do
-  unfoldable pub readLoop : ℕ → S → Parsed S Line
-  readLoop f s = at s do
+  abbrev pub readOpening : ℕ → Reader S Line
+  readOpening f = do
+    expects "!$omp"
+    wants "parallel"
     wants "do"
+    cs ← readClauses f
+    yield (direct cs)
+
+  abbrev pub readClosing : Reader S Line
+  readClosing = do
+    expects "!$omp"
+    wants "end"
+    wants "parallel"
+    wants "do"
+    yield close
+
+  unfoldable pub readDirective : ℕ → S → Parsed S Line
+  readDirective f s = choose (says "end" (skip s)) (λ _. readClosing s) (λ _. readOpening f s)
+
+  -- 4. do: the name and the bounds
+  abbrev pub readBounds : {A : Type 0} → (List ℕ → Lead → List ℕ → Lead → List ℕ → A) → Reader S A
+  readBounds mk = do
     v ← readName
     expects "="
     l ← readLead
@@ -292,7 +330,12 @@ module _ {S : Type 0} (peek : S → Option Token) (skip : S → S) where
     expects ","
     k ← readLead
     n ← readDigits
-    yield (loop v l m k n)
+    yield (mk v l m k n)
+
+  unfoldable pub readLoop : ℕ → S → Parsed S Line
+  readLoop f s = at s do
+    wants "do"
+    readBounds loop
 
   -- 5. statements
   unfoldable pub readAssign : ℕ → S → Parsed S Line
@@ -302,16 +345,21 @@ module _ {S : Type 0} (peek : S → Option Token) (skip : S → S) where
     e ← readExpr f
     yield (inside (assign r e))
 
+  -- what follows the left side of a condition
+  abbrev pub readCompared : {A : Type 0} → Reader S Expr → (Relation → Expr → A) → Reader S A
+  readCompared readSide mk = do
+    r ← readRel
+    b ← readSide
+    expects ")"
+    wants "then"
+    yield (mk r b)
+
   unfoldable pub readWhen : ℕ → S → Parsed S Line
   readWhen f s = at s do
     wants "if"
     expects "("
     a ← readExpr f
-    r ← readRel
-    b ← readExpr f
-    expects ")"
-    wants "then"
-    yield (inside (when a r b))
+    readCompared (readExpr f) (λ r b. inside (when a r b))
 
   -- `end if` and 6. `end do`
   unfoldable pub readEnd : ℕ → S → Parsed S Line

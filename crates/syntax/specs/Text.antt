@@ -35,14 +35,14 @@ abbrev pub is-last : List (List ℕ) → Bool
 is-last [] = true
 is-last (l ∷ ls) = false
 
-abbrev pub go-on : Verdict → (State → Verdict) → Verdict
-go-on (refused n k) f = refused n k
-go-on (good s) f = f s
+abbrev pub then-judge : Verdict → (State → Verdict) → Verdict
+then-judge (refused n k) f = refused n k
+then-judge (good s) f = f s
 
 -- "the first bad line counts": the lines from line k on
 unfoldable pub judge : ℕ → State → List (List ℕ) → Verdict
 judge k s [] = good s
-judge k s (l ∷ ls) = go-on (judge-line k (is-last ls) s l) (λ t. judge (suc k) t ls)
+judge k s (l ∷ ls) = then-judge (judge-line k (is-last ls) s l) (λ t. judge (suc k) t ls)
 
 -- "Number 1 is tested first": "text over 2,048 bytes"
 unfoldable pub read : List ℕ → Verdict

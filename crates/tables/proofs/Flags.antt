@@ -6,7 +6,8 @@ use native.Mathlib.Omega.{arith}
 use Rattle.rules.specs.Choose.{pick}
 use Rattle.rules.specs.ChooseLaws.{pick-same, pick-other}
 use Rattle.rules.specs.Loop.{Class}
-use Rattle.tables.specs.Layout.{class-number, bit, flags-of}
+use Rattle.rules.specs.Numbers.{class-number}
+use Rattle.tables.specs.Layout.{bit, flags-of}
 
 pub bit-most : (b : Bool) → bit b ≤ 1
 bit-most true = omega arith

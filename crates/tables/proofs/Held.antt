@@ -69,14 +69,16 @@ module _ (W W′ : List ℕ) where
     abbrev changed-row : Row
     changed-row = record { met = m; writers = w; crossed = cr; updated = up; own = put (r .own) q o }
 
-    pub row-changed : getD W′ row 0 ≡ getD W row 0 → getD W′ (row + 1) 0 ≡ m → getD W′ (row + 2) 0 ≡ w → getD W′ (row + 3) 0 ≡ flags-of k cr up → OwnHeld W′ (own-at row q) o
+    pub row-changed : getD W′ row 0 ≡ getD W row 0 → getD W′ (row + 1) 0 ≡ m → getD W′ (row + 2) 0 ≡ w → getD W′ (row + 3) 0 ≡ flags-of k cr up
+        → OwnHeld W′ (own-at row q) o
         → ((j : ℕ) → row + 4 ≤ j → Outside j (own-at row q) (own-at row q + 5) → getD W′ j 0 ≡ getD W j 0) → RowHeld p k e W′ row changed-row
     row-changed he hm hw hf ho h = record { entry = ap value he ∙ x .entry; met = hm; writers = hw; flags = hf; own = own }
       where
         own : (s : ℕ) → s < p → OwnHeld W′ (own-at row s) (put (r .own) q o s)
         own s b = elim (ℕ-discrete q s) [
           | yes y ↦ subst (λ (u : Own). OwnHeld W′ (own-at row s) u) (sym (put-same y (r .own) o)) (subst (λ (u : ℕ). OwnHeld W′ (own-at row u) o) y ho)
-          | no y ↦ subst (λ (u : Own). OwnHeld W′ (own-at row s) u) (sym (put-other y (r .own) o)) (own-kept (own-at row s) (r .own s) (λ j a c. h j (omega arith) (away s y j a c)) (x .own s b))
+          | no y ↦ subst (λ (u : Own). OwnHeld W′ (own-at row s) u) (sym (put-other y (r .own) o))
+              (own-kept (own-at row s) (r .own s) (λ j a c. h j (omega arith) (away s y j a c)) (x .own s b))
         ]
           where
             away : (s : ℕ) → (q ≡ s → ⊥) → (j : ℕ) → own-at row s ≤ j → j < own-at row s + 5 → Outside j (own-at row q) (own-at row q + 5)
@@ -84,16 +86,20 @@ module _ (W W′ : List ℕ) where
 
   -- ---- the tables with it
 
-  module _ (n p : ℕ) (class : ℕ → Class) (entry : ℕ → ℤ) (t : Tables) (h : Holds n p class entry W t) (c : ℕ) (b : c < n) (l : length W′ ≡ length W) (r : Row) (x : RowHeld p (class c) (entry c) W′ (row-at p c) r)
+  module _ (n p : ℕ) (class : ℕ → Class) (entry : ℕ → ℤ) (t : Tables) (h : Holds n p class entry W t) (c : ℕ) (b : c < n) (l : length W′ ≡ length W)
+      (r : Row) (x : RowHeld p (class c) (entry c) W′ (row-at p c) r)
       (o : (k : ℕ) → 2 ≤ k → Outside k (row-at p c) (row-at p c + (4 + 5 * p)) → getD W′ k 0 ≡ getD W k 0) where
     changed : (d : ℕ) → d < n → RowHeld p (class d) (entry d) W′ (row-at p d) (put (t .rows) c r d)
     changed d a = elim (ℕ-discrete c d) [
-      | yes y ↦ subst (λ (u : Row). RowHeld p (class d) (entry d) W′ (row-at p d) u) (sym (put-same y (t .rows) r)) (subst (λ (u : ℕ). RowHeld p (class u) (entry u) W′ (row-at p u) r) y x)
-      | no y ↦ subst (λ (u : Row). RowHeld p (class d) (entry d) W′ (row-at p d) u) (sym (put-other y (t .rows) r)) (row-kept p (class d) (entry d) (row-at p d) (t .rows d) (λ k f g. o k (omega arith) (away d y k f g)) (h .rows d a))
+      | yes y ↦ subst (λ (u : Row). RowHeld p (class d) (entry d) W′ (row-at p d) u) (sym (put-same y (t .rows) r))
+          (subst (λ (u : ℕ). RowHeld p (class u) (entry u) W′ (row-at p u) r) y x)
+      | no y ↦ subst (λ (u : Row). RowHeld p (class d) (entry d) W′ (row-at p d) u) (sym (put-other y (t .rows) r))
+          (row-kept p (class d) (entry d) (row-at p d) (t .rows d) (λ k f g. o k (omega arith) (away d y k f g)) (h .rows d a))
     ]
       where
         away : (d : ℕ) → (c ≡ d → ⊥) → (k : ℕ) → row-at p d ≤ k → k < row-at p d + (4 + 5 * p) → Outside k (row-at p c) (row-at p c + (4 + 5 * p))
         away d m k f g = elim (decLt d c) [ yes y ↦ inl (omega (arith, rows-apart p d c y)) | no y ↦ inr (omega (arith, rows-apart p c d (omega arith))) ]
 
-    pub holds-changed : (ps cs : ℕ) → getD W′ 0 0 ≡ ps → getD W′ 1 0 ≡ cs → Holds n p class entry W′ (record { rows = put (t .rows) c r; pairs = ps; cells = cs })
+    pub holds-changed : (ps cs : ℕ) → getD W′ 0 0 ≡ ps → getD W′ 1 0 ≡ cs
+        → Holds n p class entry W′ (record { rows = put (t .rows) c r; pairs = ps; cells = cs })
     holds-changed ps cs f g = record { size = omega (arith, l, h .size); pairs = f; cells = g; rows = changed }

@@ -6,16 +6,13 @@ use lib.IntN.{ℤ, pos}
 use Rattle.int32.specs.Integers.{sum}
 use Rattle.rules.specs.Loop.{Loop, Partition}
 use Rattle.rules.specs.Log.{Log}
-use Rattle.rules.proofs.TrialRun.{whose}
-use Rattle.shadow.specs.Tables.{tables}
-use Rattle.shadow.proofs.Shows.{table}
-use Rattle.tables.specs.Layout.{row-at, class-number, class-word, Holds}
+use Rattle.rules.specs.Owner.{whose}
+use Rattle.rules.specs.Numbers.{class-number}
+use Rattle.shadow.specs.Tables.{tables, table}
+use Rattle.tables.specs.Logged.{Logged}
+use Rattle.tables.specs.Layout.{row-at, class-word, Holds}
 use Rattle.tables.proofs.Flags.{flags-class}
 use Rattle.tables.proofs.Start.{Begun, holds-blank}
-
-module _ (l : Loop) (δ : Partition) where
-  abbrev pub Logged : Log → List ℕ → Type 0
-  Logged g W = Holds (l .size) (δ .processors) (l .class) (l .entry) W (table l δ g)
 
 -- cells are 32-bit numbers
 module _ (l : Loop) (δ : Partition) (f : l .plus ≡ sum) (z : l .zero ≡ pos 0) where

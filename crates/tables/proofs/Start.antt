@@ -13,8 +13,9 @@ use lib.IntN.{ℤ, pos}
 use Rattle.int32.specs.Integers.{value, sum}
 use Rattle.int32.proofs.Laws.{value-word}
 use Rattle.rules.specs.Loop.{Class}
+use Rattle.rules.specs.Numbers.{class-number}
 use Rattle.shadow.specs.Tables.{Row, blank, tables}
-use Rattle.tables.specs.Layout.{row-at, own-at, class-number, flags-of, OwnHeld, RowHeld, Holds}
+use Rattle.tables.specs.Layout.{row-at, own-at, flags-of, OwnHeld, RowHeld, Holds}
 use Rattle.tables.specs.Entered.{entered}
 use Rattle.tables.proofs.Words.{entered-length, entered-value, entered-met, entered-writers, entered-flags, entered-other}
 use Rattle.tables.proofs.Held.{rows-apart, row-kept}
@@ -69,19 +70,23 @@ module _ (n p : ℕ) (class : ℕ → Class) (entry : ℕ → ℤ) where
       entry = ap value (entered-value W row (entry k) (class-number (class k)) fits) ∙ value-word (entry k) f;
       met = entered-met W row (entry k) (class-number (class k)) fits;
       writers = entered-writers W row (entry k) (class-number (class k)) fits;
-      flags = entered-flags W row (entry k) (class-number (class k)) fits ∙ (let e : 4 * class-number (class k) ≡ flags-of (class k) false false = omega arith in e);
+      flags =
+          entered-flags W row (entry k) (class-number (class k)) fits
+          ∙ (let e : 4 * class-number (class k) ≡ flags-of (class k) false false = omega arith in e);
       own = λ q l. zero-own W′ (own-at row q) (λ j y. other j (inr (omega arith)) ∙ h .rest j (inr (omega arith)));
     }
 
     rows-more : (c : ℕ) → c < suc k → RowHeld p (class c) (entry c) W′ (row-at p c) none-noted
     rows-more c l = elim (ℕ-discrete c k) [
       | yes e ↦ subst (λ (x : ℕ). RowHeld p (class x) (entry x) W′ (row-at p x) none-noted) (sym e) new-row
-      | no m ↦ row-kept W W′ p (class c) (entry c) (row-at p c) none-noted (λ j y z. other j (inl (omega (arith, rows-apart p c k (omega arith))))) (h .rows c (omega arith))
+      | no m ↦ row-kept W W′ p (class c) (entry c) (row-at p c) none-noted (λ j y z. other j (inl (omega (arith, rows-apart p c k (omega arith)))))
+          (h .rows c (omega arith))
     ]
 
     rest-more : (j : ℕ) → (j < 2 ⊎ row-at p (suc k) ≤ j) → getD W′ j 0 ≡ 0
     rest-more j (inl y) = other j (inl (omega arith)) ∙ h .rest j (inl y)
-    rest-more j (inr y) = other j (inr (omega (arith, rows-apart p k (suc k) (omega arith)))) ∙ h .rest j (inr (omega (arith, rows-apart p k (suc k) (omega arith))))
+    rest-more j (inr y) =
+        other j (inr (omega (arith, rows-apart p k (suc k) (omega arith)))) ∙ h .rest j (inr (omega (arith, rows-apart p k (suc k) (omega arith))))
 
     -- one row more
     pub begun-more : Begun n p class entry (suc k) W′

@@ -68,5 +68,9 @@ module _ (W : List ℕ) (row : ℕ) (v : ℤ) (n : ℕ) (h : row + 4 ≤ length 
 
   pub entered-other : (k : ℕ) → (k < row ⊎ row + 4 ≤ k) → getD (entered W row v n) k 0 ≡ getD W k 0
   unfolding entered
-  entered-other k (inl a) = unset enter3 (row + 3) k _ (omega arith) ∙ unset enter2 (row + 2) k _ (omega arith) ∙ unset enter1 (row + 1) k _ (omega arith) ∙ unset W row k _ (omega arith)
-  entered-other k (inr a) = unset enter3 (row + 3) k _ (omega arith) ∙ unset enter2 (row + 2) k _ (omega arith) ∙ unset enter1 (row + 1) k _ (omega arith) ∙ unset W row k _ (omega arith)
+  entered-other k (inl a) =
+      unset enter3 (row + 3) k _ (omega arith) ∙ unset enter2 (row + 2) k _ (omega arith) ∙ unset enter1 (row + 1) k _ (omega arith)
+      ∙ unset W row k _ (omega arith)
+  entered-other k (inr a) =
+      unset enter3 (row + 3) k _ (omega arith) ∙ unset enter2 (row + 2) k _ (omega arith) ∙ unset enter1 (row + 1) k _ (omega arith)
+      ∙ unset W row k _ (omega arith)

@@ -7,7 +7,8 @@ use mathlib.Core.List.{List}
 use Prim.Native.Nat.{ℕ, _+_, _*_, _/_, _≤_, _<_}
 use lib.ListN.{length, getD}
 use lib.IntN.{ℤ}
-use Rattle.rules.specs.Loop.{Class, shared, lastprivate, reduction}
+use Rattle.rules.specs.Loop.{Class}
+use Rattle.rules.specs.Numbers.{class-number}
 use Rattle.shadow.specs.Tables.{Own, Row, Tables}
 use Rattle.int32.specs.Integers as integers
 
@@ -87,12 +88,6 @@ abbrev pub touched-word : List ℕ → ℕ → ℕ
 touched-word W own = getD W (touched-at own) 0
 
 -- ---- flags
-
--- the number of a class
-abbrev pub class-number : Class → ℕ
-class-number shared = 0
-class-number lastprivate = 1
-class-number reduction = 2
 
 -- a mark as a number
 abbrev pub bit : Bool → ℕ

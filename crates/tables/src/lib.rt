@@ -36,13 +36,6 @@ pub const TOUCHED: usize = 4;
 
 pub const OWN: usize = 5;
 
-// The numbers of the classes.
-pub const SHARED: u32 = 0;
-
-pub const LASTPRIVATE: u32 = 1;
-
-pub const REDUCTION: u32 = 2;
-
 // The place of a cell's row.
 pub fn row_of(cell: usize, processors: u32) -> usize
     requires { ⌜ (cell ≤ 4096) × (processors ≤ 8) ⌝ }

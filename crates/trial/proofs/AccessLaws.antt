@@ -17,16 +17,20 @@ use Rattle.rules.specs.Log.{reads, writes, updates, access, only}
 use Rattle.rules.specs.Blocks.{singles}
 use Rattle.rules.specs.Steps.{State, latest, given}
 use Rattle.rules.proofs.TrialRun.{Home, home}
-use Rattle.shadow.proofs.Shows.{worker, table, Shows, tables-right}
-use Rattle.tables.specs.Layout.{row-at, own-at, class-number}
+use Rattle.shadow.proofs.Shows.{Shows, tables-right}
+use Rattle.shadow.specs.Orderly.{worker}
+use Rattle.shadow.specs.Tables.{table}
+use Rattle.tables.specs.Layout.{row-at, own-at}
 use Rattle.noting.specs.Changes.{own-seen}
-use Rattle.tables.proofs.Logged.{Logged, logged-class}
+use Rattle.tables.proofs.Logged.{logged-class}
+use Rattle.tables.specs.Logged.{Logged}
 use Rattle.noting.proofs.Logging.{logged-read, logged-write, logged-update, logged-ready, logged-own}
 use Rattle.stepping.specs.declared.Manner.the-variants.{ByClass}
 use Rattle.stepping.specs.declared.Role.{Role}
 use Rattle.stepping.specs.Access.{Accessible, seen-by, stored-by, seen, read-words, stored, written-words, updated-words}
 use Rattle.trial.specs.Standing.{dealt, Standing}
 use Rattle.rules.specs.Steps as steps
+use Rattle.rules.specs.Numbers.{class-number}
 
 -- processor p, at iteration i, may access cell c
 pub record Allowed (k : ℕ) (l : Loop) (M : List ℤ) (W : List ℕ) (s : State) (p i c : ℕ) : Type 0 where
@@ -50,12 +54,14 @@ listed-set n f c v h =
     ])
 
 -- a class by its number
-seen-as : (l : Loop) (δ : Partition) (s : State) (i c : ℕ) (k : Class) (x : ℤ) → x ≡ s .cells c → (y : ℤ) → y ≡ latest l c (only (δ .group) (δ .group i) (s .log)) → pick (class-number k) 0 x y ≡ given l δ k s i c
+seen-as : (l : Loop) (δ : Partition) (s : State) (i c : ℕ) (k : Class) (x : ℤ) → x ≡ s .cells c → (y : ℤ)
+    → y ≡ latest l c (only (δ .group) (δ .group i) (s .log)) → pick (class-number k) 0 x y ≡ given l δ k s i c
 seen-as l δ s i c shared x e y f = pick-same refl x y ∙ e
 seen-as l δ s i c lastprivate x e y f = pick-other {i = 1} {j = 0} (omega arith) x y ∙ f
 seen-as l δ s i c reduction x e y f = pick-other {i = 2} {j = 0} (omega arith) x y ∙ f
 
-stored-as : (n : ℕ) (f : ℕ → ℤ) (c : ℕ) (v : ℤ) (k : Class) (M : List ℤ) → M ≡ listed n f → c < n → pick (class-number k) 0 (set M c v) M ≡ listed n (steps.stored k f c v)
+stored-as : (n : ℕ) (f : ℕ → ℤ) (c : ℕ) (v : ℤ) (k : Class) (M : List ℤ) → M ≡ listed n f → c < n
+    → pick (class-number k) 0 (set M c v) M ≡ listed n (steps.stored k f c v)
 stored-as n f c v shared M e b = pick-same refl (set M c v) M ∙ ap (λ (m : List ℤ). set m c v) e ∙ listed-set n f c v b
 stored-as n f c v lastprivate M e b = pick-other {i = 1} {j = 0} (omega arith) (set M c v) M ∙ e
 stored-as n f c v reduction M e b = pick-other {i = 2} {j = 0} (omega arith) (set M c v) M ∙ e
@@ -91,7 +97,8 @@ module _ (k : ℕ) (l : Loop) (M : List ℤ) (W : List ℕ) (s : State) (p i c :
         few = u .most;
         low = omega (arith, a .inside, u .cells-most);
         inside = omega (arith, a .inside, ap length (t .cells), listed-length (l .size) (s .cells));
-        ready = logged-ready l δ (s .log) W (t .words) (u .proper) (t .orderly .inside) (t .orderly .ascending) (u .cells-most) (u .iterations-most) (u .iterations-most) c p (a .inside) (a .low);
+        ready = logged-ready l δ (s .log) W (t .words) (u .proper) (t .orderly .inside) (t .orderly .ascending) (u .cells-most) (u .iterations-most)
+            (u .iterations-most) c p (a .inside) (a .low);
       }
 
   -- what is read

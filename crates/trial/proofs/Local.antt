@@ -1,4 +1,5 @@
--- A `Worker` in a local: its cell is what `denote.Lend`'s `lends-ref` lends, and what `ref-back` gives is its cell. A `Worker` is plain data: what it owns is had for nothing.
+-- A `Worker` in a local: its cell is what `denote.Lend`'s `lends-ref` lends, and what `ref-back` gives is its cell. A `Worker` is plain data: what it
+-- owns is had for nothing.
 -- Assumes `Given`.
 use mathlib.Core.List.{List, [], _∷_}
 use Prim.Native.Nat.{ℕ}
@@ -26,12 +27,17 @@ module _ {M : Type 1} (𝓤 : URA M) (H : Heap 𝓤) (A : Atoms 𝓤) (W : Given
   pub lies-in : Is T.the-row h (mach h ∷ []) → ent 𝓤 (H .at fullShare T′.mir b o (mach h)) (sem 𝓤 H A (mem T.the-row .lies h b o))
   unfolding partOf
   lies-in is =
-      qed W (‵ (fat fullShare T′.mir b o (mach h)) ∷ []) ∵ use1 W (‵ (cellAt fullShare (T.the-row .mir) (mach h ∷ []) b o)) (W .laws .at-raw fullShare T′.mir b o (mach h)) $
-      owned ! T.the-row (Is T.the-row) (LL.makes T.the-type T′.the-plain 𝓤 H A) h _ is $ move ! (1 ∷ 0 ∷ []) $ fjoin ! $ fpack ! (List Val) (λ us. fsep (cellAt fullShare (T.the-row .mir) us b o) (T.the-row .own h us)) (mach h ∷ []) $ done !
+      qed W (‵ (fat fullShare T′.mir b o (mach h)) ∷ []) ∵
+      use1 W (‵ (cellAt fullShare (T.the-row .mir) (mach h ∷ []) b o)) (W .laws .at-raw fullShare T′.mir b o (mach h)) $
+      owned ! T.the-row (Is T.the-row) (LL.makes T.the-type T′.the-plain 𝓤 H A) h _ is $ move ! (1 ∷ 0 ∷ []) $ fjoin ! $
+      fpack ! (List Val) (λ us. fsep (cellAt fullShare (T.the-row .mir) us b o) (T.the-row .own h us)) (mach h ∷ []) $ done !
 
   pub lies-out : ent 𝓤 (sem 𝓤 H A (mem T.the-row .lies h b o)) (guard 𝓤 (Is T.the-row h (mach h ∷ [])) (H .at fullShare T′.mir b o (mach h)))
   unfolding partOf
   lies-out =
-      qed W (‵ (mem T.the-row .lies h b o) ∷ []) ∵ fpick ! (λ vs. fsplit ! $ spelt ! T.the-row (Is T.the-row) (shows 𝓤 H A T.the-row) (LL.vals T.the-type T′.the-laws) (LL.tells T.the-type T′.the-laws) fullShare h vs b o $
+      qed W (‵ (mem T.the-row .lies h b o) ∷ []) ∵
+      fpick ! (λ vs. fsplit ! $
+      spelt ! T.the-row (Is T.the-row) (shows 𝓤 H A T.the-row) (LL.vals T.the-type T′.the-laws) (LL.tells T.the-type T′.the-laws) fullShare h vs b
+      o $
       move ! (1 ∷ []) $ peeks ! T.the-row (Is T.the-row) (shows 𝓤 H A T.the-row) h (mach h ∷ []) (λ is. drop ! $ check ! is $
       use1 W (‵ (fat fullShare T′.mir b o (mach h))) (W .laws .raw-at fullShare T′.mir b o (mach h)) $ done !))

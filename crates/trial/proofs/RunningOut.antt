@@ -48,7 +48,8 @@ module _ (l : Loop) (δ : Partition) (p : ℕ) where
     abbrev s′ : State
     s′ = step l δ p s
 
-    again : (a b : Act) → s .places p .act ≡ a → through l δ p a s ≡ through l δ p b s′ → s′ .places p ≡ record { at = s .places p .at; act = b } → run-out l δ p s ≡ run-out l δ p s′
+    again : (a b : Act) → s .places p .act ≡ a → through l δ p a s ≡ through l δ p b s′ → s′ .places p ≡ record { at = s .places p .at; act = b }
+        → run-out l δ p s ≡ run-out l δ p s′
     unfolding run-out through-all
     again a b e f g =
         let n = bound δ (suc p) - suc (s .places p .at) in
@@ -65,7 +66,8 @@ module _ (l : Loop) (δ : Partition) (p : ℕ) where
     ended e =
         let n = bound δ (suc p) - suc (s .places p .at) in
         let x : bound δ (suc p) - s .places p .at ≡ suc n = omega arith in
-        let g : s′ .places p ≡ opening l (suc (s .places p .at)) = ap (λ (u : State). u .places p) (step-is l δ p s done lt e) ∙ put-same {i = p} refl (s .places) (opening l (suc (s .places p .at))) in
+        let g : s′ .places p ≡ opening l (suc (s .places p .at)) =
+        ap (λ (u : State). u .places p) (step-is l δ p s done lt e) ∙ put-same {i = p} refl (s .places) (opening l (suc (s .places p .at))) in
         ap (λ (j : ℕ). through-all l δ j p s) x
         ∙ ap (λ (c : Act). through-all l δ n p (through l δ p c s)) e
         ∙ ap (λ (w : Place). through-all l δ (bound δ (suc p) - w .at) p s′) (sym g)
@@ -122,7 +124,8 @@ module _ (code : List ℕ) (g : Setting) (l : Loop) (p : ℕ) where
       by : (z .point .fault ≢ 0) ⊎ (blockStart (g .iterations) (g .processors) (suc p) ≤ z .point .iteration .0) → run-out l δ p s ≡ s
       by (inr h) = run-out-finished l δ p s (omega (arith, turn-end code g l (z .cells) (z .words) s p (joined (z .pending) (z .point)) t, t .held .at))
       by (inl n) = elim (decLt (s .places p .at) (bound δ (suc p))) [
-        | yes y ↦ run-out-stopped l δ p s (z .point .fault) (z .point .line) (turn-fault code g l (z .cells) (z .words) s p (joined (z .pending) (z .point)) t n y)
+        | yes y ↦ run-out-stopped l δ p s (z .point .fault) (z .point .line)
+            (turn-fault code g l (z .cells) (z .words) s p (joined (z .pending) (z .point)) t n y)
         | no y ↦ run-out-finished l δ p s (omega arith)
       ]
 
@@ -158,7 +161,8 @@ module _ (code : List ℕ) (g : Setting) (l : Loop) (p : ℕ) where
   unfolding Ends carrying.Carries
   carried-ends k r q z z′ h = by k (rw q at h)
     where
-      over : (z′ .point .fault ≢ 0) ⊎ (blockStart (g .iterations) (g .processors) (suc p) ≤ z′ .point .iteration .0) → Over g p (joined (z′ .pending) (z′ .point))
+      over : (z′ .point .fault ≢ 0) ⊎ (blockStart (g .iterations) (g .processors) (suc p) ≤ z′ .point .iteration .0)
+          → Over g p (joined (z′ .pending) (z′ .point))
       over (inl n) = inl (omega arith)
       over (inr b) = inr b
 
@@ -167,7 +171,8 @@ module _ (code : List ℕ) (g : Setting) (l : Loop) (p : ℕ) where
       by ToTheEnd (y, o) = over (opened-no (z′ .point) (blockStart (g .iterations) (g .processors) (suc p)) o)
 
 -- one processor more is over
-pub over-more : (g : Setting) (ws : List Worker) (q : ℕ) (x : Worker) → q < length ws → ((j : ℕ) → j < q → Over g j (getD ws j nobody)) → Over g q x → (j : ℕ) → j < suc q → Over g j (getD (set ws q x) j nobody)
+pub over-more : (g : Setting) (ws : List Worker) (q : ℕ) (x : Worker) → q < length ws → ((j : ℕ) → j < q → Over g j (getD ws j nobody)) → Over g q x
+    → (j : ℕ) → j < suc q → Over g j (getD (set ws q x) j nobody)
 over-more g ws q x b h o j c = elim (ℕ-discrete j q) [
   | yes e ↦ rw (e, getD-set-same ws q x nobody b) o
   | no n ↦ rw (getD-set-other ws q j x nobody n) (h j (omega arith))

@@ -11,14 +11,15 @@ use Rattle.rules.specs.Blocks.{singles}
 use Rattle.rules.specs.Steps.{State}
 use Rattle.tables.specs.Layout.{row-at}
 use Rattle.tables.proofs.Held.{rows-apart}
-use Rattle.trial.specs.Standing.{Standing}
+use Rattle.trial.specs.Standing.{Suits, Standing}
+
+-- how many cells and processors there are at most
+pub suits-low : {k n : ℕ} {l : Loop} → Suits k l → n ≡ l .size → (c : ℕ) → c < n → (c ≤ 4096) × (k ≤ 8)
+suits-low u e c b = (omega (arith, e, u .cells-most), u .most)
 
 module _ (k : ℕ) (l : Loop) (M : List ℤ) (W : List ℕ) (s : State) (h : Standing k l M W s) where
   pub standing-size : length M ≡ l .size
   standing-size = ap length (h .cells) ∙ listed-length (l .size) (s .cells)
-
-  pub standing-low : (c : ℕ) → c < length M → (c ≤ 4096) × (k ≤ 8)
-  standing-low c b = let u = h .suits in (omega (arith, standing-size, u .cells-most), u .most)
 
   pub standing-room : (c : ℕ) → c < length M → row-at k c + 4 + 5 * k ≤ length W
   unfolding singles

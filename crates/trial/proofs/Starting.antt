@@ -10,17 +10,19 @@ use lib.IntN.{ℤ}
 use mir.Syntax.{w32}
 use mir.Val.{SFits}
 use Rattle.rules.specs.ChooseLaws.{pick-same}
-use Rattle.rules.specs.Cells.{cellOf, listed}
+use Rattle.rules.specs.Cells.{cellOf}
 use Rattle.rules.proofs.CellsLaws.{listed-length, cell-listed}
 use Rattle.rules.specs.Loop.{fault, Class, shared, lastprivate, reduction, Loop, bound}
 use Rattle.rules.specs.Blocks.{blockStart, singles}
 use Rattle.rules.specs.Steps.{start}
+use Rattle.rules.specs.Numbers.{class-number}
 use Rattle.shadow.proofs.Orderly.{start-orderly}
-use Rattle.tables.specs.Layout.{row-at, class-number}
+use Rattle.tables.specs.Layout.{row-at}
 use Rattle.tables.specs.Entered.{entered}
 use Rattle.tables.proofs.Held.{rows-apart}
 use Rattle.tables.proofs.Start.{Begun, begun-clear, begun-more}
-use Rattle.tables.proofs.Logged.{Logged, logged-nil}
+use Rattle.tables.proofs.Logged.{logged-nil}
+use Rattle.tables.specs.Logged.{Logged}
 use Rattle.operands.specs.Pending.{pendings}
 use Rattle.trial.specs.declared.Worker.{Worker}
 use Rattle.trial.specs.declared.Setting.{Setting}
@@ -41,9 +43,6 @@ module _ (k : ℕ) (l : Loop) (M : List ℤ) (C : List ℕ) (n : ℕ) (h : Entry
   pub entry-size : length M ≡ l .size
   entry-size = ap length (h .cells) ∙ listed-length (l .size) (l .entry)
 
-  pub entry-low : (c : ℕ) → c < length M → (c ≤ 4096) × (k ≤ 8)
-  entry-low c b = let u = h .suits in (omega (arith, entry-size, u .cells-most), u .most)
-
   pub entry-class : (c : ℕ) → c < length M → (c < length C) × (getD C c 0 ≤ 2)
   entry-class c b =
       let x : c < l .size = omega (arith, entry-size) in
@@ -56,7 +55,8 @@ module _ (k : ℕ) (l : Loop) (M : List ℤ) (C : List ℕ) (n : ℕ) (h : Entry
   entry-clear = begun-clear (l .size) k (l .class) (l .entry) n (h .room)
 
   -- one cell more
-  pub entry-more : (c : ℕ) (W : List ℕ) → c < length M → SFits w32 (cellOf M c) → Begun (l .size) k (l .class) (l .entry) c W → Begun (l .size) k (l .class) (l .entry) (suc c) (entered W (row-at k c) (cellOf M c) (getD C c 0))
+  pub entry-more : (c : ℕ) (W : List ℕ) → c < length M → SFits w32 (cellOf M c) → Begun (l .size) k (l .class) (l .entry) c W
+      → Begun (l .size) k (l .class) (l .entry) (suc c) (entered W (row-at k c) (cellOf M c) (getD C c 0))
   entry-more c W b f x =
       let lt : c < l .size = omega (arith, entry-size) in
       let e : cellOf M c ≡ l .entry c = ap (λ (m : List ℤ). cellOf m c) (h .cells) ∙ cell-listed (l .size) (l .entry) c lt in
@@ -64,18 +64,21 @@ module _ (k : ℕ) (l : Loop) (M : List ℤ) (C : List ℕ) (n : ℕ) (h : Entry
 
   pub entry-all : (c : ℕ) (W : List ℕ) → c ≡ length M → Begun (l .size) k (l .class) (l .entry) c W → Logged l (dealt l k) [] W
   unfolding singles
-  entry-all c W e x = logged-nil l (dealt l k) (h .suits .plus) (h .suits .nought) W (subst (λ (d : ℕ). Begun (l .size) k (l .class) (l .entry) d W) (e ∙ entry-size) x)
+  entry-all c W e x = logged-nil l (dealt l k) (h .suits .plus) (h .suits .nought) W
+      (subst (λ (d : ℕ). Begun (l .size) k (l .class) (l .entry) d W) (e ∙ entry-size) x)
 
 -- ---- the records
 
 -- one record more
-pub crew-more : (ws : List Worker) (q : ℕ) (f : ℕ → Worker) → q < length ws → ((j : ℕ) → j < q → getD ws j nobody ≡ f j) → (j : ℕ) → j < suc q → getD (set ws q (f q)) j nobody ≡ f j
+pub crew-more : (ws : List Worker) (q : ℕ) (f : ℕ → Worker) → q < length ws → ((j : ℕ) → j < q → getD ws j nobody ≡ f j) → (j : ℕ) → j < suc q
+    → getD (set ws q (f q)) j nobody ≡ f j
 crew-more ws q f b h j c = elim (ℕ-discrete j q) [
   | yes e ↦ rw e (getD-set-same ws q (f q) nobody b)
   | no n ↦ getD-set-other ws q j (f q) nobody n ∙ h j (omega arith)
 ]
 
-pub starts-run : (code : List ℕ) (g : Setting) (l : Loop) (M : List ℤ) (C : List ℕ) (n : ℕ) → Starts code g l M C n → (W : List ℕ) (ws : List Worker) → Logged l (dealt l (g .processors)) [] W → Crew g ws → Run code g l M W ws (start l (dealt l (g .processors)))
+pub starts-run : (code : List ℕ) (g : Setting) (l : Loop) (M : List ℤ) (C : List ℕ) (n : ℕ) → Starts code g l M C n → (W : List ℕ) (ws : List Worker)
+    → Logged l (dealt l (g .processors)) [] W → Crew g ws → Run code g l M W ws (start l (dealt l (g .processors)))
 unfolding left-of pendings
 starts-run code g l M C n h W ws t r = record {
   running = record {
@@ -98,9 +101,3 @@ starts-run code g l M C n h W ws t r = record {
       });
   halted = λ q b x. absurd (omega (arith, x, ap (λ (y : Worker). y .fault) (r q b)));
 }
-
--- a run may begin anew once the cells are as at entry
-pub starts-again : (code : List ℕ) (g : Setting) (l : Loop) (M : List ℤ) (C : List ℕ) (n : ℕ) → Starts code g l M C n → (M′ : List ℤ) → M′ ≡ listed (l .size) (l .entry) → Starts code g l M′ C n
-starts-again code g l M C n h M′ x =
-    let e = h .entry in
-    record { coded = h .coded; iterations = h .iterations; entry = record { suits = e .suits; cells = x; number = e .number; classes = e .classes; room = e .room } }

@@ -15,19 +15,15 @@ use Rattle.rules.specs.Proper.{Sized}
 use Rattle.rules.specs.Steps.{State, opening, moved, given, stored, go-on, step}
 use Rattle.rules.proofs.TrialRun.{Home, home}
 use Rattle.shadow.proofs.Orderly.{step-keeps}
-use Rattle.tables.proofs.Logged.{Logged}
+use Rattle.tables.specs.Logged.{Logged}
 use Rattle.code.specs.Instr.{instructions, resume}
-use Rattle.operands.specs.declared.Move.{Move}
-use Rattle.operands.specs.declared.Move.the-variants.{Read, Write, Update, Fault, End}
-use Rattle.machine.specs.declared.Advanced.{Advanced}
 use Rattle.operands.specs.Pending.{pendings}
-use Rattle.operands.specs.Performing.{left}
 use Rattle.stepping.specs.declared.Manner.the-variants.{ByClass}
 use Rattle.stepping.specs.declared.Point.{Point}
 use Rattle.stepping.specs.declared.Role.{Role}
 use Rattle.stepping.specs.Access.{added-by}
-use Rattle.stepping.specs.Step.{Scene, scene, Comes, CanMove, CanGo, Goes}
-use Rattle.stepping.proofs.Happening.{rest, Continues, Happens, happens}
+use Rattle.stepping.specs.Step.{Scene, scene, CanGo, Goes}
+use Rattle.stepping.proofs.Happening.{rest, can-reach, Continues, Happens, happens}
 use Rattle.stepping.proofs.Happening as happening
 use Rattle.trial.specs.Standing.{dealt, Standing, Placed, left-of, Open}
 use Rattle.trial.proofs.AccessLaws.{Allowed, access-accessible, access-seen, access-stored, access-reads, access-writes, access-updates}
@@ -68,7 +64,8 @@ module _ (l : Loop) (δ : Partition) (p : ℕ) (s : State) where
 
 -- ---- what things stand for after it
 
-module _ (code : List ℕ) (m : ℤ) (k : ℕ) (l : Loop) (M : List ℤ) (W : List ℕ) (s : State) (p : ℕ) (a : List ℤ) (t : Point) (o : Open code m k l M W s p a t) (e : ℕ) where
+module _ (code : List ℕ) (m : ℤ) (k : ℕ) (l : Loop) (M : List ℤ) (W : List ℕ) (s : State) (p : ℕ) (a : List ℤ) (t : Point)
+    (o : Open code m k l M W s p a t) (e : ℕ) where
   abbrev δ : Partition
   δ = dealt l k
 
@@ -107,27 +104,20 @@ module _ (code : List ℕ) (m : ℤ) (k : ℕ) (l : Loop) (M : List ℤ) (W : Li
 
   -- the step can be made
   pub open-goes : CanGo x code z
-  unfolding CanMove left
   open-goes = record {
     holding = o .placed .holding;
     low = omega (arith, here .inside, o .standing .suits .iterations-most);
     fits = o .coded .fits i (here .inside);
-    reach = λ b r h. reach b r h (r .done) refl;
+    reach = can-reach x code z (l .size) (sized _ refl) (λ c y. access-accessible k l M W s p i c (allowed c y) m e);
   }
-    where
-      reach : (b : List ℤ) (r : Advanced) → Comes x code z b r → (w : Move) → r .done ≡ w → CanMove x (z .cells) (z .words) (r .done)
-      reach b r h (Read c) q = let y = sized _ (rw q at (h .meaning)) in rw q (access-accessible k l M W s p i c (allowed c (y .0)) m e)
-      reach b r h (Write c v) q = let y = sized _ (rw q at (h .meaning)) in rw q (access-accessible k l M W s p i c (allowed c (y .0)) m e)
-      reach b r h (Update c v) q = let y = sized _ (rw q at (h .meaning)) in rw q (access-accessible k l M W s p i c (allowed c (y .0)) m e)
-      reach b r h (Fault n d) q = rw q tt
-      reach b r h End q = rw q tt
 
   module _ (z′ : Scene) where
     abbrev After : Type 0
     After = Standing k l (z′ .cells) (z′ .words) (step l δ p s) × Placed code m l (z′ .pending) (z′ .point) (step l δ p s .places p)
 
     -- a step that leads to the state u
-    after : (u : State) → step l δ p s ≡ u → z′ .cells ≡ listed (l .size) (u .cells) → Logged l δ (u .log) (z′ .words) → Placed code m l (z′ .pending) (z′ .point) (u .places p) → After
+    after : (u : State) → step l δ p s ≡ u → z′ .cells ≡ listed (l .size) (u .cells) → Logged l δ (u .log) (z′ .words)
+        → Placed code m l (z′ .pending) (z′ .point) (u .places p) → After
     after u q f g h = (
       record {
         suits = o .standing .suits;
@@ -139,7 +129,8 @@ module _ (code : List ℕ) (m : ℤ) (k : ℕ) (l : Loop) (M : List ℤ) (W : Li
     )
 
     -- the record of a processor that goes on with b
-    goes-on : (b : Act) → b ≡ rest x code z′ → Continues z z′ → Placed code m l (z′ .pending) (z′ .point) (put (s .places) p (record { at = s .places p .at; act = b }) p)
+    goes-on : (b : Act) → b ≡ rest x code z′ → Continues z z′
+        → Placed code m l (z′ .pending) (z′ .point) (put (s .places) p (record { at = s .places p .at; act = b }) p)
     unfolding left-of
     goes-on b q c =
         let j : s .places p .at ≡ z′ .point .iteration .0 = o .placed .at ∙ sym (c .same) in
@@ -147,7 +138,9 @@ module _ (code : List ℕ) (m : ℤ) (k : ℕ) (l : Loop) (M : List ℤ) (W : Li
           holding = c .holding;
           at = j;
           lineless = λ _. c .lineless;
-          act = λ _. q ∙ ap (λ (n : ℕ). resume (instructions code) (z′ .point .place) (pendings (z′ .pending) (z′ .point .depth)) (m +ℤ pos n)) (sym j) ∙ sym (pick-same (c .unstopped) _ _);
+          act = λ _. q
+              ∙ ap (λ (n : ℕ). resume (instructions code) (z′ .point .place) (pendings (z′ .pending) (z′ .point .depth)) (m +ℤ pos n)) (sym j)
+              ∙ sym (pick-same (c .unstopped) _ _);
         })
 
     by : Happens x code z z′ → After
@@ -156,14 +149,17 @@ module _ (code : List ℕ) (m : ℤ) (k : ℕ) (l : Loop) (M : List ℤ) (W : Li
         let b = allowed c (sized _ f .0) in
         let v = given l δ (l .class c) s i c in
         let y : rest x code z′ ≡ on v = g ∙ ap on (access-seen k l M W s p i c b m e) in
-        after (moved p (access reads i c v) (on v) (s .cells) s) (step-is l δ p s (read c on) (o .unfinished) (open-act ∙ f) ∙ rw (o .placed .at)) (h ∙ o .standing .cells) (rw w (access-reads k l M W s p i c b m e v)) (goes-on (on v) (sym y) r)
+        after (moved p (access reads i c v) (on v) (s .cells) s) (step-is l δ p s (read c on) (o .unfinished) (open-act ∙ f) ∙ rw (o .placed .at))
+        (h ∙ o .standing .cells) (rw w (access-reads k l M W s p i c b m e v)) (goes-on (on v) (sym y) r)
     by (happening.writes c v y f h w r) =
         let b = allowed c (sized _ f .0) in
-        after (moved p (access writes i c v) (rest x code z′) (stored (l .class c) (s .cells) c v) s) (step-is l δ p s (write c v (rest x code z′)) (o .unfinished) (open-act ∙ f) ∙ rw (o .placed .at))
+        after (moved p (access writes i c v) (rest x code z′) (stored (l .class c) (s .cells) c v) s)
+        (step-is l δ p s (write c v (rest x code z′)) (o .unfinished) (open-act ∙ f) ∙ rw (o .placed .at))
         (h ∙ access-stored k l M W s p i c b m e v) (rw w (access-writes k l M W s p i c b m e v y)) (goes-on _ refl r)
     by (happening.updates c v y f h w r) =
         let b = allowed c (sized _ f .0) in
-        after (moved p (access updates i c v) (rest x code z′) (s .cells) s) (step-is l δ p s (update c v (rest x code z′)) (o .unfinished) (open-act ∙ f) ∙ rw (o .placed .at))
+        after (moved p (access updates i c v) (rest x code z′) (s .cells) s)
+        (step-is l δ p s (update c v (rest x code z′)) (o .unfinished) (open-act ∙ f) ∙ rw (o .placed .at))
         (h ∙ o .standing .cells) (rw w (access-updates k l M W s p i c b m e v)) (goes-on _ refl r)
     by (happening.faults n d y f h w j g u r) =
         after s (step-is l δ p s (fault n d) (o .unfinished) (open-act ∙ f)) (h ∙ o .standing .cells) (rw w (o .standing .words)) (record {
@@ -173,7 +169,8 @@ module _ (code : List ℕ) (m : ℤ) (k : ℕ) (l : Loop) (M : List ℤ) (W : Li
           act = λ _. open-act ∙ f ∙ rw (← g, ← u) (sym (pick-other (omega (arith, g, y)) _ _));
         })
     by (happening.ends f h w j g u q d r) =
-        after (record { cells = s .cells; log = s .log; places = put (s .places) p (opening l (suc i)) }) (step-is l δ p s done (o .unfinished) (open-act ∙ f) ∙ rw (o .placed .at)) (h ∙ o .standing .cells) (rw w (o .standing .words))
+        after (record { cells = s .cells; log = s .log; places = put (s .places) p (opening l (suc i)) })
+        (step-is l δ p s done (o .unfinished) (open-act ∙ f) ∙ rw (o .placed .at)) (h ∙ o .standing .cells) (rw w (o .standing .words))
         (rw (put-same {i = p} refl (s .places) (opening l (suc i))) (record {
           holding = record { size = r; most = omega (arith, d) };
           at = sym j;

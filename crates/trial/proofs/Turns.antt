@@ -44,15 +44,16 @@ module _ (code : List ℕ) (g : Setting) (l : Loop) where
 
     -- where its block ends
     pub turn-end : bound δ (suc p) ≡ blockStart (g .iterations) k (suc p)
-    turn-end = bound-is l k (suc p) (t .running .standing .suits .some) (omega (arith, t .low)) ∙ ap (λ (n : ℕ). blockStart n k (suc p)) (t .running .iterations)
-
-    pub turn-limits : (g .iterations ≤ 65535) × ((0 < k) × (k ≤ 8))
-    turn-limits = let u = t .running .standing .suits in (omega (arith, u .iterations-most, t .running .iterations), (u .some, u .most))
+    turn-end =
+        bound-is l k (suc p) (t .running .standing .suits .some) (omega (arith, t .low))
+        ∙ ap (λ (n : ℕ). blockStart n k (suc p)) (t .running .iterations)
 
     -- what a stopped processor has left
     pub turn-fault : x .fault ≢ 0 → s .places p .at < bound δ (suc p) → s .places p .act ≡ fault (x .fault) (x .line)
     unfolding left-of
-    turn-fault n y = t .held .act (home l δ (t .running .standing .suits .proper) p (s .places p .at) (t .running .standing .orderly .placed p) y .inside) ∙ pick-other n _ _
+    turn-fault n y =
+        t .held .act (home l δ (t .running .standing .suits .proper) p (s .places p .at) (t .running .standing .orderly .placed p) y .inside)
+        ∙ pick-other n _ _
 
     -- what is fixed for it, and where it is
     abbrev role : Role
@@ -71,7 +72,14 @@ module _ (code : List ℕ) (g : Setting) (l : Loop) where
       turn-below = omega (arith, turn-end, t .held .at, opened-yes (point-of x) (blockStart (g .iterations) k (suc p)) o .1)
 
       opens : Open code (g .from) k l M W s p (x .pending) (point-of x)
-      opens = record { coded = t .running .coded; standing = t .running .standing; placed = t .held; low = t .low; unfinished = turn-below; unstopped = is-unstopped }
+      opens = record {
+        coded = t .running .coded;
+        standing = t .running .standing;
+        placed = t .held;
+        low = t .low;
+        unfinished = turn-below;
+        unstopped = is-unstopped;
+      }
 
       pub turn-goes : CanGo role code z
       turn-goes = open-goes code (g .from) k l M W s p (x .pending) (point-of x) opens (blockStart (g .iterations) k (suc p))
@@ -105,7 +113,9 @@ module _ (code : List ℕ) (g : Setting) (l : Loop) where
   run-turn M W ws s p r b = record { running = r .running; low = b; held = r .crew p b; halted = r .halted p b }
 
   -- processor p comes to another state with its record, and the others stay
-  pub run-moved : (M : List ℤ) (W : List ℕ) (ws : List Worker) (s u : State) (p : ℕ) → Run code g l M W ws s → p < length ws → ((q : ℕ) → p ≢ q → u .places q ≡ s .places q) → (M′ : List ℤ) (W′ : List ℕ) (x′ : Worker) → Turn code g l M′ W′ u p x′ → Run code g l M′ W′ (set ws p x′) u
+  pub run-moved : (M : List ℤ) (W : List ℕ) (ws : List Worker) (s u : State) (p : ℕ) → Run code g l M W ws s → p < length ws
+      → ((q : ℕ) → p ≢ q → u .places q ≡ s .places q) → (M′ : List ℤ) (W′ : List ℕ) (x′ : Worker) → Turn code g l M′ W′ u p x′
+      → Run code g l M′ W′ (set ws p x′) u
   run-moved M W ws s u p r b o M′ W′ x′ t = record {
     running = t .running;
     crew = λ q c. elim (ℕ-discrete p q) [
@@ -113,12 +123,14 @@ module _ (code : List ℕ) (g : Setting) (l : Loop) where
       | no n ↦ rw (getD-set-other ws p q x′ nobody (λ (e : q ≡ p). n (sym e)), o q n) (r .crew q c)
     ];
     halted = λ q c. elim (ℕ-discrete p q) [
-      | yes e ↦ subst (λ (j : ℕ). 0 < getD (set ws p x′) j nobody .fault → u .places j .at < bound δ (suc j)) e (rw (getD-set-same ws p x′ nobody b) (t .halted))
+      | yes e ↦ subst (λ (j : ℕ). 0 < getD (set ws p x′) j nobody .fault → u .places j .at < bound δ (suc j)) e
+          (rw (getD-set-same ws p x′ nobody b) (t .halted))
       | no n ↦ rw (getD-set-other ws p q x′ nobody (λ (e : q ≡ p). n (sym e)), o q n) (r .halted q c)
     ];
   }
 
-  pub run-stepped : (M : List ℤ) (W : List ℕ) (ws : List Worker) (s : State) (p : ℕ) → Run code g l M W ws s → p < length ws → (M′ : List ℤ) (W′ : List ℕ) (x′ : Worker) → Turn code g l M′ W′ (step l δ p s) p x′ → Run code g l M′ W′ (set ws p x′) (step l δ p s)
+  pub run-stepped : (M : List ℤ) (W : List ℕ) (ws : List Worker) (s : State) (p : ℕ) → Run code g l M W ws s → p < length ws
+      → (M′ : List ℤ) (W′ : List ℕ) (x′ : Worker) → Turn code g l M′ W′ (step l δ p s) p x′ → Run code g l M′ W′ (set ws p x′) (step l δ p s)
   run-stepped M W ws s p r b = run-moved M W ws s (step l δ p s) p r b (λ q n. step-other l δ p s q n)
 
   -- one byte more of a schedule

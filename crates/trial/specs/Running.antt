@@ -111,7 +111,8 @@ unfoldable pub Ends : Extent → Setting → ℕ → Worker → Type 0
 Ends Once g p y = Unit {0}
 Ends ToTheEnd g p y = Over g p y
 
-pub record Carried (k : Extent) (code : List ℕ) (g : Setting) (M : List ℤ) (W : List ℕ) (p : ℕ) (y : Worker) (M′ : List ℤ) (W′ : List ℕ) (y′ : Worker) : Type 0 where
+pub record Carried (k : Extent) (code : List ℕ) (g : Setting) (M : List ℤ) (W : List ℕ) (p : ℕ) (y : Worker) (M′ : List ℤ) (W′ : List ℕ) (y′ : Worker)
+    : Type 0 where
   pub turns : (l : Loop) (s : State) → Turn code g l M W s p y → Turn code g l M′ W′ (along k l (dealt l (g .processors)) p s) p y′
   pub ends : Ends k g p y′
 

@@ -14,8 +14,8 @@ use Rattle.rules.specs.Blocks.{singles}
 use Rattle.rules.specs.Log.{Log}
 use Rattle.rules.specs.Proper.{Proper}
 use Rattle.rules.specs.Steps.{Place, State}
-use Rattle.shadow.proofs.Orderly.{Orderly}
-use Rattle.tables.proofs.Logged.{Logged}
+use Rattle.shadow.specs.Orderly.{Orderly}
+use Rattle.tables.specs.Logged.{Logged}
 use Rattle.code.specs.Instr.{instructions, resume}
 use Rattle.operands.specs.Pending.{pendings, Holding}
 use Rattle.stepping.specs.declared.Point.{Point}
@@ -46,7 +46,7 @@ pub record Coded (code : List ℕ) (m : ℤ) (l : Loop) : Type 0 where
 -- the cells and the words stand for it
 pub record Standing (k : ℕ) (l : Loop) (M : List ℤ) (W : List ℕ) (s : State) : Type 0 where
   pub suits : Suits k l
-  pub orderly : Orderly l (dealt l k) (suits .proper) s
+  pub orderly : Orderly l (dealt l k) s
   pub cells : M ≡ listed (l .size) (s .cells)
   pub words : Logged l (dealt l k) (s .log) W
 

@@ -8,8 +8,9 @@ use Rattle.rules.specs.Cells.{listed}
 use Rattle.rules.specs.Loop.{Loop}
 use Rattle.rules.specs.Blocks.{blockStart}
 use Rattle.rules.specs.Steps.{start, trial}
-use Rattle.tables.specs.Layout.{row-at, class-number}
-use Rattle.tables.proofs.Logged.{Logged}
+use Rattle.rules.specs.Numbers.{class-number}
+use Rattle.tables.specs.Layout.{row-at}
+use Rattle.tables.specs.Logged.{Logged}
 use Rattle.trial.specs.declared.Worker.{Worker}
 use Rattle.trial.specs.declared.Setting.{Setting}
 use Rattle.trial.specs.Standing.{dealt, Suits, Coded}

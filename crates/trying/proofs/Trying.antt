@@ -38,7 +38,8 @@ module _ (text : List ℕ) (M : List ℤ) (W ps : List ℕ) (t : Tried) where
   unfolding TrialOf
   try-refused n k nz e et = subst (λ (v : Verdict). TrialOf v M W ps t M W) (sym e) (et, refl, refl, omega (arith, nz))
 
-  by-number : (s : State) (n : ℕ) (M′ : List ℤ) (W′ : List ℕ) → read text ≡ good s → runNumber s (length M) (length W) ps ≡ n → TriesBy s n M W ps t M′ W′ → TrialOf (read text) M W ps t M′ W′
+  by-number : (s : State) (n : ℕ) (M′ : List ℤ) (W′ : List ℕ) → read text ≡ good s → runNumber s (length M) (length W) ps ≡ n
+      → TriesBy s n M W ps t M′ W′ → TrialOf (read text) M W ps t M′ W′
   unfolding TrialOf
   by-number s n M′ W′ e en h = subst (λ (v : Verdict). TrialOf v M W ps t M′ W′) (sym e) (subst (λ (k : ℕ). TriesBy s k M W ps t M′ W′) (sym en) h)
 
@@ -75,7 +76,8 @@ module _ (text : List ℕ) (M : List ℤ) (W ps : List ℕ) (t : Tried) where
       setting-is : r .setting ≡ settingOf s
       setting-is = λ i. record { processors = a .prepares .processors i; iterations = a .prepares .iterations i; from = a .prepares .from i }
 
-      module _ (M′ : List ℤ) (W′ : List ℕ) (ws : List Worker) (f b : Bool) (tl : TriesLoop K′ (r .setting) M C ps (length W) M′ W′ ws) (ov : AllOver (r .setting) ws) (fl : Fails (r .setting .processors) ws f) where
+      module _ (M′ : List ℤ) (W′ : List ℕ) (ws : List Worker) (f b : Bool) (tl : TriesLoop K′ (r .setting) M C ps (length W) M′ W′ ws)
+          (ov : AllOver (r .setting) ws) (fl : Fails (r .setting .processors) ws f) where
         -- what is said of code k and setting g
         Said : List ℕ → Setting → Type 0
         Said k g =
@@ -88,13 +90,18 @@ module _ (text : List ℕ) (M : List ℤ) (W ps : List ℕ) (t : Tried) where
         unfolding Said
         said =
             let δ = dealt l (r .setting .processors) in
-            let run = tl l starts-now in
-            (run, run-leaves K′ (r .setting) l M′ W′ ws (rule.trial l δ ps) run ov, fails-right K′ (r .setting) l M′ W′ ws (rule.trial l δ ps) run ov f fl, λ jd. jd l (rule.trial l δ ps) (run .running .standing))
+            let run = tl l starts-now in (
+              run,
+              run-leaves K′ (r .setting) l M′ W′ ws (rule.trial l δ ps) run ov,
+              fails-right K′ (r .setting) l M′ W′ ws (rule.trial l δ ps) run ov f fl,
+              λ jd. jd l (rule.trial l δ ps) (run .running .standing),
+            )
 
         said-of : Said (words (codeOf s)) (settingOf s)
         said-of = subst₂ Said code-is setting-is said
 
-        pub try-done : Judges (r .setting .processors) M′ W′ b → t .number ≡ 0 → t .line ≡ 0 → t .processors ≡ r .setting .processors → t .faulty ≡ f → t .obstructed ≡ b → t .workers ≡ ws → TrialOf (read text) M W ps t M′ W′
+        pub try-done : Judges (r .setting .processors) M′ W′ b → t .number ≡ 0 → t .line ≡ 0 → t .processors ≡ r .setting .processors → t .faulty ≡ f
+            → t .obstructed ≡ b → t .workers ≡ ws → TrialOf (read text) M W ps t M′ W′
         unfolding Said loopOf partitionOf
         try-done jd e1 e2 e3 e4 e5 e6 =
             let q = said-of in
@@ -104,13 +111,18 @@ module _ (text : List ℕ) (M : List ℤ) (W ps : List ℕ) (t : Tried) where
               processors = e3 ∙ a .prepares .processors;
               leaves = subst (λ (u : List Worker). Leaves (words (codeOf s)) (settingOf s) l (rule.trial l (partitionOf s) ps) M′ W′ u) (sym e6) (q .1);
               faulty = subst (λ (x : Bool). Faulty (partitionOf s) (rule.trial l (partitionOf s) ps) ↔ (x ≡ true)) (sym e4) (q .2);
-              obstructed = subst (λ (x : Bool). Obstructed l (partitionOf s .group) (rule.trial l (partitionOf s) ps .log) ↔ (x ≡ true)) (sym e5) (q .3 (subst (λ (k : ℕ). Judges k M′ W′ b) (a .prepares .processors) jd));
+              obstructed = subst (λ (x : Bool). Obstructed l (partitionOf s .group) (rule.trial l (partitionOf s) ps .log) ↔ (x ≡ true)) (sym e5)
+                  (q .3 (subst (λ (k : ℕ). Judges k M′ W′ b) (a .prepares .processors) jd));
               run = subst (λ (u : List Worker). Run (words (codeOf s)) (settingOf s) l M′ W′ u (rule.trial l (partitionOf s) ps)) (sym e6) (q .0);
             })
 
 -- some cell may then be judged
-pub stands-there : (text : List ℕ) (M : List ℤ) (W ps : List ℕ) (r : Ready) (K C : List ℕ) (a : Accepted text r K C) → fitNumber (r .cells) (r .setting .processors) (length M) (length W) ps ≡ 0 → (M′ : List ℤ) (W′ : List ℕ) (ws : List Worker)
+pub stands-there : (text : List ℕ) (M : List ℤ) (W ps : List ℕ) (r : Ready) (K C : List ℕ) (a : Accepted text r K C)
+    → fitNumber (r .cells) (r .setting .processors) (length M) (length W) ps ≡ 0 → (M′ : List ℤ) (W′ : List ℕ) (ws : List Worker)
     → TriesLoop (take (r .end - 0) (drop 0 K)) (r .setting) M C ps (length W) M′ W′ ws → Stands (r .setting .processors) M′ W′
 stands-there text M W ps r K C a z M′ W′ ws tl =
-    let l = loopOf (a .state) M in
-    (l, rule.trial l (dealt l (r .setting .processors)) ps, tl l (begins text r K C a M (length W) ps (fit-zero (r .cells) (r .setting .processors) (length M) (length W) ps z)) .running .standing)
+    let l = loopOf (a .state) M in (
+      l,
+      rule.trial l (dealt l (r .setting .processors)) ps,
+      tl l (begins text r K C a M (length W) ps (fit-zero (r .cells) (r .setting .processors) (length M) (length W) ps z)) .running .standing,
+    )

@@ -11,7 +11,7 @@ use Rattle.syntax.specs.Bytes.{all}
 use Rattle.syntax.specs.Grammar.{number, Lead, Item, item}
 use Rattle.syntax.specs.Known.{Entry, known, find, give-to, copies, values, total}
 use Rattle.syntax.specs.Conditions.{concat, inItem, isGiven, small}
-use Rattle.syntax.specs.Reader.{broken, done, Reader, _>>=_, _>>_, yield, next, expects, readName, readItem, peek-in, skip-in}
+use Rattle.syntax.specs.Reader.{broken, done, Reader, next, readItem, readData, peek-in, skip-in}
 use Rattle.lexer.specs.Places.{Goes, leadOf}
 use Rattle.heading.specs.Lists.{readSome, order}
 use Rattle.values.specs.declared.Datum.{Datum}
@@ -67,13 +67,8 @@ pub record Given (T : List ℕ) (n : Named) (v most : ℕ) (T′ : List ℕ) (r 
   pub left : (r ≡ 0 → ⊥) → T′ ≡ T
 
 -- what stands after `data`: the name and the items
-abbrev pub readData : ℕ → Reader (List ℕ) (List ℕ × List Item)
-readData f = do
-  x ← readName peek-in skip-in
-  expects peek-in skip-in "/"
-  is ← readSome f readCounted
-  expects peek-in skip-in "/"
-  yield (x, is)
+abbrev pub readValues : ℕ → Reader (List ℕ) (List ℕ × List Item)
+readValues f = readData peek-in skip-in (readSome f readCounted) (λ x is. (x, is))
 
 -- not "name unknown, ... given data twice, ... data of the wrong count"
 abbrev pub may-give : List Entry → List ℕ → List Item → Bool
@@ -86,4 +81,4 @@ pub record Gives (t : List Entry) (T : List ℕ) (C : List ℤ) (T′ : List ℕ
   pub cells : r .rank ≡ 0 → C′ ≡ sets C (find x t .first) (values is)
 
 abbrev pub Data : List ℕ → List ℤ → List ℕ → ℕ → List ℕ → List ℤ → Headed → Type 0
-Data T C s at T′ C′ r = (t : List Entry) → Tabled T t → (f : ℕ) → length s - at < f → Goes (λ (x, is). Gives t T C T′ C′ r x is) s at (readData f) (r .next)
+Data T C s at T′ C′ r = (t : List Entry) → Tabled T t → (f : ℕ) → length s - at < f → Goes (λ (x, is). Gives t T C T′ C′ r x is) s at (readValues f) (r .next)

@@ -18,6 +18,7 @@ use heading::Headed;
 use heading::item_value;
 use heading::limited;
 use heading::ranked;
+use lexer::Leading;
 use lexer::digits;
 use lexer::lead;
 use lexer::name;
@@ -31,7 +32,7 @@ use names::give;
 pub struct Datum {
     pub next: usize,
     pub copies: u32,
-    pub sign: u32,
+    pub sign: Leading,
     pub size: u32,
 }
 
@@ -41,11 +42,12 @@ fn copied(s: &[u8], at: usize, copies: u32) -> Datum
     ensures { λ r. ⌜ ((o : Option (List ℕ)) → copies ≡ min (copiesOf o) 2147483648 → Goes (Itemized r) (now (s .entry)) at (readSigned peek-in skip-in (item o)) (r .next)) ⌝ }
 {
     let l = lead(s, at);
+    let sign = l.sign;
     let d = digits(s, l.next);
     Datum {
         next: d.next,
         copies,
-        sign: l.sign,
+        sign,
         size: d.number,
     }
 }
@@ -124,6 +126,7 @@ fn put_item(
             rank,
         };
     }
+    let sign = d.sign;
     let worst = ranked(rank, true, limited(d.copies, d.size));
     let more = place(
         cells,
@@ -131,7 +134,7 @@ fn put_item(
         size,
         values,
         d.copies,
-        item_value(d.sign, d.size),
+        item_value(sign, d.size),
     );
     Filled {
         next,

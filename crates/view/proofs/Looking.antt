@@ -20,7 +20,8 @@ use Rattle.view.specs.View.{Shown}
 use Rattle.view.specs.View.{ShowsAfter}
 
 -- what is shown after a schedule is what Look shows
-shown-look : (l : Loop) (δ : Partition) (ps : List ℕ) (v : List ℕ) → (let s = steps l δ ps (start l δ) in v ≡ viewed (l .size) (s .cells) (λ c. marks (δ .group) c (s .log))) → v ≡ look l δ ps
+shown-look : (l : Loop) (δ : Partition) (ps : List ℕ) (v : List ℕ)
+    → (let s = steps l δ ps (start l δ) in v ≡ viewed (l .size) (s .cells) (λ c. marks (δ .group) c (s .log))) → v ≡ look l δ ps
 unfolding look
 shown-look l δ ps v e = e
 
@@ -37,11 +38,13 @@ module _ (code : List ℕ) (g : Setting) (M : List ℤ) (C ps : List ℕ) (n : �
 
     pub same-size : CanTry code g M C ps n → length M″ ≡ length M
     same-size (l, st, nm) =
-        ap length (after l st .running .standing .cells) ∙ listed-length (l .size) (steps l (dealt l (g .processors)) ps (start l (dealt l (g .processors))) .cells)
+        ap length (after l st .running .standing .cells)
+        ∙ listed-length (l .size) (steps l (dealt l (g .processors)) ps (start l (dealt l (g .processors))) .cells)
         ∙ sym (ap length (st .entry .cells) ∙ listed-length (l .size) (l .entry))
 
     pub shows-after : (U : List ℕ) → Shown (g .processors) M″ W″ U → ShowsAfter code g M C ps n U
-    shows-after U sh l st = shown-look l (dealt l (g .processors)) ps U (sh l (steps l (dealt l (g .processors)) ps (start l (dealt l (g .processors)))) (after l st .running .standing))
+    shows-after U sh l st = shown-look l (dealt l (g .processors)) ps U
+        (sh l (steps l (dealt l (g .processors)) ps (start l (dealt l (g .processors)))) (after l st .running .standing))
 
 -- the cells at the front of a longer list
 module _ (own : List ℤ) (M : List ℤ) (e : take (length M) own ≡ M) where
@@ -52,5 +55,6 @@ module _ (own : List ℤ) (M : List ℤ) (e : take (length M) own ≡ M) where
       → CanTry code g (take (length M - 0) (drop 0 own)) C ps n × (length U ≡ 2 * length (take (length M - 0) (drop 0 own)))
   can-front code g C ps n U c q = (subst (λ (m : List ℤ). CanTry code g m C ps n) (sym front-is) c, q ∙ ap (λ (m : List ℤ). 2 * length m) (sym front-is))
 
-  pub shows-front : (code : List ℕ) (g : Setting) (C ps : List ℕ) (n : ℕ) (U : List ℕ) → ShowsAfter code g (take (length M - 0) (drop 0 own)) C ps n U → ShowsAfter code g M C ps n U
+  pub shows-front : (code : List ℕ) (g : Setting) (C ps : List ℕ) (n : ℕ) (U : List ℕ) → ShowsAfter code g (take (length M - 0) (drop 0 own)) C ps n U
+      → ShowsAfter code g M C ps n U
   shows-front code g C ps n U h = subst (λ (m : List ℤ). ShowsAfter code g m C ps n U) front-is h

@@ -27,7 +27,8 @@ abbrev pub Showing : List ℕ → ℕ → (ℕ → ℕ) → (ℕ → ℕ) → Ty
 Showing B c f g = (j : ℕ) → j < c → (getD B (2 * j) 0 ≡ f j) × (getD B (2 * j + 1) 0 ≡ g j)
 
 -- one cell more
-pub showing-more : (B : List ℕ) (c : ℕ) (f g : ℕ → ℕ) → 2 * c + 1 < length B → Showing B c f g → Showing (set (set B (2 * c) (f c)) (2 * c + 1) (g c)) (suc c) f g
+pub showing-more : (B : List ℕ) (c : ℕ) (f g : ℕ → ℕ) → 2 * c + 1 < length B → Showing B c f g
+    → Showing (set (set B (2 * c) (f c)) (2 * c + 1) (g c)) (suc c) f g
 showing-more B c f g h s j b =
     let B1 = set B (2 * c) (f c) in
     let n : length B1 ≡ length B = simp length-set in
@@ -53,17 +54,21 @@ showing-all (x ∷ y ∷ B) (suc n) m k e s =
     let z = s 0 (omega arith) in
     cc (z .0, z .1, showing-all B n (λ c. m (suc c)) (λ c. k (suc c)) (omega arith) (λ j b. later j (s (suc j) (omega arith))))
   where
-    later : (j : ℕ) → (getD (x ∷ y ∷ B) (2 * suc j) 0 ≡ word (m (suc j))) × (getD (x ∷ y ∷ B) (2 * suc j + 1) 0 ≡ k (suc j)) → (getD B (2 * j) 0 ≡ word (m (suc j))) × (getD B (2 * j + 1) 0 ≡ k (suc j))
+    later : (j : ℕ) → (getD (x ∷ y ∷ B) (2 * suc j) 0 ≡ word (m (suc j))) × (getD (x ∷ y ∷ B) (2 * suc j + 1) 0 ≡ k (suc j))
+        → (getD B (2 * j) 0 ≡ word (m (suc j))) × (getD B (2 * j + 1) 0 ≡ k (suc j))
     later j t =
         let p : 2 * suc j ≡ suc (suc (2 * j)) = omega arith in
         let q : 2 * suc j + 1 ≡ suc (suc (2 * j + 1)) = omega arith in
         (ap (λ (d : ℕ). getD (x ∷ y ∷ B) d 0) (sym p) ∙ t .0, ap (λ (d : ℕ). getD (x ∷ y ∷ B) d 0) (sym q) ∙ t .1)
 
 module _ (k : ℕ) (l : Loop) (M : List ℤ) (W : List ℕ) (s : State) (h : Standing k l M W s) where
-  pub standing-shown : (B : List ℕ) → length B ≡ 2 * length M → Showing B (length M) (λ j. word (cellOf M j)) (λ c. marks-of W (row-at k c)) → B ≡ viewed (l .size) (s .cells) (λ c. marks (dealt l k .group) c (s .log))
+  pub standing-shown : (B : List ℕ) → length B ≡ 2 * length M → Showing B (length M) (λ j. word (cellOf M j)) (λ c. marks-of W (row-at k c))
+      → B ≡ viewed (l .size) (s .cells) (λ c. marks (dealt l k .group) c (s .log))
   unfolding singles
   standing-shown B e v = showing-all B (l .size) (s .cells) (λ c. marks (dealt l k .group) c (s .log)) (omega (arith, standing-size k l M W s h)) (λ j b.
       let w = v j (omega (arith, standing-size k l M W s h)) in (
         w .0 ∙ ap word (ap (λ (m : List ℤ). cellOf m j) (h .cells) ∙ cell-listed (l .size) (s .cells) j b),
-        w .1 ∙ logged-marks l (dealt l k) (s .log) W (h .words) (tables-right l (dealt l k) (h .suits .proper) (s .log) (h .orderly .inside) (h .orderly .ascending)) j b,
+        w .1
+            ∙ logged-marks l (dealt l k) (s .log) W (h .words)
+            (tables-right l (dealt l k) (h .suits .proper) (s .log) (h .orderly .inside) (h .orderly .ascending)) j b,
       ))

@@ -53,7 +53,8 @@ pub fn show_copied(
     w: &mut [u32],
     view: &mut [u32],
 )
-    requires { ⌜ CanTry (now code) setting (now cells) (now classes) (now schedule) (length (now w)) × (length (now view) ≡ 2 * length (now cells)) × (length (now cells) ≤ length (now own)) ⌝ }
+    requires { ⌜ CanTry (now code) setting (now cells) (now classes) (now schedule) (length (now w)) × (length (now view) ≡ 2 * length (now cells))
+        × (length (now cells) ≤ length (now own)) ⌝ }
     ensures { λ _. ⌜ ShowsAfter (now (code .entry)) setting (now (cells .entry)) (now (classes .entry)) (now (schedule .entry)) (length (now (w .entry))) (now (view .exit)) ⌝ }
     ensures { λ _. ⌜ now (w .exit) ≡ replicate (length (now (w .entry))) 0 ⌝ }
 {

@@ -50,21 +50,28 @@ fault-requires c κs = search needs
 returns-2 : tie.Need-returns-2
 unfolding perform at-cell
 returns-2 c =
-    let a = c .before .before .before .before .before .before .args in
-    let p = c .before .before .before .before .before .before .pre in
-    let i : SFits w32 (getD (a .pending .now) (a .depth - 1) (pos 0)) = record { sfits = c .before .before .before .before .i .given } in
-    let e : c .before .before .before .locate .result ≡ Cell (c .before .enum-told .given .0 .0) = c .before .enum-told .given .1 in
+    let c3 = c .before .before .before in
+    let c4 = c3 .before in
+    let c6 = c4 .before .before in
+    let a = c6 .args in
+    let p = c6 .pre in
+    let i : SFits w32 (getD (a .pending .now) (a .depth - 1) (pos 0)) = record { sfits = c4 .i .given } in
+    let e : c3 .locate .result ≡ Cell (c .before .enum-told .given .0 .0) = c .before .enum-told .given .1 in
     λ v. goes _ _ _ _ (p .size) _ (p .most) (omega arith) (c .go-on .ensures)
-    (λ go. with1-taken _ _ _ (omega arith) ∙ located-found _ _ _ _ _ _ _ i (c .before .before .before .locate .ensures) e ∙ ap (go (a .place)) (pendings-top _ _ (omega arith)))
+    (λ go. with1-taken _ _ _ (omega arith) ∙ located-found _ _ _ _ _ _ _ i (c3 .locate .ensures) e ∙ ap (go (a .place)) (pendings-top _ _ (omega arith)))
 
 returns-3 : tie.Need-returns-3
 unfolding perform left at-cell
 returns-3 c =
-    let a = c .before .before .before .before .before .before .args in
-    let p = c .before .before .before .before .before .before .pre in
-    let i : SFits w32 (getD (a .pending .now) (a .depth - 1) (pos 0)) = record { sfits = c .before .before .before .before .i .given } in
-    let e : c .before .before .before .locate .result ≡ Outside = cc in
-    λ v. moves _ _ _ _ (p .size) _ (omega (arith, p .most)) (c .fault .ensures) (λ go. with1-taken _ _ _ (omega arith) ∙ located-found _ _ _ _ _ _ _ i (c .before .before .before .locate .ensures) e)
+    let c3 = c .before .before .before in
+    let c4 = c3 .before in
+    let c6 = c4 .before .before in
+    let a = c6 .args in
+    let p = c6 .pre in
+    let i : SFits w32 (getD (a .pending .now) (a .depth - 1) (pos 0)) = record { sfits = c4 .i .given } in
+    let e : c3 .locate .result ≡ Outside = cc in
+    λ v. moves _ _ _ _ (p .size) _ (omega (arith, p .most)) (c .fault .ensures)
+    (λ go. with1-taken _ _ _ (omega arith) ∙ located-found _ _ _ _ _ _ _ i (c3 .locate .ensures) e)
 
 pub check-spec : {M : Type 1} → statement M
 check-spec =

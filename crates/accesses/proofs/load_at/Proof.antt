@@ -50,20 +50,28 @@ fault-requires c κs = search needs
 returns-2 : tie.Need-returns-2
 unfolding perform left at-cell
 returns-2 c =
-    let a = c .before .before .before .before .before .before .before .args in
-    let p = c .before .before .before .before .before .before .before .pre in
-    let i : SFits w32 (getD (a .pending .now) (a .depth - 1) (pos 0)) = record { sfits = c .before .before .before .before .before .i .given } in
-    let e : c .before .before .before .before .locate .result ≡ Cell (c .before .before .found .given .0 .0) = cc in
-    λ v. moves _ _ _ _ (p .size) _ (omega (arith, p .most)) (c .stop2 .ensures) (λ go. with1-taken _ _ _ (omega arith) ∙ located-found _ _ _ _ _ _ _ i (c .before .before .before .before .locate .ensures) e)
+    let c4 = c .before .before .before .before in
+    let c5 = c4 .before in
+    let c7 = c5 .before .before in
+    let a = c7 .args in
+    let p = c7 .pre in
+    let i : SFits w32 (getD (a .pending .now) (a .depth - 1) (pos 0)) = record { sfits = c5 .i .given } in
+    let e : c4 .locate .result ≡ Cell (c .before .before .found .given .0 .0) = cc in
+    λ v. moves _ _ _ _ (p .size) _ (omega (arith, p .most)) (c .stop2 .ensures)
+    (λ go. with1-taken _ _ _ (omega arith) ∙ located-found _ _ _ _ _ _ _ i (c4 .locate .ensures) e)
 
 returns-3 : tie.Need-returns-3
 unfolding perform left at-cell
 returns-3 c =
-    let a = c .before .before .before .before .before .before .args in
-    let p = c .before .before .before .before .before .before .pre in
-    let i : SFits w32 (getD (a .pending .now) (a .depth - 1) (pos 0)) = record { sfits = c .before .before .before .before .i .given } in
-    let e : c .before .before .before .locate .result ≡ Outside = cc in
-    λ v. moves _ _ _ _ (p .size) _ (omega (arith, p .most)) (c .fault .ensures) (λ go. with1-taken _ _ _ (omega arith) ∙ located-found _ _ _ _ _ _ _ i (c .before .before .before .locate .ensures) e)
+    let c3 = c .before .before .before in
+    let c4 = c3 .before in
+    let c6 = c4 .before .before in
+    let a = c6 .args in
+    let p = c6 .pre in
+    let i : SFits w32 (getD (a .pending .now) (a .depth - 1) (pos 0)) = record { sfits = c4 .i .given } in
+    let e : c3 .locate .result ≡ Outside = cc in
+    λ v. moves _ _ _ _ (p .size) _ (omega (arith, p .most)) (c .fault .ensures)
+    (λ go. with1-taken _ _ _ (omega arith) ∙ located-found _ _ _ _ _ _ _ i (c3 .locate .ensures) e)
 
 pub load-at-spec : {M : Type 1} → statement M
 load-at-spec =

@@ -38,7 +38,8 @@ unfolding perform left
 returns-2 c =
     let a = c .before .before .before .args in
     let p = c .before .before .before .pre in
-    let f : toZ w32 (ofZ w32 (getD (a .pending .now) (a .depth - 1) (pos 0))) ≡ getD (a .pending .now) (a .depth - 1) (pos 0) = toZ-ofZ w32 _ (record { sfits = c .before .x .given }) in
+    let f : toZ w32 (ofZ w32 (getD (a .pending .now) (a .depth - 1) (pos 0))) ≡ getD (a .pending .now) (a .depth - 1) (pos 0) =
+    toZ-ofZ w32 _ (record { sfits = c .before .x .given }) in
     λ v. moves _ _ _ _ (p .size) _ (omega (arith, p .most)) (c .stop2 .ensures) (λ go. rw f (with1-taken _ _ _ (omega arith)))
 
 pub update-spec : {M : Type 1} → statement M

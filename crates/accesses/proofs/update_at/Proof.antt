@@ -60,21 +60,31 @@ fault-requires c κs = search needs
 returns-2 : tie.Need-returns-2
 unfolding perform left at-cell
 returns-2 c =
-    let a = c .before .before .before .before .before .before .before .before .args in
-    let p = c .before .before .before .before .before .before .before .before .pre in
-    let i : SFits w32 (getD (a .pending .now) (a .depth - 2) (pos 0)) = record { sfits = c .before .before .before .before .before .before .i .given } in
-    let e : c .before .before .before .before .locate .result ≡ Cell (c .before .before .found .given .0 .0) = cc in
-    let f : toZ w32 (ofZ w32 (getD (a .pending .now) (a .depth - 2 + 1) (pos 0))) ≡ getD (a .pending .now) (a .depth - 2 + 1) (pos 0) = toZ-ofZ w32 _ (record { sfits = c .before .before .before .before .before .x .given }) in
-    λ v. moves _ _ _ _ (p .size) _ (omega (arith, p .most)) (c .stop2 .ensures) (λ go. rw f (with2-taken _ _ _ (omega arith) ∙ located-found _ _ _ _ _ _ _ i (c .before .before .before .before .locate .ensures) e))
+    let c4 = c .before .before .before .before in
+    let c5 = c4 .before in
+    let c6 = c5 .before in
+    let c8 = c6 .before .before in
+    let a = c8 .args in
+    let p = c8 .pre in
+    let i : SFits w32 (getD (a .pending .now) (a .depth - 2) (pos 0)) = record { sfits = c6 .i .given } in
+    let e : c4 .locate .result ≡ Cell (c .before .before .found .given .0 .0) = cc in
+    let f : toZ w32 (ofZ w32 (getD (a .pending .now) (a .depth - 2 + 1) (pos 0))) ≡ getD (a .pending .now) (a .depth - 2 + 1) (pos 0) =
+    toZ-ofZ w32 _ (record { sfits = c5 .x .given }) in
+    λ v. moves _ _ _ _ (p .size) _ (omega (arith, p .most)) (c .stop2 .ensures)
+    (λ go. rw f (with2-taken _ _ _ (omega arith) ∙ located-found _ _ _ _ _ _ _ i (c4 .locate .ensures) e))
 
 returns-3 : tie.Need-returns-3
 unfolding perform left at-cell
 returns-3 c =
-    let a = c .before .before .before .before .before .before .before .args in
-    let p = c .before .before .before .before .before .before .before .pre in
-    let i : SFits w32 (getD (a .pending .now) (a .depth - 2) (pos 0)) = record { sfits = c .before .before .before .before .before .i .given } in
-    let e : c .before .before .before .locate .result ≡ Outside = cc in
-    λ v. moves _ _ _ _ (p .size) _ (omega (arith, p .most)) (c .fault .ensures) (λ go. with2-taken _ _ _ (omega arith) ∙ located-found _ _ _ _ _ _ _ i (c .before .before .before .locate .ensures) e)
+    let c3 = c .before .before .before in
+    let c5 = c3 .before .before in
+    let c7 = c5 .before .before in
+    let a = c7 .args in
+    let p = c7 .pre in
+    let i : SFits w32 (getD (a .pending .now) (a .depth - 2) (pos 0)) = record { sfits = c5 .i .given } in
+    let e : c3 .locate .result ≡ Outside = cc in
+    λ v. moves _ _ _ _ (p .size) _ (omega (arith, p .most)) (c .fault .ensures)
+    (λ go. with2-taken _ _ _ (omega arith) ∙ located-found _ _ _ _ _ _ _ i (c3 .locate .ensures) e)
 
 pub update-at-spec : {M : Type 1} → statement M
 update-at-spec =

@@ -24,13 +24,24 @@ token-requires-2 : tie.Need-token-requires-2 Inv-loop μ-loop
 token-requires-2 c κs = c .before .before .loop .inv .1
 
 returns : tie.Need-returns Inv-loop μ-loop
-returns c = walk-short (c .before .before .before .before .before .before .args .s .now) (c .before .before .before .before .before .before .args .n) (c .before .before .before .before .before .before .args .from) (c .before .before .before .before .before .before .args .to) (c .before .before .before .before .loop .i) (c .before .before .before .before .loop .j) (c .before .before .before .before .before .before .pre .0) (c .before .before .before .before .before .before .pre .2) (c .before .before .before .before .loop .inv .2) (omega arith) (omega arith)
+returns c =
+    let c4 = c .before .before .before .before in
+    let c6 = c4 .before .before in
+    walk-short (c6 .args .s .now) (c6 .args .n) (c6 .args .from) (c6 .args .to) (c4 .loop .i) (c4 .loop .j) (c6 .pre .0) (c6 .pre .2)
+    (c4 .loop .inv .2) (omega arith) (omega arith)
 
 same-token-requires : tie.Need-same-token-requires Inv-loop μ-loop
 same-token-requires c κs = search needs
 
 returns-2 : tie.Need-returns-2 Inv-loop μ-loop
-returns-2 c = walk-differs (c .before .before .before .before .before .before .before .before .args .s .now) (c .before .before .before .before .before .before .before .before .args .n) (c .before .before .before .before .before .before .before .before .args .from) (c .before .before .before .before .before .before .before .before .args .to) (c .before .before .before .before .before .before .loop .i) (c .before .before .before .before .before .before .loop .j) (c .before .before .before .before .before .before .before .before .pre .0) (c .before .before .before .before .before .before .before .before .pre .2) (c .before .before .before .before .before .before .loop .inv .2) (c .before .before .before .before .token .ensures) (c .before .before .before .token2 .ensures) (omega arith) (omega arith) (c .before .same-token .ensures) (not-true _ (c .if2 .taken))
+returns-2 c =
+    let c3 = c .before .before .before in
+    let c4 = c3 .before in
+    let c6 = c4 .before .before in
+    let c8 = c6 .before .before in
+    walk-differs (c8 .args .s .now) (c8 .args .n) (c8 .args .from) (c8 .args .to) (c6 .loop .i) (c6 .loop .j) (c8 .pre .0) (c8 .pre .2)
+    (c6 .loop .inv .2) (c4 .token .ensures) (c3 .token2 .ensures) (omega arith) (omega arith) (c .before .same-token .ensures)
+    (not-true _ (c .if2 .taken))
 
 loop-less : tie.Need-loop-less Inv-loop μ-loop
 loop-less c =
@@ -38,10 +49,23 @@ loop-less c =
     omega (arith, t .from, t .some (same-some _ _ _ _ (c .before .same-token .ensures) (not-false _ (c .if2 .left))))
 
 loop-again : tie.Need-loop-again Inv-loop μ-loop
-loop-again c = (c .before .before .before .before .token .ensures .within, c .before .before .before .token2 .ensures .within, walk-on (c .before .before .before .before .before .before .before .before .args .s .now) (c .before .before .before .before .before .before .before .before .args .n) (c .before .before .before .before .before .before .before .before .args .from) (c .before .before .before .before .before .before .before .before .args .to) (c .before .before .before .before .before .before .loop .i) (c .before .before .before .before .before .before .loop .j) (c .before .before .before .before .before .before .before .before .pre .0) (c .before .before .before .before .before .before .before .before .pre .2) (c .before .before .before .before .before .before .loop .inv .2) (c .before .before .before .before .token .ensures) (c .before .before .before .token2 .ensures) (omega arith) (omega arith) (c .before .same-token .ensures) (not-false _ (c .if2 .left)))
+loop-again c =
+    let c3 = c .before .before .before in
+    let c4 = c3 .before in
+    let c6 = c4 .before .before in
+    let c8 = c6 .before .before in (
+      c4 .token .ensures .within,
+      c3 .token2 .ensures .within,
+      walk-on (c8 .args .s .now) (c8 .args .n) (c8 .args .from) (c8 .args .to) (c6 .loop .i)
+          (c6 .loop .j) (c8 .pre .0) (c8 .pre .2) (c6 .loop .inv .2) (c4 .token .ensures) (c3 .token2 .ensures) (omega arith) (omega arith)
+          (c .before .same-token .ensures) (not-false _ (c .if2 .left)),
+    )
 
 returns-3 : tie.Need-returns-3 Inv-loop μ-loop
-returns-3 c = walk-ends (c .before .before .before .args .s .now) (c .before .before .before .args .n) (c .before .before .before .args .from) (c .before .before .before .args .to) (c .before .loop .i) (c .before .loop .j) (c .before .before .before .pre .0) (c .before .before .before .pre .2) (c .before .loop .inv .2) (omega arith) _ (leb-true _ _) (leb-false _ _)
+returns-3 c =
+    walk-ends (c .before .before .before .args .s .now) (c .before .before .before .args .n) (c .before .before .before .args .from)
+    (c .before .before .before .args .to) (c .before .loop .i) (c .before .loop .j) (c .before .before .before .pre .0)
+    (c .before .before .before .pre .2) (c .before .loop .inv .2) (omega arith) _ (leb-true _ _) (leb-false _ _)
 
 pub alike-spec : {M : Type 1} → statement M
 alike-spec =

@@ -10,7 +10,10 @@ span-requires : tie.Need-span-requires
 span-requires c κs = search needs
 
 returns : tie.Need-returns
-returns c = c .span .ensures ∙ sym (ap (λ (b : Bool). cond b (spanOf (c .before .before .args .first) (c .before .before .args .size)) (c .before .before .args .first)) (c .before .if1 .taken))
+returns c =
+    c .span .ensures
+    ∙ sym (ap (λ (b : Bool). cond b (spanOf (c .before .before .args .first) (c .before .before .args .size)) (c .before .before .args .first))
+    (c .before .if1 .taken))
 
 returns-2 : tie.Need-returns-2
 returns-2 c = search needs

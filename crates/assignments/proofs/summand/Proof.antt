@@ -46,23 +46,39 @@ same-length c = search needs
 
 returns-2 : tie.Need-returns-2
 returns-2 c =
-    let room : 2 * c .before .before .before .before .before .before .before .before .before .before .before .before .before .args .place ≤ length (c .before .before .before .before .before .before .before .before .before .before .before .before .before .args .code .now) = omega (arith, c .before .before .before .before .before .before .before .before .before .before .before .before .before .pre .0 .room) in
-    let w = within-done _ _ _ _ _ _ _ _ (c .before .before .before .before .before .before .before .before .reference .ensures .within) (c .before .before .before .before .to .given .1) in
-    summands-unadded _ _ _ _ _ _ _ _ _ (take-put (2 * c .before .before .before .before .before .before .before .before .before .before .before .before .before .args .place) (length (c .before .before .before .before .before .before .before .before .before .before .before .before .before .args .code .now) - 2 * c .before .before .before .before .before .before .before .before .before .before .before .before .before .args .place) (c .before .before .before .before .before .before .before .before .before .before .before .before .before .args .code .now) (c .before .before .before .before .before .before .before .before .reference .last .1 .1 .1 .1 .1 .0) room) _ _ _ _ (c .before .before .before .before .before .before .before .before .reference .ensures) _ _ _ (c .before .before .before .before .to .given .1) (c .before .pass .ensures) (w .1) (omega arith)
+    let c4 = c .before .before .before .before in
+    let c8 = c4 .before .before .before .before in
+    let c13 = c8 .before .before .before .before .before in
+    let room : 2 * c13 .args .place ≤ length (c13 .args .code .now) = omega (arith, c13 .pre .0 .room) in
+    let w = within-done _ _ _ _ _ _ _ _ (c8 .reference .ensures .within) (c4 .to .given .1) in
+    summands-unadded _ _ _ _ _ _ _ _ _
+    (take-put (2 * c13 .args .place) (length (c13 .args .code .now) - 2 * c13 .args .place) (c13 .args .code .now)
+    (c8 .reference .last .1 .1 .1 .1 .1 .0) room)
+    _ _ _ _ (c8 .reference .ensures) _ _ _ (c4 .to .given .1) (c .before .pass .ensures) (w .1) (omega arith)
 
 alike-requires : tie.Need-alike-requires
 alike-requires c κs =
-    let w = within-done _ _ _ _ _ _ _ _ (c .before .before .before .before .before .before .before .before .reference .ensures .within) (c .before .before .before .before .to .given .1) in
-    (c .before .before .before .before .before .before .before .before .before .before .before .before .before .pre .1 .0, c .before .before .before .before .before .before .before .before .before .before .before .before .before .pre .0 .inside, w .1)
+    let c4 = c .before .before .before .before in
+    let c8 = c4 .before .before .before .before in
+    let c13 = c8 .before .before .before .before .before in
+    let w = within-done _ _ _ _ _ _ _ _ (c8 .reference .ensures .within) (c4 .to .given .1) in
+    (c13 .pre .1 .0, c13 .pre .0 .inside, w .1)
 
 same-length-2 : tie.Need-same-length-2
 same-length-2 c = search needs
 
 returns-3 : tie.Need-returns-3
 returns-3 c =
-    let room : 2 * c .before .before .before .before .before .before .before .before .before .before .before .before .before .before .before .args .place ≤ length (c .before .before .before .before .before .before .before .before .before .before .before .before .before .before .before .args .code .now) = omega (arith, c .before .before .before .before .before .before .before .before .before .before .before .before .before .before .before .pre .0 .room) in
-    let w = within-done _ _ _ _ _ _ _ _ (c .before .before .before .before .before .before .before .before .before .before .reference .ensures .within) (c .before .before .before .before .before .before .to .given .1) in
-    summands-other _ _ _ _ _ _ _ _ _ (take-put (2 * c .before .before .before .before .before .before .before .before .before .before .before .before .before .before .before .args .place) (length (c .before .before .before .before .before .before .before .before .before .before .before .before .before .before .before .args .code .now) - 2 * c .before .before .before .before .before .before .before .before .before .before .before .before .before .before .before .args .place) (c .before .before .before .before .before .before .before .before .before .before .before .before .before .before .before .args .code .now) (c .before .before .before .before .before .before .before .before .before .before .reference .last .1 .1 .1 .1 .1 .0) room) _ _ _ _ (c .before .before .before .before .before .before .before .before .before .before .reference .ensures) _ _ _ (c .before .before .before .before .before .before .to .given .1) (c .before .before .before .pass .ensures) (w .1) (c .before .alike .ensures) (not-true _ (c .if3 .taken))
+    let c3 = c .before .before .before in
+    let c6 = c3 .before .before .before in
+    let c10 = c6 .before .before .before .before in
+    let c15 = c10 .before .before .before .before .before in
+    let room : 2 * c15 .args .place ≤ length (c15 .args .code .now) = omega (arith, c15 .pre .0 .room) in
+    let w = within-done _ _ _ _ _ _ _ _ (c10 .reference .ensures .within) (c6 .to .given .1) in
+    summands-other _ _ _ _ _ _ _ _ _
+    (take-put (2 * c15 .args .place) (length (c15 .args .code .now) - 2 * c15 .args .place) (c15 .args .code .now)
+    (c10 .reference .last .1 .1 .1 .1 .1 .0) room)
+    _ _ _ _ (c10 .reference .ensures) _ _ _ (c6 .to .given .1) (c3 .pass .ensures) (w .1) (c .before .alike .ensures) (not-true _ (c .if3 .taken))
 
 enum-told : tie.Need-enum-told
 enum-told c = search needs
@@ -72,17 +88,31 @@ same-length-3 c = search needs
 
 returns-4 : tie.Need-returns-4
 returns-4 c =
-    let room : 2 * c .before .before .before .before .before .before .before .before .before .before .before .before .before .before .before .args .place ≤ length (c .before .before .before .before .before .before .before .before .before .before .before .before .before .before .before .args .code .now) = omega (arith, c .before .before .before .before .before .before .before .before .before .before .before .before .before .before .before .pre .0 .room) in
-    let w = within-done _ _ _ _ _ _ _ _ (c .before .before .before .before .before .before .before .before .before .before .reference .ensures .within) (c .before .before .before .before .before .before .to .given .1) in
-    summands-found _ _ _ _ _ _ _ _ _ (take-put (2 * c .before .before .before .before .before .before .before .before .before .before .before .before .before .before .before .args .place) (length (c .before .before .before .before .before .before .before .before .before .before .before .before .before .before .before .args .code .now) - 2 * c .before .before .before .before .before .before .before .before .before .before .before .before .before .before .before .args .place) (c .before .before .before .before .before .before .before .before .before .before .before .before .before .before .before .args .code .now) (c .before .before .before .before .before .before .before .before .before .before .reference .last .1 .1 .1 .1 .1 .0) room) _ _ _ _ (c .before .before .before .before .before .before .before .before .before .before .reference .ensures) _ _ _ (c .before .before .before .before .before .before .to .given .1) (c .before .before .before .pass .ensures) (w .1) (c .before .alike .ensures) (not-false _ (c .before .before .before .before .before .before .before .before .before .before .before .before .if1 .left)) (not-false _ (c .if3 .left)) (omega arith)
+    let c3 = c .before .before .before in
+    let c6 = c3 .before .before .before in
+    let c10 = c6 .before .before .before .before in
+    let c12 = c10 .before .before in
+    let c15 = c12 .before .before .before in
+    let room : 2 * c15 .args .place ≤ length (c15 .args .code .now) = omega (arith, c15 .pre .0 .room) in
+    let w = within-done _ _ _ _ _ _ _ _ (c10 .reference .ensures .within) (c6 .to .given .1) in
+    summands-found _ _ _ _ _ _ _ _ _
+    (take-put (2 * c15 .args .place) (length (c15 .args .code .now) - 2 * c15 .args .place) (c15 .args .code .now)
+    (c10 .reference .last .1 .1 .1 .1 .1 .0) room)
+    _ _ _ _ (c10 .reference .ensures) _ _ _ (c6 .to .given .1) (c3 .pass .ensures) (w .1) (c .before .alike .ensures)
+    (not-false _ (c12 .if1 .left)) (not-false _ (c .if3 .left)) (omega arith)
 
 same-length-4 : tie.Need-same-length-4
 same-length-4 c = search needs
 
 returns-5 : tie.Need-returns-5
 returns-5 c =
-    let room : 2 * c .before .before .before .before .before .before .before .before .before .args .place ≤ length (c .before .before .before .before .before .before .before .before .before .args .code .now) = omega (arith, c .before .before .before .before .before .before .before .before .before .pre .0 .room) in
-    summands-unread _ _ _ _ _ _ _ _ _ (take-put (2 * c .before .before .before .before .before .before .before .before .before .args .place) (length (c .before .before .before .before .before .before .before .before .before .args .code .now) - 2 * c .before .before .before .before .before .before .before .before .before .args .place) (c .before .before .before .before .before .before .before .before .before .args .code .now) (c .before .before .before .before .reference .last .1 .1 .1 .1 .1 .0) room) _ _ _ _ (c .before .before .before .before .reference .ensures) (c .enum-told .given .1)
+    let c4 = c .before .before .before .before in
+    let c9 = c4 .before .before .before .before .before in
+    let room : 2 * c9 .args .place ≤ length (c9 .args .code .now) = omega (arith, c9 .pre .0 .room) in
+    summands-unread _ _ _ _ _ _ _ _ _
+    (take-put (2 * c9 .args .place) (length (c9 .args .code .now) - 2 * c9 .args .place) (c9 .args .code .now)
+    (c4 .reference .last .1 .1 .1 .1 .1 .0) room)
+    _ _ _ _ (c4 .reference .ensures) (c .enum-told .given .1)
 
 pub summand-spec : {M : Type 1} → statement M
 summand-spec =

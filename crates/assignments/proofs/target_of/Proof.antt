@@ -1,7 +1,8 @@
 -- `assignments::target_of` meets its contract.
-use mathlib.Core.Path.{_∙_, ap}
+use mathlib.Core.Path.{sym, _∙_, ap}
 use native.Mathlib.Omega.{arith}
 use lib.ListN.{length, drop}
+use borrow.Author.Tests.{not-true, not-false, eqb-true, eqb-false}
 use borrow.Author.Needs.{needs}
 use Rattle.lexer.proofs.Said.{name-short}
 use Rattle.assignments.proofs.Assigned.{targets-none, targets-some}
@@ -20,8 +21,15 @@ slice-aggregate-reads c = search needs
 reads-requires : tie.Need-reads-requires
 reads-requires c κs = search needs
 
+same-kind-requires : tie.Need-same-kind-requires
+same-kind-requires c κs = search needs
+
 returns : tie.Need-returns
-returns c = targets-none _ _ (c .before .before .before .before .token .ensures) (c .before .before .before .token2 .ensures) (c .before .reads .ensures) (c .if1 .taken)
+returns c =
+    let c4 = c .before .before .before .before in
+    let c5 = c4 .before in
+    targets-none _ _ (c5 .token .ensures) (c4 .token2 .ensures) (c .before .before .reads .ensures)
+    (eqb-false _ 1 (sym (c .before .same-kind .ensures) ∙ not-true _ (c .if1 .taken)))
 
 sub-find : tie.Need-sub-find
 sub-find c = search needs
@@ -33,7 +41,15 @@ part-find-end : tie.Need-part-find-end
 part-find-end c = search needs
 
 find-requires : tie.Need-find-requires
-find-requires c κs = omega (arith, name-short (drop 0 (c .before .before .before .before .before .before .before .args .s .now)) (c .before .before .before .before .before .token .ensures .kinds ∙ c .before .if1 .left), ap length (c .before .before .before .before .before .token .ensures .bytes))
+find-requires c κs =
+    let c6 = c .before .before .before .before .before .before in
+    let c8 = c6 .before .before in
+    omega (
+      arith,
+      name-short (drop 0 (c8 .args .s .now))
+          (c6 .token .ensures .kinds ∙ eqb-true _ 1 (sym (c .before .before .same-kind .ensures) ∙ not-false _ (c .before .if1 .left))),
+      ap length (c6 .token .ensures .bytes),
+    )
 
 sub-is-named : tie.Need-sub-is-named
 sub-is-named c = search needs
@@ -45,13 +61,31 @@ part-is-named-end : tie.Need-part-is-named-end
 part-is-named-end c = search needs
 
 is-named-requires : tie.Need-is-named-requires
-is-named-requires c κs = (omega arith, omega (arith, name-short (drop 0 (c .before .before .before .before .before .before .before .before .before .before .args .s .now)) (c .before .before .before .before .before .before .before .before .token .ensures .kinds ∙ c .before .before .before .before .if1 .left), ap length (c .before .before .before .before .before .before .before .before .token .ensures .bytes)))
+is-named-requires c κs =
+    let c4 = c .before .before .before .before in
+    let c5 = c4 .before in
+    let c9 = c5 .before .before .before .before in
+    let c11 = c9 .before .before in (
+      omega arith,
+      omega (
+        arith,
+        name-short (drop 0 (c11 .args .s .now))
+            (c9 .token .ensures .kinds ∙ eqb-true _ 1 (sym (c5 .same-kind .ensures) ∙ not-false _ (c4 .if1 .left))),
+        ap length (c9 .token .ensures .bytes),
+      ),
+    )
 
 operand-of-requires : tie.Need-operand-of-requires
 operand-of-requires c κs = search needs
 
 returns-2 : tie.Need-returns-2
-returns-2 c = targets-some _ _ (c .before .before .before .before .before .before .before .before .before .before .token .ensures) (c .before .before .before .before .before .before .before .before .before .token2 .ensures) (c .before .before .before .before .before .before .before .reads .ensures) (c .before .before .before .before .find .result) _ _ (c .before .before .before .before .find .ensures .1) (c .before .is-named .ensures) (c .operand-of .ensures)
+returns-2 c =
+    let c4 = c .before .before .before .before in
+    let c8 = c4 .before .before .before .before in
+    let c10 = c8 .before .before in
+    let c11 = c10 .before in
+    targets-some _ _ (c11 .token .ensures) (c10 .token2 .ensures) (c8 .reads .ensures) (c4 .find .result) _ _ (c4 .find .ensures .1)
+    (c .before .is-named .ensures) (c .operand-of .ensures)
 
 pub target-of-spec : {M : Type 1} → statement M
 target-of-spec =
@@ -61,6 +95,7 @@ target-of-spec =
     token-requires-2
     slice-aggregate-reads
     reads-requires
+    same-kind-requires
     returns
     sub-find
     part-find-start

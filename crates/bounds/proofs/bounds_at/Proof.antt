@@ -32,7 +32,14 @@ digits-requires-2 : tie.Need-digits-requires-2
 digits-requires-2 c κs = search needs
 
 returns : tie.Need-returns
-returns c = bounds-read _ _ (c .before .before .before .before .before .before .before .before .name .result) (c .before .before .before .before .before .before .before .before .name .ensures) _ (c .before .before .before .before .before .before .pass .ensures) (c .before .before .before .before .before .lead .result) (c .before .before .before .before .before .lead .ensures) (c .before .before .before .before .digits .result) (c .before .before .before .before .digits .ensures) _ (c .before .before .pass2 .ensures) (c .before .lead2 .result) (c .before .lead2 .ensures) (c .digits2 .result) (c .digits2 .ensures)
+returns c =
+    let c4 = c .before .before .before .before in
+    let c5 = c4 .before in
+    let c6 = c5 .before in
+    let c8 = c6 .before .before in
+    bounds-read _ _ (c8 .name .result) (c8 .name .ensures) _ (c6 .pass .ensures) (c5 .lead .result) (c5 .lead .ensures) (c4 .digits .result)
+    (c4 .digits .ensures) _ (c .before .before .pass2 .ensures) (c .before .lead2 .result) (c .before .lead2 .ensures) (c .digits2 .result)
+    (c .digits2 .ensures)
 
 pub bounds-at-spec : {M : Type 1} → statement M
 bounds-at-spec =

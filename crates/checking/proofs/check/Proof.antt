@@ -15,10 +15,14 @@ read-requires : tie.Need-read-requires
 read-requires c κs = search needs
 
 returns : tie.Need-returns
-returns c = check-fine _ _ _ _ _ (c .before .before .before .before .before .read .ensures) (is-fine _ _ _ _ _ (c .before .before .before .before .before .read .ensures) (c .if1 .taken))
+returns c =
+    let c5 = c .before .before .before .before .before in
+    check-fine _ _ _ _ _ (c5 .read .ensures) (is-fine _ _ _ _ _ (c5 .read .ensures) (c .if1 .taken))
 
 returns-2 : tie.Need-returns-2
-returns-2 c = check-bad _ _ _ _ _ (c .before .before .before .before .before .read .ensures) (is-bad _ _ _ _ _ (c .before .before .before .before .before .read .ensures) (c .if1 .left))
+returns-2 c =
+    let c5 = c .before .before .before .before .before in
+    check-bad _ _ _ _ _ (c5 .read .ensures) (is-bad _ _ _ _ _ (c5 .read .ensures) (c .if1 .left))
 
 pub check-spec : {M : Type 1} → statement M
 check-spec =

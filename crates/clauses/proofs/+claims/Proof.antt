@@ -3,7 +3,8 @@ use native.Mathlib.Omega.{arith}
 use Prim.Native.Nat.{_-_}
 use lib.ListN.{length}
 use borrow.Author.Needs.{needs}
-use Rattle.clauses.proofs.ClauseLines.{claims-last, claims-more, claims-onward}
+use Rattle.clauses.proofs.NamesClaimed.{claims-last, claims-more, claims-onward}
+use Rattle.heading.proofs.Lists.{keeps-on}
 use Prim.Native.Nat.{ℕ, _<_}
 use borrow.Fn.Kinds.{In}
 use borrow.Fn.PlainCycle.{Measures, is, falls, and}
@@ -14,7 +15,6 @@ use Rattle.clauses.proofs.claim_at.Reads as claim-at-reads
 use Rattle.lexer.proofs.pass.Reads as pass-reads
 use Rattle.clauses.proofs.+claims.{statement}
 use Rattle.clauses.proofs.+claims.Tie.{close}
-use Rattle.heading.proofs.Lists.{keeps-on}
 
 abbrev μ-claims : Measures 2 claims-kinds.ps ℕ
 μ-claims κs a = length (a .0 .now) - a .1 .0
@@ -63,7 +63,11 @@ claims-returns : (t : ℕ) → claims-lts.Need-returns (
   claims-below t,
   claims.Post,
 ) (claims-at t) claims.Post
-claims-returns t c = (claims-last _ _ _ (c .before .before .before .before .before .before .args .clause) _ _ (c .before .before .before .claim-at .result) (c .before .before .before .claim-at .ensures .0) _ (c .before .pass .ensures) (c .if1 .taken), c .before .before .before .claim-at .ensures .1)
+claims-returns t c = (
+  claims-last _ _ _ (c .before .before .before .before .before .before .args .kind) _ _ (c .before .before .before .claim-at .result)
+      (c .before .before .before .claim-at .ensures .0) _ (c .before .pass .ensures) (c .if1 .taken),
+  c .before .before .before .claim-at .ensures .1,
+)
 
 claims-claims-requires : (t : ℕ) → claims-lts.Need-claims-requires (
   claim-at-reads.Asked,
@@ -73,7 +77,13 @@ claims-claims-requires : (t : ℕ) → claims-lts.Need-claims-requires (
   claims-below t,
   claims.Post,
 ) (claims-at t) claims.Post
-claims-claims-requires t c κs = (claims-onward _ _ _ (c .before .before .before .before .before .before .before .args .clause) _ _ (c .before .before .before .before .claim-at .result) (c .before .before .before .before .claim-at .ensures .0) _ (c .before .before .pass .ensures) (c .before .before .before .before .before .before .before .pre .1 .3) (c .before .before .before .before .before .before .before .pre .0) (omega arith), (c .before .before .before .before .before .before .before .pre .1 .0, c .before .before .before .before .before .before .before .pre .1 .1, c .before .before .before .before .before .before .before .pre .1 .2, c .before .before .before .before .claim-at .ensures .1 .1))
+claims-claims-requires t c κs = (
+  claims-onward _ _ _ (c .before .before .before .before .before .before .before .args .kind) _ _
+      (c .before .before .before .before .claim-at .result) (c .before .before .before .before .claim-at .ensures .0) _
+      (c .before .before .pass .ensures) (c .before .before .before .before .before .before .before .pre .1 .1)
+      (c .before .before .before .before .before .before .before .pre .0) (omega arith),
+  (c .before .before .before .before .before .before .before .pre .1 .0, c .before .before .before .before .claim-at .ensures .1 .1),
+)
 
 claims-returns-2 : (t : ℕ) → claims-lts.Need-returns-2 (
   claim-at-reads.Asked,
@@ -83,7 +93,12 @@ claims-returns-2 : (t : ℕ) → claims-lts.Need-returns-2 (
   claims-below t,
   claims.Post,
 ) (claims-at t) claims.Post
-claims-returns-2 t c = (claims-more _ _ _ (c .before .before .before .before .before .before .before .before .args .clause) _ _ (c .before .before .before .before .before .claim-at .result) (c .before .before .before .before .before .claim-at .ensures .0) _ (c .before .before .before .pass .ensures) (omega arith) _ _ (c .claims .ensures .0), (keeps-on _ _ _ (c .before .before .before .before .before .claim-at .ensures .1 .0) (c .claims .ensures .1 .0), c .claims .ensures .1 .1))
+claims-returns-2 t c = (
+  claims-more _ _ _ (c .before .before .before .before .before .before .before .before .args .kind) _ _
+      (c .before .before .before .before .before .claim-at .result) (c .before .before .before .before .before .claim-at .ensures .0) _
+      (c .before .before .before .pass .ensures) (omega arith) _ _ (c .claims .ensures .0),
+  (keeps-on _ _ _ (c .before .before .before .before .before .claim-at .ensures .1 .0) (c .claims .ensures .1 .0), c .claims .ensures .1 .1),
+)
 
 pub +claims-spec : {M : Type 1} → statement M
 +claims-spec = close μ-claims λ t. claims-lts.spec (

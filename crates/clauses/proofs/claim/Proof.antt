@@ -1,8 +1,9 @@
--- `clauses::claim` meets its contract.
+-- `clauses::claim` meets its contract: a name that is unknown, stands in a clause already, or gets its class.
 use mathlib.Core.Path.{refl}
 use native.Mathlib.Omega.{arith}
 use borrow.Author.Tests.{not-true, not-false}
-use Rattle.clauses.proofs.ClauseLines.{claims-none, claims-taken, claims-free, classed-keeps}
+use Rattle.syntax.specs.Known.{class-by}
+use Rattle.clauses.proofs.NamesClaimed.{claims-none, claims-taken, claims-free, classed-keeps}
 use borrow.Author.Needs.{needs}
 use Rattle.clauses.proofs.claim.Statement.{statement}
 use Rattle.clauses.proofs.claim.Tie as tie
@@ -14,23 +15,44 @@ ranked-requires : tie.Need-ranked-requires
 ranked-requires c κs = search needs
 
 returns : tie.Need-returns
-returns c = (claims-none _ _ _ _ (c .before .before .before .find .result) (c .before .before .before .find .ensures .1) (c .before .before .before .find .ensures .2) (not-true (c .before .before .before .find .result .known) (c .before .if1 .taken)) _ (c .ranked .ensures), (λ h. (h, refl), c .before .before .before .before .before .before .pre .3))
+returns c =
+    let c3 = c .before .before .before in
+    let c6 = c3 .before .before .before in
+    let n = c3 .find in (
+      claims-none _ _ _ _ (n .result) (n .ensures .1) (n .ensures .2) (not-true (n .result .known) (c .before .if1 .taken)) _ (c .ranked .ensures),
+      (λ h. (h, refl), c6 .pre .1),
+    )
 
 ranked-requires-2 : tie.Need-ranked-requires-2
 ranked-requires-2 c κs = search needs
 
 returns-2 : tie.Need-returns-2
-returns-2 c = (claims-taken _ _ _ _ (c .before .before .before .before .before .find .result) (c .before .before .before .before .before .find .ensures .1) (c .before .before .before .before .before .find .ensures .2) (not-false (c .before .before .before .before .before .find .result .known) (c .before .before .before .if1 .left)) (c .before .if2 .taken) _ (c .ranked2 .ensures), (λ h. (h, refl), c .before .before .before .before .before .before .before .before .pre .3))
+returns-2 c =
+    let c4 = c .before .before .before .before in
+    let c7 = c4 .before .before .before in
+    let n = c4 .find in
+    let known = not-false (n .result .known) (c .before .before .if1 .left) in
+    (claims-taken _ _ _ _ (n .result) (n .ensures .1) (n .ensures .2) known (c .before .if2 .taken) _ (c .ranked2 .ensures), (λ h. (h, refl), c7 .pre .1))
+
+class-of-requires : tie.Need-class-of-requires
+class-of-requires c κs = search needs
 
 classify-requires : tie.Need-classify-requires
-classify-requires c κs = let (t, tab) = c .before .before .before .before .before .before .before .before .pre .3 in (omega (arith, c .before .before .before .before .before .find .ensures .2 t tab (not-false (c .before .before .before .before .before .find .result .known) (c .before .before .before .if1 .left)) .within, tab .few), c .before .before .before .before .before .before .before .before .pre .2)
+classify-requires c κs =
+    let n = c .before .before .before .before .before .find in
+    let (t, tab) = c .before .before .before .before .before .before .before .before .pre .1 in
+    let there = n .ensures .2 t tab (not-false (n .result .known) (c .before .before .before .if1 .left)) in
+    (omega (arith, there .within, tab .few), c .class-of .ensures .1)
 
 returns-3 : tie.Need-returns-3
 returns-3 c =
-    let k = not-false (c .before .before .before .before .before .before .find .result .known) (c .before .before .before .before .if1 .left) in
-    let (t, tab) = c .before .before .before .before .before .before .before .before .before .pre .3 in (
-      claims-free _ _ _ _ (c .before .before .before .before .before .before .find .result) (c .before .before .before .before .before .before .find .ensures .1) (c .before .before .before .before .before .before .find .ensures .2) k (c .before .before .if2 .left) (c .before .before .before .before .before .before .before .before .before .pre .1) _ (c .classify .ensures),
-      (classed-keeps _ _ _ _ (c .classify .ensures), (_, c .classify .ensures .table t tab (c .before .before .before .before .before .before .find .ensures .2 t tab k .within))),
+    let n = c .before .before .before .before .before .before .find in
+    let known = not-false (n .result .known) (c .before .before .before .before .if1 .left) in
+    let start = c .before .before .before .before .before .before .before .before .before in
+    let (t, tab) = start .pre .1 in
+    let done = c .classify .ensures in (
+      claims-free _ _ _ _ (n .result) (n .ensures .1) (n .ensures .2) known (c .before .before .before .if2 .left) _ (c .before .class-of .ensures .0) _ done,
+      (classed-keeps _ _ _ _ done, (_, done .table t (class-by (start .args .kind)) (c .before .class-of .ensures .0) tab (n .ensures .2 t tab known .within))),
     )
 
 pub claim-spec : {M : Type 1} → statement M
@@ -42,5 +64,6 @@ claim-spec =
     returns
     ranked-requires-2
     returns-2
+    class-of-requires
     classify-requires
     returns-3)

@@ -30,8 +30,17 @@ enum-known-n c = search needs
 
 comparison-requires : tie.Need-comparison-requires
 comparison-requires c κs =
-    let w = within-done _ _ _ _ _ _ _ _ (c .before .before .before .before .before .before .expression .ensures .within) (c .before .before .n .given .1) in
-    (record { inside = w .1; shallow = omega arith; short = c .before .before .before .before .before .before .before .before .before .before .before .before .before .before .before .pre .0; room = omega (arith, c .before .before .before .before .before .before .before .before .before .before .before .before .before .before .before .pre .2, w .1, w .2, c .before .before .before .before .before .before .expression .kept .1 .1 .1 .1 .1 .1 .0) }, c .before .before .before .before .before .before .before .before .before .before .before .before .before .before .before .pre .1)
+    let c6 = c .before .before .before .before .before .before in
+    let c15 = c6 .before .before .before .before .before .before .before .before .before in
+    let w = within-done _ _ _ _ _ _ _ _ (c6 .expression .ensures .within) (c .before .before .n .given .1) in (
+      record {
+        inside = w .1;
+        shallow = omega arith;
+        short = c15 .pre .0;
+        room = omega (arith, c15 .pre .2, w .1, w .2, c6 .expression .kept .1 .1 .1 .1 .1 .1 .0);
+      },
+      c15 .pre .1,
+    )
 
 enum-told : tie.Need-enum-told
 enum-told c = search needs
@@ -40,13 +49,26 @@ same-length : tie.Need-same-length
 same-length c = search needs
 
 returns-2 : tie.Need-returns-2
-returns-2 c = condition-compiles _ _ _ _ _ _ _ (c .before .before .before .before .before .before .before .before .before .before .before .before .before .before .pass .ensures) (c .before .before .before .before .before .before .before .before .before .before .before .before .pass2 .ensures) _ _ (omega arith) (c .before .before .before .before .before .before .before .before .before .before .before .before .before .before .before .before .before .before .pre .2) (c .before .before .before .before .before .before .before .before .before .expression .ensures) (compares-on _ _ _ _ _ _ _ _ _ _ (c .before .before .before .before .before .n .given .1) (c .before .before .comparison .ensures))
+returns-2 c =
+    let c5 = c .before .before .before .before .before in
+    let c9 = c5 .before .before .before .before in
+    let c12 = c9 .before .before .before in
+    let c14 = c12 .before .before in
+    let c18 = c14 .before .before .before .before in
+    condition-compiles _ _ _ _ _ _ _ (c14 .pass .ensures) (c12 .pass2 .ensures) _ _ (omega arith) (c18 .pre .2) (c9 .expression .ensures)
+    (compares-on _ _ _ _ _ _ _ _ _ _ (c5 .n .given .1) (c .before .before .comparison .ensures))
 
 same-length-2 : tie.Need-same-length-2
 same-length-2 c = search needs
 
 returns-3 : tie.Need-returns-3
-returns-3 c = condition-compiles _ _ _ _ _ _ _ (c .before .before .before .before .before .before .before .before .before .pass .ensures) (c .before .before .before .before .before .before .before .pass2 .ensures) _ _ (omega arith) (c .before .before .before .before .before .before .before .before .before .before .before .before .before .pre .2) (c .before .before .before .before .expression .ensures) (compares-not _ _ _ _ _ _ (c .enum-told .given .1))
+returns-3 c =
+    let c4 = c .before .before .before .before in
+    let c7 = c4 .before .before .before in
+    let c9 = c7 .before .before in
+    let c13 = c9 .before .before .before .before in
+    condition-compiles _ _ _ _ _ _ _ (c9 .pass .ensures) (c7 .pass2 .ensures) _ _ (omega arith) (c13 .pre .2) (c4 .expression .ensures)
+    (compares-not _ _ _ _ _ _ (c .enum-told .given .1))
 
 pub condition-spec : {M : Type 1} → statement M
 condition-spec =

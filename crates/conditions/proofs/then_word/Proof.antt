@@ -18,14 +18,20 @@ pass-requires c κs = search needs
 
 returns : tie.Need-returns
 unfolding Inside
-returns c = then-other (c .before .before .before .before .g .given .1) (c .before .pass .ensures) (subst (Inside (c .before .before .before .before .before .before .before .args .s .now)) (c .before .before .before .before .g .given .1) (c .before .before .before .before .before .before .before .pre .0)) (omega arith)
+returns c =
+    let c4 = c .before .before .before .before in
+    let c7 = c4 .before .before .before in
+    then-other (c4 .g .given .1) (c .before .pass .ensures) (subst (Inside (c7 .args .s .now)) (c4 .g .given .1) (c7 .pre .0)) (omega arith)
 
 enum-told : tie.Need-enum-told
 enum-told c = search needs
 
 returns-2 : tie.Need-returns-2
 unfolding Inside
-returns-2 c = then-ends (c .before .before .before .before .g .given .1) (c .before .pass .ensures) (subst (Inside (c .before .before .before .before .before .before .before .args .s .now)) (c .before .before .before .before .g .given .1) (c .before .before .before .before .before .before .before .pre .0)) (omega arith)
+returns-2 c =
+    let c4 = c .before .before .before .before in
+    let c7 = c4 .before .before .before in
+    then-ends (c4 .g .given .1) (c .before .pass .ensures) (subst (Inside (c7 .args .s .now)) (c4 .g .given .1) (c7 .pre .0)) (omega arith)
 
 returns-3 : tie.Need-returns-3
 returns-3 c = then-unread _ _ (c .enum-told .given .1)

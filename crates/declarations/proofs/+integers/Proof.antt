@@ -63,7 +63,11 @@ integers-returns : (t : ℕ) → integers-lts.Need-returns (
   integers-below t,
   integers.Post,
 ) (integers-at t) integers.Post
-integers-returns t c = (integers-last _ _ _ _ _ _ (c .before .before .before .integer .result) (c .before .before .before .integer .ensures .0) _ (c .before .pass .ensures) (c .if1 .taken) (c .before .before .before .integer .ensures .1 .1), c .before .before .before .integer .ensures .1)
+integers-returns t c = (
+  integers-last _ _ _ _ _ _ (c .before .before .before .integer .result) (c .before .before .before .integer .ensures .0) _
+      (c .before .pass .ensures) (c .if1 .taken) (c .before .before .before .integer .ensures .1 .1),
+  c .before .before .before .integer .ensures .1,
+)
 
 integers-integers-requires : (t : ℕ) → integers-lts.Need-integers-requires (
   integer-reads.Asked,
@@ -73,7 +77,11 @@ integers-integers-requires : (t : ℕ) → integers-lts.Need-integers-requires (
   integers-below t,
   integers.Post,
 ) (integers-at t) integers.Post
-integers-integers-requires t c κs = (onward _ _ _ _ (c .before .before .before .before .before .before .before .pre .0) (c .before .before .before .before .integer .ensures .0) (c .before .before .pass .ensures) (omega arith), (c .before .before .before .before .before .before .before .pre .1 .0, c .before .before .before .before .integer .ensures .1 .1))
+integers-integers-requires t c κs = (
+  onward _ _ _ _ (c .before .before .before .before .before .before .before .pre .0) (c .before .before .before .before .integer .ensures .0)
+      (c .before .before .pass .ensures) (omega arith),
+  (c .before .before .before .before .before .before .before .pre .1 .0, c .before .before .before .before .integer .ensures .1 .1),
+)
 
 integers-returns-2 : (t : ℕ) → integers-lts.Need-returns-2 (
   integer-reads.Asked,
@@ -83,7 +91,12 @@ integers-returns-2 : (t : ℕ) → integers-lts.Need-returns-2 (
   integers-below t,
   integers.Post,
 ) (integers-at t) integers.Post
-integers-returns-2 t c = (integers-more _ _ _ _ _ _ (c .before .before .before .before .before .integer .result) (c .before .before .before .before .before .integer .ensures .0) _ (c .before .before .before .pass .ensures) (omega arith) _ _ (c .integers .ensures .0), (keeps-on _ _ _ (c .before .before .before .before .before .integer .ensures .1 .0) (c .integers .ensures .1 .0), c .integers .ensures .1 .1))
+integers-returns-2 t c = (
+  integers-more _ _ _ _ _ _ (c .before .before .before .before .before .integer .result)
+      (c .before .before .before .before .before .integer .ensures .0) _ (c .before .before .before .pass .ensures) (omega arith) _ _
+      (c .integers .ensures .0),
+  (keeps-on _ _ _ (c .before .before .before .before .before .integer .ensures .1 .0) (c .integers .ensures .1 .0), c .integers .ensures .1 .1),
+)
 
 pub +integers-spec : {M : Type 1} → statement M
 +integers-spec = close μ-integers λ t. integers-lts.spec (

@@ -61,7 +61,9 @@ later-returns : (t : ℕ) → later-lts.Need-returns (
   later-below t,
   later.Post,
 ) (later-at t) later.Post
-later-returns t c = later-none (c .before .before .before .before .before .args .s .now) (c .before .before .before .before .before .args .at) (c .before .before .before .before .before .args .w .now) (c .before .before .before .before .before .pre .1 .1) _ (c .before .pass .ensures) (c .if1 .taken)
+later-returns t c = later-none (c .before .before .before .before .before .args .s .now) (c .before .before .before .before .before .args .at)
+    (c .before .before .before .before .before .args .w .now) (c .before .before .before .before .before .pre .1 .1) _ (c .before .pass .ensures)
+    (c .if1 .taken)
 
 later-declared-requires : (t : ℕ) → later-lts.Need-declared-requires (
   pass-reads.Asked,
@@ -85,7 +87,10 @@ later-returns-2 : (t : ℕ) → later-lts.Need-returns-2 (
   later-below t,
   later.Post,
 ) (later-at t) later.Post
-later-returns-2 t c = later-broken (c .before .before .before .before .before .before .before .args .s .now) (c .before .before .before .before .before .before .before .args .at) (c .before .before .before .before .before .before .before .args .w .now) (c .before .before .before .before .before .before .before .pre .1 .1) _ (c .before .before .before .pass .ensures) (omega arith) _ (c .before .declared .ensures) (c .if2 .taken)
+later-returns-2 t c = later-broken (c .before .before .before .before .before .before .before .args .s .now)
+    (c .before .before .before .before .before .before .before .args .at) (c .before .before .before .before .before .before .before .args .w .now)
+    (c .before .before .before .before .before .before .before .pre .1 .1) _ (c .before .before .before .pass .ensures) (omega arith) _
+    (c .before .declared .ensures) (c .if2 .taken)
 
 later-sub-equal : (t : ℕ) → later-lts.Need-sub-equal (
   pass-reads.Asked,
@@ -145,7 +150,12 @@ later-returns-3 : (t : ℕ) → later-lts.Need-returns-3 (
   later-below t,
   later.Post,
 ) (later-at t) later.Post
-later-returns-3 t c = later-here (c .before .before .before .before .before .before .before .before .before .before .args .s .now) (c .before .before .before .before .before .before .before .before .before .before .args .at) (c .before .before .before .before .before .before .before .before .before .before .args .w .now) (c .before .before .before .before .before .before .before .before .before .before .pre .1 .1) _ (c .before .before .before .before .before .before .pass .ensures) (omega arith) _ (c .before .before .before .before .declared .ensures) (sym (c .before .equal .ensures) ∙ c .if3 .taken)
+later-returns-3 t c = later-here (c .before .before .before .before .before .before .before .before .before .before .args .s .now)
+    (c .before .before .before .before .before .before .before .before .before .before .args .at)
+    (c .before .before .before .before .before .before .before .before .before .before .args .w .now)
+    (c .before .before .before .before .before .before .before .before .before .before .pre .1 .1) _
+    (c .before .before .before .before .before .before .pass .ensures) (omega arith) _ (c .before .before .before .before .declared .ensures)
+    (sym (c .before .equal .ensures) ∙ c .if3 .taken)
 
 later-later-requires : (t : ℕ) → later-lts.Need-later-requires (
   pass-reads.Asked,
@@ -157,7 +167,18 @@ later-later-requires : (t : ℕ) → later-lts.Need-later-requires (
   later-below t,
   later.Post,
 ) (later-at t) later.Post
-later-later-requires t c κs = (omega (arith, c .before .before .before .before .before .before .before .before .before .before .pre .0, pass-onward (c .before .before .before .before .before .before .before .before .before .before .args .s .now) (bytes ",") (c .before .before .before .before .before .before .before .before .before .before .args .at) (c .before .before .before .before .before .before .pass .result) (c .before .before .before .before .before .before .pass .ensures) (omega arith) (c .before .before .before .before .before .before .before .before .before .before .pre .1 .1) (omega arith), c .before .before .before .before .declared .ensures .from (omega arith)), (c .before .before .before .before .before .before .before .before .before .before .pre .1 .0, omega arith))
+later-later-requires t c κs = (
+  omega (
+    arith,
+    c .before .before .before .before .before .before .before .before .before .before .pre .0,
+    pass-onward (c .before .before .before .before .before .before .before .before .before .before .args .s .now) (bytes ",")
+        (c .before .before .before .before .before .before .before .before .before .before .args .at)
+        (c .before .before .before .before .before .before .pass .result) (c .before .before .before .before .before .before .pass .ensures)
+        (omega arith) (c .before .before .before .before .before .before .before .before .before .before .pre .1 .1) (omega arith),
+    c .before .before .before .before .declared .ensures .from (omega arith),
+  ),
+  (c .before .before .before .before .before .before .before .before .before .before .pre .1 .0, omega arith),
+)
 
 later-returns-4 : (t : ℕ) → later-lts.Need-returns-4 (
   pass-reads.Asked,
@@ -169,7 +190,13 @@ later-returns-4 : (t : ℕ) → later-lts.Need-returns-4 (
   later-below t,
   later.Post,
 ) (later-at t) later.Post
-later-returns-4 t c = later-on (c .before .before .before .before .before .before .before .before .before .before .before .args .s .now) (c .before .before .before .before .before .before .before .before .before .before .before .args .at) (c .before .before .before .before .before .before .before .before .before .before .before .args .w .now) (c .before .before .before .before .before .before .before .before .before .before .before .pre .1 .1) _ (c .before .before .before .before .before .before .before .pass .ensures) (omega arith) _ (c .before .before .before .before .before .declared .ensures) (sym (c .before .before .equal .ensures) ∙ c .before .if3 .left) _ (c .later .ensures)
+later-returns-4 t c = later-on (c .before .before .before .before .before .before .before .before .before .before .before .args .s .now)
+    (c .before .before .before .before .before .before .before .before .before .before .before .args .at)
+    (c .before .before .before .before .before .before .before .before .before .before .before .args .w .now)
+    (c .before .before .before .before .before .before .before .before .before .before .before .pre .1 .1) _
+    (c .before .before .before .before .before .before .before .pass .ensures) (omega arith) _
+    (c .before .before .before .before .before .declared .ensures) (sym (c .before .before .equal .ensures) ∙ c .before .if3 .left) _
+    (c .later .ensures)
 
 pub +later-spec : {M : Type 1} → statement M
 +later-spec = close μ-later λ t. later-lts.spec (

@@ -27,7 +27,10 @@ pass-requires-2 : tie.Need-pass-requires-2
 pass-requires-2 c κs = search needs
 
 returns-2 : tie.Need-returns-2
-returns-2 c = declares-array _ _ (c .before .before .before .before .before .before .name .result) (c .before .before .before .before .before .before .name .ensures) _ (c .before .before .before .before .pass .ensures) (omega arith) _ _ (c .before .before .digits .ensures) _ (c .pass2 .ensures)
+returns-2 c =
+    let c4 = c .before .before .before .before in
+    let c6 = c4 .before .before in
+    declares-array _ _ (c6 .name .result) (c6 .name .ensures) _ (c4 .pass .ensures) (omega arith) _ _ (c .before .before .digits .ensures) _ (c .pass2 .ensures)
 
 pub declared-spec : {M : Type 1} → statement M
 declared-spec =

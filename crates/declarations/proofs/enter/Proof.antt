@@ -14,7 +14,12 @@ add-result : tie.Need-add-result
 add-result c = search needs
 
 returns-2 : tie.Need-returns-2
-returns-2 c = record { added = λ e. c .add .ensures; more = λ e. refl; left = λ n. absurd (n (c .before .before .if1 .left)); same = λ n. absurd (n (c .before .before .if1 .left)) }
+returns-2 c = record {
+  added = λ e. c .add .ensures;
+  more = λ e. refl;
+  left = λ n. absurd (n (c .before .before .if1 .left));
+  same = λ n. absurd (n (c .before .before .if1 .left));
+}
 
 pub enter-spec : {M : Type 1} → statement M
 enter-spec = tie.close (tie.spec returns add-requires add-result returns-2)

@@ -1,3 +1,4 @@
+-- `declarations::integer` meets its contract.
 use mathlib.Core.Path.{ap, refl}
 use lib.ListN.{length}
 use native.Mathlib.Omega.{arith}
@@ -24,34 +25,50 @@ part-repeated-end : tie.Need-part-repeated-end
 part-repeated-end c = let (d, i, e, p) = goes-some (c .before .declared .ensures) (omega arith) in omega (arith, p .order, p .inside)
 
 repeated-requires : tie.Need-repeated-requires
-repeated-requires c κs = let (d, i, e, p) = goes-some (c .before .before .before .declared .ensures) (omega arith) in (omega arith, omega arith, omega (arith, p .short, ap length (p .name)))
+repeated-requires c κs =
+    let (d, i, e, p) = goes-some (c .before .before .before .declared .ensures) (omega arith) in
+    (omega arith, omega arith, omega (arith, p .short, ap length (p .name)))
 
 count-requires : tie.Need-count-requires
 count-requires c κs = search needs
 
 declared-rank-requires : tie.Need-declared-rank-requires
-declared-rank-requires c κs = let (d, i, e, p) = goes-some (c .before .before .before .before .before .before .declared .ensures) (omega arith) in (omega arith, omega (arith, p .size), omega (arith, c .count .ensures))
+declared-rank-requires c κs =
+    let (d, i, e, p) = goes-some (c .before .before .before .before .before .before .declared .ensures) (omega arith) in
+    (omega arith, omega (arith, p .size), omega (arith, c .count .ensures))
 
 sub-enter : tie.Need-sub-enter
 sub-enter c = let (d, i, e, p) = goes-some (c .before .before .before .before .before .before .before .before .declared .ensures) (omega arith) in p .order
 
 part-enter-start : tie.Need-part-enter-start
-part-enter-start c = let (d, i, e, p) = goes-some (c .before .before .before .before .before .before .before .before .declared .ensures) (omega arith) in omega (arith, p .order, p .inside)
+part-enter-start c =
+    let (d, i, e, p) = goes-some (c .before .before .before .before .before .before .before .before .declared .ensures) (omega arith) in
+    omega (arith, p .order, p .inside)
 
 part-enter-end : tie.Need-part-enter-end
-part-enter-end c = let (d, i, e, p) = goes-some (c .before .before .before .before .before .before .before .before .declared .ensures) (omega arith) in omega (arith, p .order, p .inside)
+part-enter-end c =
+    let (d, i, e, p) = goes-some (c .before .before .before .before .before .before .before .before .declared .ensures) (omega arith) in
+    omega (arith, p .order, p .inside)
 
 enter-requires : tie.Need-enter-requires
-enter-requires c κs = let (d, i, e, p) = goes-some (c .before .before .before .before .before .before .before .before .before .declared .ensures) (omega arith) in (omega (arith, p .short, ap length (p .name)), omega arith, omega (arith, p .size))
+enter-requires c κs =
+    let (d, i, e, p) = goes-some (c .before .before .before .before .before .before .before .before .before .declared .ensures) (omega arith) in
+    (omega (arith, p .short, ap length (p .name)), omega arith, omega (arith, p .size))
 
 returns-2 : tie.Need-returns-2
 returns-2 c =
-    let s = c .before .before .before .before .before .before .before .before .before .before .before .before .args .s .now in
-    let x = c .before .before .before .before .before .before .before .before .before .before .declared .result in
-    let rank = c .before .before .before .declared-rank .ensures in
-    let again = c .before .before .before .before .before .before .repeated .result in
-    let names = c .before .before .before .before .count .result in (
-      goes-saying (c .before .before .before .before .before .before .before .before .before .before .declared .ensures) (λ b d p. entered _ s _ _ _ x again names _ _ rank d p (c .before .before .before .before .before .before .repeated .ensures) (c .before .before .before .before .count .ensures) (c .enter .ensures)),
+    let c3 = c .before .before .before in
+    let c4 = c3 .before in
+    let c6 = c4 .before .before in
+    let c10 = c6 .before .before .before .before in
+    let c12 = c10 .before .before in
+    let s = c12 .args .s .now in
+    let x = c10 .declared .result in
+    let rank = c3 .declared-rank .ensures in
+    let again = c6 .repeated .result in
+    let names = c4 .count .result in (
+      goes-saying (c10 .declared .ensures) (λ b d p. entered _ s _ _ _ x again names _ _ rank d p (c6 .repeated .ensures) (c4 .count .ensures)
+          (c .enter .ensures)),
       (keeps _ s _ _ _ x again names _ _ rank _ _ (c .enter .ensures), few-cells _ s _ _ _ x again names _ _ rank _ _ (c .enter .ensures) (omega arith)),
     )
 

@@ -16,13 +16,26 @@ find-requires : tie.Need-find-requires
 find-requires c κs = search needs
 
 returns : tie.Need-returns
-returns c = record { before = λ t d e. refl; either = λ t d ds q. sym (ap (λ (b : Bool). b || any (same (c .before .before .before .before .args .w .now)) (namesOf ds)) (sym (c .before .find .ensures .1 t d .known) ∙ c .if1 .taken)) }
+returns c =
+    let c4 = c .before .before .before .before in
+    record {
+      before = λ t d e. refl;
+      either = λ t d ds q. sym (ap (λ (b : Bool). b || any (same (c4 .args .w .now)) (namesOf ds))
+          (sym (c .before .find .ensures .1 t d .known) ∙ c .if1 .taken));
+    }
 
 later-requires : tie.Need-later-requires
 later-requires c κs = search needs
 
 returns-2 : tie.Need-returns-2
-returns-2 c = record { before = λ t d e. absurd (no (sym (c .before .if1 .left) ∙ c .before .before .find .ensures .1 t d .known ∙ e)); either = λ t d ds q. c .later .ensures ds q ∙ sym (ap (λ (b : Bool). b || any (same (c .before .before .before .before .before .args .w .now)) (namesOf ds)) (sym (c .before .before .find .ensures .1 t d .known) ∙ c .before .if1 .left)) }
+returns-2 c =
+    let c5 = c .before .before .before .before .before in
+    record {
+      before = λ t d e. absurd (no (sym (c .before .if1 .left) ∙ c .before .before .find .ensures .1 t d .known ∙ e));
+      either = λ t d ds q. c .later .ensures ds q
+          ∙ sym (ap (λ (b : Bool). b || any (same (c5 .args .w .now)) (namesOf ds))
+          (sym (c .before .before .find .ensures .1 t d .known) ∙ c .before .if1 .left));
+    }
 
 pub repeated-spec : {M : Type 1} → statement M
 repeated-spec = tie.close (tie.spec find-requires returns later-requires returns-2)

@@ -18,7 +18,9 @@ same-length-2 : tie.Need-same-length-2
 same-length-2 c = search needs
 
 returns : tie.Need-returns
-returns c = (c .done-answer .ensures ∙ ap doneNumbers (c .before .before .before .before .before .look .ensures .0), c .before .before .before .before .before .look .ensures .1)
+returns c =
+    let c5 = c .before .before .before .before .before in
+    (c .done-answer .ensures ∙ ap doneNumbers (c5 .look .ensures .0), c5 .look .ensures .1)
 
 pub lrpd-look-spec : {M : Type 1} → statement M
 lrpd-look-spec =

@@ -29,7 +29,10 @@ returns-2 c = ap runNumbers (sym (c .before .r2 .given .1))
 
 returns-3 : tie.Need-returns-3
 unfolding runNumbers
-returns-3 c = let u : toZ w32 (ofZ w32 (c .before .r3 .given .0 .1 .1 .0)) ≡ c .before .r3 .given .0 .1 .1 .0 = search needs in (λ i. record { number = c .before .r3 .given .0 .0; line = c .before .r3 .given .0 .1 .0; v = u i; rerun = 0; pairs = 0; cells = 0 }) ∙ ap runNumbers (sym (c .before .r3 .given .1))
+returns-3 c =
+    let u : toZ w32 (ofZ w32 (c .before .r3 .given .0 .1 .1 .0)) ≡ c .before .r3 .given .0 .1 .1 .0 = search needs in
+    (λ i. record { number = c .before .r3 .given .0 .0; line = c .before .r3 .given .0 .1 .0; v = u i; rerun = 0; pairs = 0; cells = 0 })
+    ∙ ap runNumbers (sym (c .before .r3 .given .1))
 
 returns-4 : tie.Need-returns-4
 unfolding runNumbers

@@ -2,13 +2,18 @@
 -- bracket that may still open, and the level of the reader. Each answer hands what is known to one law of `Sums` or `Factors`.
 use Prim.Native.Nat.{ℕ, suc, _+_, _-_, _*_, _<_}
 use mathlib.Core.List.{List}
-use mathlib.Core.Path.{refl, sym, _∙_}
+use mathlib.Core.Logic.{_⊎_, ⊎-elim}
+use mathlib.Core.Path.{_≡_, refl, sym, _∙_, ap}
 use native.Mathlib.Numerals.{add-one}
 use native.Mathlib.Omega.{arith}
 use lib.ListN.{length}
 use borrow.Author.Needs.{needs}
+use Rattle.parts.specs.Parts.{joined}
+use Rattle.parts.specs.declared.Joint.{Joint}
+use Rattle.parts.specs.declared.Joint.the-variants.{First, Second}
+use Rattle.parts.specs.declared.Beginning.the-variants.{Literal, Bracket, Quotient, Name, Element}
 use Rattle.parts.proofs.Spans.{within-done, within-from, within-sealed, within-inside, ready-room, ready-next, ready-later}
-use Rattle.expressions.proofs.Shapes.{some-sign, begins-kind, begins-digits}
+use Rattle.expressions.proofs.Shapes.{some-sign, named, begins-kind, begins-digits}
 use Rattle.expressions.proofs.Sums.{goes-on, goes-not, lead-long, lead-within, sign-within, expression-answers, term-answers, terms-none, terms-some, factors-none, factors-some}
 use Rattle.expressions.proofs.Factors.{passed, factor-literal, factor-name, factor-bracket, factor-rdiv, factor-element, factor-none, ends-on, ends-not, quotient-answers}
 use borrow.Fn.Kinds.{In}
@@ -119,20 +124,83 @@ term-at t = and 3 term-kinds.ps (is 3 term-kinds.ps μ-term t) term.Pre
 abbrev term-below : ℕ → In 3 term-kinds.ps
 term-below t = and 3 term-kinds.ps (falls 3 term-kinds.ps _<_ μ-term t) term.Pre
 
+-- one of two signs stands there
+signed : {j : Joint} {A B : Type 0} → A ⊎ B → (A → j ≡ First) → (B → j ≡ Second) → joined j ≡ 1
+signed w f g = ⊎-elim (λ a. ap joined (f a)) (λ b. ap joined (g b)) w
+
 abbrev expression-claims : ℕ → expression-lts.Claims
-expression-claims t = (join-reads.Asked, join-reads.Learnt, term-below t, term.Post, then-negate-reads.Asked, then-negate-reads.Learnt, more-terms-below t, more-terms.Post)
+expression-claims t = (
+  join-reads.Asked,
+  join-reads.Learnt,
+  term-below t,
+  term.Post,
+  then-negate-reads.Asked,
+  then-negate-reads.Learnt,
+  more-terms-below t,
+  more-terms.Post,
+)
 
 abbrev factor-claims : ℕ → factor-lts.Claims
-factor-claims t = (begin-reads.Asked, begin-reads.Learnt, constant-reads.Asked, constant-reads.Learnt, quotient-below t, quotient.Post, variable-reads.Asked, variable-reads.Learnt, opened-reads.Asked, opened-reads.Learnt, expression-below t, expression.Post, expect-reads.Asked, expect-reads.Learnt, named-reads.Asked, named-reads.Learnt, then-read-reads.Asked, then-read-reads.Learnt)
+factor-claims t = (
+  begin-reads.Asked,
+  begin-reads.Learnt,
+  constant-reads.Asked,
+  constant-reads.Learnt,
+  opened-reads.Asked,
+  opened-reads.Learnt,
+  expression-below t,
+  expression.Post,
+  expect-reads.Asked,
+  expect-reads.Learnt,
+  quotient-below t,
+  quotient.Post,
+  variable-reads.Asked,
+  variable-reads.Learnt,
+  named-reads.Asked,
+  named-reads.Learnt,
+  then-read-reads.Asked,
+  then-read-reads.Learnt,
+)
 
 abbrev more-factors-claims : ℕ → more-factors-lts.Claims
-more-factors-claims t = (join-reads.Asked, join-reads.Learnt, factor-below t, factor.Post, factor-operation-reads.Asked, factor-operation-reads.Learnt, then-emit-reads.Asked, then-emit-reads.Learnt, more-factors-below t, more-factors.Post)
+more-factors-claims t = (
+  join-reads.Asked,
+  join-reads.Learnt,
+  factor-below t,
+  factor.Post,
+  factor-operation-reads.Asked,
+  factor-operation-reads.Learnt,
+  then-emit-reads.Asked,
+  then-emit-reads.Learnt,
+  more-factors-below t,
+  more-factors.Post,
+)
 
 abbrev more-terms-claims : ℕ → more-terms-lts.Claims
-more-terms-claims t = (join-reads.Asked, join-reads.Learnt, term-below t, term.Post, term-operation-reads.Asked, term-operation-reads.Learnt, then-emit-reads.Asked, then-emit-reads.Learnt, more-terms-below t, more-terms.Post)
+more-terms-claims t = (
+  join-reads.Asked,
+  join-reads.Learnt,
+  term-below t,
+  term.Post,
+  term-operation-reads.Asked,
+  term-operation-reads.Learnt,
+  then-emit-reads.Asked,
+  then-emit-reads.Learnt,
+  more-terms-below t,
+  more-terms.Post,
+)
 
 abbrev quotient-claims : ℕ → quotient-lts.Claims
-quotient-claims t = (opened-reads.Asked, opened-reads.Learnt, expression-below t, expression.Post, expect-reads.Asked, expect-reads.Learnt, then-emit-reads.Asked, then-emit-reads.Learnt)
+quotient-claims t = (
+  opened-reads.Asked,
+  opened-reads.Learnt,
+  expression-below t,
+  expression.Post,
+  expect-reads.Asked,
+  expect-reads.Learnt,
+  then-emit-reads.Asked,
+  then-emit-reads.Learnt,
+)
 
 abbrev term-claims : ℕ → term-lts.Claims
 term-claims t = (factor-below t, factor.Post, more-factors-below t, more-factors.Post)
@@ -142,202 +210,427 @@ expression-join-requires t c κs = (c .before .before .pre .1 .0 .inside, refl, 
 
 expression-term-requires : (t : ℕ) → expression-lts.Need-term-requires (expression-claims t) (expression-at t) expression.Post
 expression-term-requires t c κs =
-    let j = c .before .join .ensures .next in
-    (omega (arith, c .before .before .before .before .pre .0, j .from, j .within), (ready-later _ _ _ _ _ (c .before .before .before .before .pre .1 .0) 0 _ _ _ (omega (arith, j .from)) (j .within) (omega arith) refl, c .before .before .before .before .pre .1 .1))
+    let c4 = c .before .before .before .before in
+    let j = c .before .join .ensures .next in (
+      omega (arith, c4 .pre .0, j .from, j .within),
+      (ready-later _ _ _ _ _ (c4 .pre .1 .0) 0 _ _ _ (omega (arith, j .from)) (j .within) (omega arith) refl, c4 .pre .1 .1),
+    )
 
 expression-then-negate-requires : (t : ℕ) → expression-lts.Need-then-negate-requires (expression-claims t) (expression-at t) expression.Post
-expression-then-negate-requires t c κs = ready-room _ _ _ _ _ (c .before .before .before .before .before .before .before .before .pre .1 .0) _ _ _ _ _ (omega (arith, c .before .before .before .before .before .join .ensures .next .from, lead-long (c .before .before .before .before .before .join .result .what))) (c .before .before .before .term .ensures .within) (c .before .before .before .term .kept .1 .1 .1 .1 .1 .1 .0)
+expression-then-negate-requires t c κs =
+    let c3 = c .before .before .before in
+    let c5 = c3 .before .before in
+    let c8 = c5 .before .before .before in
+    ready-room _ _ _ _ _ (c8 .pre .1 .0) _ _ _ _ _ (omega (arith, c5 .join .ensures .next .from, lead-long (c5 .join .result .joint)))
+    (c3 .term .ensures .within) (c3 .term .kept .1 .1 .1 .1 .1 .1 .0)
 
 expression-enum-known-n : (t : ℕ) → expression-lts.Need-enum-known-n (expression-claims t) (expression-at t) expression.Post
 expression-enum-known-n t c = search needs
 
 expression-more-terms-requires : (t : ℕ) → expression-lts.Need-more-terms-requires (expression-claims t) (expression-at t) expression.Post
 expression-more-terms-requires t c κs =
-    let w = lead-within _ _ _ _ _ _ _ _ (c .before .before .before .before .before .before .before .before .before .before .before .before .join .ensures) (c .before .before .before .before .before .before .then-negate .ensures) (c .before .before .before .before .before .before .before .before .before .before .term .ensures .within) in
-    let d = within-done _ _ _ _ _ _ _ _ w (c .before .before .n .given .1) in
-    (omega (arith, c .before .before .before .before .before .before .before .before .before .before .before .before .before .before .before .pre .0, d .0, d .1), (ready-next _ _ _ _ _ (c .before .before .before .before .before .before .before .before .before .before .before .before .before .before .before .pre .1 .0) _ _ _ _ _ _ (omega arith) w (c .before .before .n .given .1) (c .before .before .before .before .before .before .then-negate .kept .1 .0 ∙ c .before .before .before .before .before .before .before .before .before .before .term .kept .1 .1 .1 .1 .1 .1 .0), c .before .before .before .before .before .before .before .before .before .before .before .before .before .before .before .pre .1 .1))
+    let c6 = c .before .before .before .before .before .before in
+    let c10 = c6 .before .before .before .before in
+    let c12 = c10 .before .before in
+    let c15 = c12 .before .before .before in
+    let w = lead-within _ _ _ _ _ _ _ _ (c12 .join .ensures) (c6 .then-negate .ensures) (c10 .term .ensures .within) in
+    let d = within-done _ _ _ _ _ _ _ _ w (c .before .before .n .given .1) in (
+      omega (arith, c15 .pre .0, d .0, d .1),
+      (
+        ready-next _ _ _ _ _ (c15 .pre .1 .0) _ _ _ _ _ _ (omega arith) w (c .before .before .n .given .1)
+            (c6 .then-negate .kept .1 .0 ∙ c10 .term .kept .1 .1 .1 .1 .1 .1 .0),
+        c15 .pre .1 .1,
+      ),
+    )
 
 expression-enum-told : (t : ℕ) → expression-lts.Need-enum-told (expression-claims t) (expression-at t) expression.Post
 expression-enum-told t c = search needs
 
 expression-same-length : (t : ℕ) → expression-lts.Need-same-length (expression-claims t) (expression-at t) expression.Post
-expression-same-length t c = c .before .before .more-terms .kept .1 .1 .1 .1 .1 .1 .0 ∙ c .before .before .before .before .before .before .before .before .before .then-negate .kept .1 .0 ∙ c .before .before .before .before .before .before .before .before .before .before .before .before .before .term .kept .1 .1 .1 .1 .1 .1 .0
+expression-same-length t c =
+    let c9 = c .before .before .before .before .before .before .before .before .before in
+    let c13 = c9 .before .before .before .before in
+    c .before .before .more-terms .kept .1 .1 .1 .1 .1 .1 .0 ∙ c9 .then-negate .kept .1 .0 ∙ c13 .term .kept .1 .1 .1 .1 .1 .1 .0
 
 expression-returns : (t : ℕ) → expression-lts.Need-returns (expression-claims t) (expression-at t) expression.Post
-expression-returns t c = expression-answers _ _ _ _ _ _ _ _ _ _ _ _ _ _ _ (c .before .before .before .before .before .before .before .before .before .before .before .before .before .before .before .join .ensures) (c .before .before .before .before .before .before .before .before .before .then-negate .ensures) (c .before .before .before .before .before .before .before .before .before .before .before .before .before .term .ensures) (goes-on _ _ _ _ _ _ _ _ _ _ _ _ (c .before .before .before .before .before .n .given .1) (c .before .before .more-terms .ensures))
+expression-returns t c =
+    let c5 = c .before .before .before .before .before in
+    let c9 = c5 .before .before .before .before in
+    let c13 = c9 .before .before .before .before in
+    let c15 = c13 .before .before in
+    expression-answers _ _ _ _ _ _ _ _ _ _ _ _ _ _ _ (c15 .join .ensures) (c9 .then-negate .ensures) (c13 .term .ensures)
+    (goes-on _ _ _ _ _ _ _ _ _ _ _ _ (c5 .n .given .1) (c .before .before .more-terms .ensures))
 
 expression-same-length-2 : (t : ℕ) → expression-lts.Need-same-length-2 (expression-claims t) (expression-at t) expression.Post
-expression-same-length-2 t c = c .before .before .before .before .then-negate .kept .1 .0 ∙ c .before .before .before .before .before .before .before .before .term .kept .1 .1 .1 .1 .1 .1 .0
+expression-same-length-2 t c =
+    let c4 = c .before .before .before .before in
+    let c8 = c4 .before .before .before .before in
+    c4 .then-negate .kept .1 .0 ∙ c8 .term .kept .1 .1 .1 .1 .1 .1 .0
 
 expression-returns-2 : (t : ℕ) → expression-lts.Need-returns-2 (expression-claims t) (expression-at t) expression.Post
-expression-returns-2 t c = expression-answers _ _ _ _ _ _ _ _ _ _ _ _ _ _ _ (c .before .before .before .before .before .before .before .before .before .before .join .ensures) (c .before .before .before .before .then-negate .ensures) (c .before .before .before .before .before .before .before .before .term .ensures) (goes-not _ _ _ _ _ _ _ _ (c .enum-told .given .1))
+expression-returns-2 t c =
+    let c4 = c .before .before .before .before in
+    let c8 = c4 .before .before .before .before in
+    let c10 = c8 .before .before in
+    expression-answers _ _ _ _ _ _ _ _ _ _ _ _ _ _ _ (c10 .join .ensures) (c4 .then-negate .ensures) (c8 .term .ensures)
+    (goes-not _ _ _ _ _ _ _ _ (c .enum-told .given .1))
 
 factor-begin-requires : (t : ℕ) → factor-lts.Need-begin-requires (factor-claims t) (factor-at t) factor.Post
 factor-begin-requires t c κs = c .before .before .pre .1 .0 .inside
 
+factor-add-inner : (t : ℕ) → factor-lts.Need-add-inner (factor-claims t) (factor-at t) factor.Post
+factor-add-inner t c = omega (
+  arith,
+  c .before .before .before .pre .1 .0 .shallow,
+  c .before .before .before .pre .1 .0 .inside,
+  c .before .before .before .pre .1 .0 .short,
+)
+
+factor-enum-told : (t : ℕ) → factor-lts.Need-enum-told (factor-claims t) (factor-at t) factor.Post
+factor-enum-told t c = search needs
+
 factor-constant-requires : (t : ℕ) → factor-lts.Need-constant-requires (factor-claims t) (factor-at t) factor.Post
 factor-constant-requires t c κs =
-    let p = passed _ _ _ (c .before .before .begin .ensures) 1 (c .before .if1 .taken) in
-    (c .before .before .before .before .before .pre .1 .0 .inside, begins-digits _ (sym (c .before .before .begin .ensures .what) ∙ c .before .if1 .taken), omega (arith, c .before .before .before .before .before .pre .1 .0 .room, p .from, p .within))
+    let c3 = c .before .before .before in
+    let c6 = c3 .before .before .before in
+    let p = passed _ _ _ (c3 .begin .ensures) Literal (c .before .enum-told .given .1) in (
+      c6 .pre .1 .0 .inside,
+      begins-digits _ (sym (c3 .begin .ensures .beginning) ∙ c .before .enum-told .given .1),
+      omega (arith, c6 .pre .1 .0 .room, p .from, p .within),
+    )
 
-factor-same-length : (t : ℕ) → factor-lts.Need-same-length (factor-claims t) (factor-at t) factor.Post
-factor-same-length t c = c .before .before .constant .kept .1 .1 .1 .0
-
-factor-returns : (t : ℕ) → factor-lts.Need-returns (factor-claims t) (factor-at t) factor.Post
-factor-returns t c = factor-literal _ _ _ _ _ _ _ _ _ _ _ (c .before .before .before .before .before .begin .ensures) (c .before .before .before .before .if1 .taken) (c .before .before .constant .ensures)
-
-factor-quotient-requires : (t : ℕ) → factor-lts.Need-quotient-requires (factor-claims t) (factor-at t) factor.Post
-factor-quotient-requires t c κs =
-    let p = passed _ _ _ (c .before .before .before .begin .ensures) 3 (c .before .if2 .taken) in
-    (omega (arith, c .before .before .before .before .before .before .pre .0, p .from, p .within), (ready-later _ _ _ _ _ (c .before .before .before .before .before .before .pre .1 .0) 2 _ _ _ (p .from) (p .within) (omega arith) refl, c .before .before .before .before .before .before .pre .1 .1))
-
-factor-same-length-2 : (t : ℕ) → factor-lts.Need-same-length-2 (factor-claims t) (factor-at t) factor.Post
-factor-same-length-2 t c = c .before .before .quotient .kept .1 .1 .1 .1 .1 .1 .0
-
-factor-returns-2 : (t : ℕ) → factor-lts.Need-returns-2 (factor-claims t) (factor-at t) factor.Post
-factor-returns-2 t c = factor-rdiv _ _ _ _ _ _ _ _ _ _ _ (c .before .before .before .before .before .before .begin .ensures) (c .before .before .before .before .if2 .taken) (c .before .before .quotient .ensures)
-
-factor-variable-requires : (t : ℕ) → factor-lts.Need-variable-requires (factor-claims t) (factor-at t) factor.Post
-factor-variable-requires t c κs =
-    let p = passed _ _ _ (c .before .before .before .before .begin .ensures) 4 (c .before .if3 .taken) in
-    (c .before .before .before .before .before .before .before .pre .1 .0 .inside, begins-kind _ (omega (arith, c .before .before .before .before .begin .ensures .what, c .before .if3 .taken)), c .before .before .before .before .before .before .before .pre .1 .1, omega (arith, c .before .before .before .before .before .before .before .pre .1 .0 .room, p .from, p .within))
-
-factor-same-length-3 : (t : ℕ) → factor-lts.Need-same-length-3 (factor-claims t) (factor-at t) factor.Post
-factor-same-length-3 t c = c .before .before .variable .kept .1 .1 .1 .1 .1 .0
-
-factor-returns-3 : (t : ℕ) → factor-lts.Need-returns-3 (factor-claims t) (factor-at t) factor.Post
-factor-returns-3 t c = factor-name _ _ _ _ _ _ _ _ _ _ _ (c .before .before .before .before .before .before .before .begin .ensures) (c .before .before .before .before .if3 .taken) (c .before .before .variable .ensures)
-
-factor-add-inner : (t : ℕ) → factor-lts.Need-add-inner (factor-claims t) (factor-at t) factor.Post
-factor-add-inner t c = omega (arith, c .before .before .before .before .before .before .pre .1 .0 .shallow, c .before .before .before .before .before .before .pre .1 .0 .inside, c .before .before .before .before .before .before .pre .1 .0 .short)
+factor-enum-told-2 : (t : ℕ) → factor-lts.Need-enum-told-2 (factor-claims t) (factor-at t) factor.Post
+factor-enum-told-2 t c = search needs
 
 factor-opened-requires : (t : ℕ) → factor-lts.Need-opened-requires (factor-claims t) (factor-at t) factor.Post
 factor-opened-requires t c κs = tt
 
 factor-expression-requires : (t : ℕ) → factor-lts.Need-expression-requires (factor-claims t) (factor-at t) factor.Post
 factor-expression-requires t c κs =
-    let p = passed _ _ _ (c .before .before .before .before .before .before .begin .ensures) 2 (c .before .before .if4 .taken) in
-    (omega (arith, c .before .before .before .before .before .before .before .before .before .pre .0, p .from, p .within), (ready-later _ _ _ _ _ (c .before .before .before .before .before .before .before .before .before .pre .1 .0) 1 _ _ _ (p .from) (p .within) (omega arith) refl, c .before .before .before .before .before .before .before .before .before .pre .1 .1))
+    let c4 = c .before .before .before .before in
+    let c7 = c4 .before .before .before in
+    let p = passed _ _ _ (c4 .begin .ensures) Bracket (c .before .before .enum-told2 .given .1) in
+    (omega (arith, c7 .pre .0, p .from, p .within), (ready-later _ _ _ _ _ (c7 .pre .1 .0) 1 _ _ _ (p .from) (p .within) (omega arith) refl, c7 .pre .1 .1))
 
 factor-expect-requires : (t : ℕ) → factor-lts.Need-expect-requires (factor-claims t) (factor-at t) factor.Post
 factor-expect-requires t c κs = (within-inside _ _ _ _ _ (c .before .before .expression .ensures .within), refl)
 
-factor-same-length-4 : (t : ℕ) → factor-lts.Need-same-length-4 (factor-claims t) (factor-at t) factor.Post
-factor-same-length-4 t c = c .before .before .before .expression .kept .1 .1 .1 .1 .1 .1 .0
+factor-enum-told-3 : (t : ℕ) → factor-lts.Need-enum-told-3 (factor-claims t) (factor-at t) factor.Post
+factor-enum-told-3 t c = search needs
 
-factor-returns-4 : (t : ℕ) → factor-lts.Need-returns-4 (factor-claims t) (factor-at t) factor.Post
-factor-returns-4 t c = factor-bracket _ _ _ _ _ _ _ _ _ _ _ (c .before .before .before .before .before .before .before .before .before .before .begin .ensures) _ _ _ (c .before .before .before .before .before .before .if4 .taken) (add-one _) (c .before .before .before .before .before .opened .ensures) (c .before .before .before .expression .ensures) (c .expect .ensures)
+factor-quotient-requires : (t : ℕ) → factor-lts.Need-quotient-requires (factor-claims t) (factor-at t) factor.Post
+factor-quotient-requires t c κs =
+    let c3 = c .before .before .before in
+    let c6 = c3 .before .before .before in
+    let p = passed _ _ _ (c3 .begin .ensures) Quotient (c .before .enum-told3 .given .1) in
+    (omega (arith, c6 .pre .0, p .from, p .within), (ready-later _ _ _ _ _ (c6 .pre .1 .0) 2 _ _ _ (p .from) (p .within) (omega arith) refl, c6 .pre .1 .1))
+
+factor-enum-told-4 : (t : ℕ) → factor-lts.Need-enum-told-4 (factor-claims t) (factor-at t) factor.Post
+factor-enum-told-4 t c = search needs
+
+factor-variable-requires : (t : ℕ) → factor-lts.Need-variable-requires (factor-claims t) (factor-at t) factor.Post
+factor-variable-requires t c κs =
+    let c3 = c .before .before .before in
+    let c6 = c3 .before .before .before in
+    let p = passed _ _ _ (c3 .begin .ensures) Name (c .before .enum-told4 .given .1) in (
+      c6 .pre .1 .0 .inside,
+      begins-kind _
+          (sym (ap named (c3 .begin .ensures .beginning)) ∙ ap named (c .before .enum-told4 .given .1)),
+      c6 .pre .1 .1,
+      omega (arith, c6 .pre .1 .0 .room, p .from, p .within),
+    )
+
+factor-enum-told-5 : (t : ℕ) → factor-lts.Need-enum-told-5 (factor-claims t) (factor-at t) factor.Post
+factor-enum-told-5 t c = search needs
 
 factor-named-requires : (t : ℕ) → factor-lts.Need-named-requires (factor-claims t) (factor-at t) factor.Post
-factor-named-requires t c κs = (c .before .before .before .before .before .before .before .before .pre .1 .0 .inside, begins-kind _ (omega (arith, c .before .before .before .before .before .begin .ensures .what, c .if5 .taken)))
+factor-named-requires t c κs =
+    let c5 = c .before .before .before .before .before in
+    (c5 .pre .1 .0 .inside, begins-kind _ (sym (ap named (c .before .before .begin .ensures .beginning)) ∙ ap named (c .enum-told5 .given .1)))
 
 factor-opened-requires-2 : (t : ℕ) → factor-lts.Need-opened-requires-2 (factor-claims t) (factor-at t) factor.Post
 factor-opened-requires-2 t c κs = tt
 
 factor-expression-requires-2 : (t : ℕ) → factor-lts.Need-expression-requires-2 (factor-claims t) (factor-at t) factor.Post
 factor-expression-requires-2 t c κs =
-    let p = passed _ _ _ (c .before .before .before .before .before .before .before .before .begin .ensures) 5 (c .before .before .before .if5 .taken) in
-    (omega (arith, c .before .before .before .before .before .before .before .before .before .before .before .pre .0, p .from, p .within), (ready-later _ _ _ _ _ (c .before .before .before .before .before .before .before .before .before .before .before .pre .1 .0) 1 _ _ _ (omega (arith, p .from)) (p .within) (omega arith) refl, c .before .before .before .before .before .before .before .before .before .before .before .pre .1 .1))
+    let c3 = c .before .before .before in
+    let c5 = c3 .before .before in
+    let c8 = c5 .before .before .before in
+    let p = passed _ _ _ (c5 .begin .ensures) Element (c3 .enum-told5 .given .1) in (
+      omega (arith, c8 .pre .0, p .from, p .within),
+      (ready-later _ _ _ _ _ (c8 .pre .1 .0) 1 _ _ _ (omega (arith, p .from)) (p .within) (omega arith) refl, c8 .pre .1 .1),
+    )
 
 factor-expect-requires-2 : (t : ℕ) → factor-lts.Need-expect-requires-2 (factor-claims t) (factor-at t) factor.Post
 factor-expect-requires-2 t c κs = (within-inside _ _ _ _ _ (c .before .before .before .expression2 .ensures .within), refl)
 
 factor-then-read-requires : (t : ℕ) → factor-lts.Need-then-read-requires (factor-claims t) (factor-at t) factor.Post
 factor-then-read-requires t c κs =
-    let p = passed _ _ _ (c .before .before .before .before .before .before .before .before .before .before .before .before .before .begin .ensures) 5 (c .before .before .before .before .before .before .before .before .if5 .taken) in
-    let w = within-sealed _ _ _ (c .expect2 .ensures) (c .before .before .before .before .expression2 .ensures .within) in
-    (c .before .before .before .before .before .before .before .before .before .before .before .before .before .before .before .before .pre .1 .0 .inside, begins-kind _ (omega (arith, c .before .before .before .before .before .before .before .before .before .before .before .before .before .begin .ensures .what, c .before .before .before .before .before .before .before .before .if5 .taken)), c .before .before .before .before .before .before .before .before .before .before .before .before .before .before .before .before .pre .1 .1, ready-room _ _ _ _ _ (c .before .before .before .before .before .before .before .before .before .before .before .before .before .before .before .before .pre .1 .0) 1 _ _ _ _ (omega (arith, p .from)) w (c .before .before .before .before .expression2 .kept .1 .1 .1 .1 .1 .1 .0))
+    let c4 = c .before .before .before .before in
+    let c8 = c4 .before .before .before .before in
+    let c10 = c8 .before .before in
+    let c13 = c10 .before .before .before in
+    let p = passed _ _ _ (c10 .begin .ensures) Element (c8 .enum-told5 .given .1) in
+    let w = within-sealed _ _ _ (c .expect2 .ensures) (c4 .expression2 .ensures .within) in (
+      c13 .pre .1 .0 .inside,
+      begins-kind _
+          (sym (ap named (c10 .begin .ensures .beginning)) ∙ ap named (c8 .enum-told5 .given .1)),
+      c13 .pre .1 .1,
+      ready-room _ _ _ _ _
+          (c13 .pre .1 .0) 1 _ _ _ _ (omega (arith, p .from)) w (c4 .expression2 .kept .1 .1 .1 .1 .1 .1 .0),
+    )
+
+factor-enum-told-6 : (t : ℕ) → factor-lts.Need-enum-told-6 (factor-claims t) (factor-at t) factor.Post
+factor-enum-told-6 t c = search needs
+
+factor-same-length : (t : ℕ) → factor-lts.Need-same-length (factor-claims t) (factor-at t) factor.Post
+factor-same-length t c = c .before .before .constant .kept .1 .1 .1 .0
+
+factor-returns : (t : ℕ) → factor-lts.Need-returns (factor-claims t) (factor-at t) factor.Post
+factor-returns t c =
+    let c4 = c .before .before .before .before in
+    let c6 = c4 .before .before in
+    factor-literal _ _ _ _ _ _ _ _ _ _ _ (c6 .begin .ensures) (c4 .enum-told .given .1) (c .before .before .constant .ensures)
+
+factor-same-length-2 : (t : ℕ) → factor-lts.Need-same-length-2 (factor-claims t) (factor-at t) factor.Post
+factor-same-length-2 t c = c .before .before .before .expression .kept .1 .1 .1 .1 .1 .1 .0
+
+factor-returns-2 : (t : ℕ) → factor-lts.Need-returns-2 (factor-claims t) (factor-at t) factor.Post
+factor-returns-2 t c =
+    let c3 = c .before .before .before in
+    let c5 = c3 .before .before in
+    let c6 = c5 .before in
+    let c8 = c6 .before .before in
+    factor-bracket _ _ _ _ _ _ _ _ _ _ _ (c8 .begin .ensures) _ _ _ (c6 .enum-told2 .given .1) (add-one _) (c5 .opened .ensures)
+    (c3 .expression .ensures) (c .expect .ensures)
+
+factor-same-length-3 : (t : ℕ) → factor-lts.Need-same-length-3 (factor-claims t) (factor-at t) factor.Post
+factor-same-length-3 t c = c .before .before .quotient .kept .1 .1 .1 .1 .1 .1 .0
+
+factor-returns-3 : (t : ℕ) → factor-lts.Need-returns-3 (factor-claims t) (factor-at t) factor.Post
+factor-returns-3 t c =
+    let c4 = c .before .before .before .before in
+    let c6 = c4 .before .before in
+    factor-rdiv _ _ _ _ _ _ _ _ _ _ _ (c6 .begin .ensures) (c4 .enum-told3 .given .1) (c .before .before .quotient .ensures)
+
+factor-same-length-4 : (t : ℕ) → factor-lts.Need-same-length-4 (factor-claims t) (factor-at t) factor.Post
+factor-same-length-4 t c = c .before .before .variable .kept .1 .1 .1 .1 .1 .0
+
+factor-returns-4 : (t : ℕ) → factor-lts.Need-returns-4 (factor-claims t) (factor-at t) factor.Post
+factor-returns-4 t c =
+    let c4 = c .before .before .before .before in
+    let c6 = c4 .before .before in
+    factor-name _ _ _ _ _ _ _ _ _ _ _ (c6 .begin .ensures) (c4 .enum-told4 .given .1) (c .before .before .variable .ensures)
 
 factor-same-length-5 : (t : ℕ) → factor-lts.Need-same-length-5 (factor-claims t) (factor-at t) factor.Post
-factor-same-length-5 t c = c .before .before .then-read .kept .1 .1 .1 .1 .0 ∙ c .before .before .before .before .before .before .before .expression2 .kept .1 .1 .1 .1 .1 .1 .0
+factor-same-length-5 t c =
+    let c7 = c .before .before .before .before .before .before .before in
+    c .before .before .then-read .kept .1 .1 .1 .1 .0 ∙ c7 .expression2 .kept .1 .1 .1 .1 .1 .1 .0
 
 factor-returns-5 : (t : ℕ) → factor-lts.Need-returns-5 (factor-claims t) (factor-at t) factor.Post
-factor-returns-5 t c = factor-element _ _ _ _ _ _ _ _ _ _ _ (c .before .before .before .before .before .before .before .before .before .before .before .before .before .before .before .before .begin .ensures) _ _ _ _ _ (c .before .before .before .before .before .before .before .before .before .before .before .if5 .taken) (add-one _) (λ t d. omega (arith, c .before .before .before .before .before .before .before .before .before .opened2 .ensures, c .before .before .before .before .before .before .before .before .before .before .named .ensures t d)) (c .before .before .before .before .before .before .before .expression2 .ensures) (c .before .before .before .expect2 .ensures) (c .before .before .then-read .ensures)
+factor-returns-5 t c =
+    let c3 = c .before .before .before in
+    let c7 = c3 .before .before .before .before in
+    let c9 = c7 .before .before in
+    let c10 = c9 .before in
+    let c11 = c10 .before in
+    let c13 = c11 .before .before in
+    factor-element _ _ _ _ _ _ _ _ _ _ _ (c13 .begin .ensures) _ _ _ _ _ (c11 .enum-told5 .given .1) (add-one _)
+    (λ t d. omega (arith, c9 .opened2 .ensures, c10 .named .ensures t d)) (c7 .expression2 .ensures) (c3 .expect2 .ensures)
+    (c .before .before .then-read .ensures)
 
 factor-returns-6 : (t : ℕ) → factor-lts.Need-returns-6 (factor-claims t) (factor-at t) factor.Post
-factor-returns-6 t c = factor-none _ _ _ _ _ _ _ _ _ _ _ (c .before .before .before .before .before .begin .ensures) refl (c .before .before .before .before .if1 .left) (c .before .if4 .left) (c .before .before .before .if2 .left) (c .before .before .if3 .left) (c .if5 .left)
+factor-returns-6 t c = factor-none _ _ _ _ _ _ _ _ _ _ _ (c .before .before .begin .ensures) refl (c .enum-told6 .given .1)
 
 more-factors-join-requires : (t : ℕ) → more-factors-lts.Need-join-requires (more-factors-claims t) (more-factors-at t) more-factors.Post
 more-factors-join-requires t c κs = (c .before .before .pre .1 .0 .inside, refl, refl)
 
+more-factors-enum-told : (t : ℕ) → more-factors-lts.Need-enum-told (more-factors-claims t) (more-factors-at t) more-factors.Post
+more-factors-enum-told t c = search needs
+
 more-factors-returns : (t : ℕ) → more-factors-lts.Need-returns (more-factors-claims t) (more-factors-at t) more-factors.Post
-more-factors-returns t c = factors-none _ _ _ _ _ _ _ _ _ (c .before .join .ensures) (c .if1 .taken) (c .before .before .before .before .pre .1 .0 .inside)
+more-factors-returns t c =
+    let c5 = c .before .before .before .before .before in
+    factors-none _ _ _ _ _ _ _ _ _ (c .before .before .join .ensures) (c .enum-told .given .1) (c5 .pre .1 .0 .inside)
+
+more-factors-enum-told-2 : (t : ℕ) → more-factors-lts.Need-enum-told-2 (more-factors-claims t) (more-factors-at t) more-factors.Post
+more-factors-enum-told-2 t c = search needs
+
+more-factors-enum-told-3 : (t : ℕ) → more-factors-lts.Need-enum-told-3 (more-factors-claims t) (more-factors-at t) more-factors.Post
+more-factors-enum-told-3 t c = search needs
 
 more-factors-factor-requires : (t : ℕ) → more-factors-lts.Need-factor-requires (more-factors-claims t) (more-factors-at t) more-factors.Post
 more-factors-factor-requires t c κs =
-    let p = some-sign 42 47 _ _ _ (c .before .before .join .ensures) refl (c .before .if1 .left) .2 in
-    (omega (arith, c .before .before .before .before .before .pre .0, p .from, p .within), (ready-later _ _ _ _ _ (c .before .before .before .before .before .pre .1 .0) 1 _ _ _ (p .from) (p .within) (omega arith) refl, c .before .before .before .before .before .pre .1 .1))
+    let c5 = c .before .before .before .before .before in
+    let p = some-sign 42 47 _ _ _ (c .before .before .join .ensures) refl (signed (c .before .match .came) (λ w. w .1 .given .1) (λ w. w .1 .given .1)) .2 in
+    (omega (arith, c5 .pre .0, p .from, p .within), (ready-later _ _ _ _ _ (c5 .pre .1 .0) 1 _ _ _ (p .from) (p .within) (omega arith) refl, c5 .pre .1 .1))
 
 more-factors-factor-operation-requires : (t : ℕ) → more-factors-lts.Need-factor-operation-requires (more-factors-claims t) (more-factors-at t) more-factors.Post
 more-factors-factor-operation-requires t c κs = c .before .before .before .before .before .before .before .before .before .pre .1 .1
 
 more-factors-then-emit-requires : (t : ℕ) → more-factors-lts.Need-then-emit-requires (more-factors-claims t) (more-factors-at t) more-factors.Post
-more-factors-then-emit-requires t c κs = ready-room _ _ _ _ _ (c .before .before .before .before .before .before .before .before .before .before .pre .1 .0) 1 _ _ _ _ (some-sign 42 47 _ _ _ (c .before .before .before .before .before .before .before .join .ensures) refl (c .before .before .before .before .before .before .if1 .left) .2 .from) (c .before .before .before .before .factor .ensures .within) (c .before .before .before .before .factor .kept .1 .1 .1 .1 .1 .1 .0)
+more-factors-then-emit-requires t c κs =
+    let c4 = c .before .before .before .before in
+    let c6 = c4 .before .before in
+    let c7 = c6 .before in
+    let c10 = c7 .before .before .before in
+    ready-room _ _ _ _ _ (c10 .pre .1 .0) 1 _ _ _ _
+    (some-sign 42 47 _ _ _ (c7 .join .ensures) refl (signed (c6 .match .came) (λ w. w .1 .given .1) (λ w. w .1 .given .1)) .2 .from)
+    (c4 .factor .ensures .within) (c4 .factor .kept .1 .1 .1 .1 .1 .1 .0)
 
 more-factors-enum-known-n : (t : ℕ) → more-factors-lts.Need-enum-known-n (more-factors-claims t) (more-factors-at t) more-factors.Post
 more-factors-enum-known-n t c = search needs
 
 more-factors-more-factors-requires : (t : ℕ) → more-factors-lts.Need-more-factors-requires (more-factors-claims t) (more-factors-at t) more-factors.Post
 more-factors-more-factors-requires t c κs =
-    let w = sign-within _ _ _ _ _ _ _ _ _ (some-sign 42 47 _ _ _ (c .before .before .before .before .before .before .before .before .before .before .before .before .before .before .join .ensures) refl (c .before .before .before .before .before .before .before .before .before .before .before .before .before .if1 .left) .2) (c .before .before .before .before .before .before .then-emit .ensures) (c .before .before .before .before .before .before .before .before .before .before .before .factor .ensures .within) in
-    let d = within-done _ _ _ _ _ _ _ _ w (c .before .before .n .given .1) in
-    (omega (arith, c .before .before .before .before .before .before .before .before .before .before .before .before .before .before .before .before .before .pre .0, d .0, d .1), (ready-next _ _ _ _ _ (c .before .before .before .before .before .before .before .before .before .before .before .before .before .before .before .before .before .pre .1 .0) _ _ _ _ _ _ (omega arith) w (c .before .before .n .given .1) (c .before .before .before .before .before .before .then-emit .kept .1 .0 ∙ c .before .before .before .before .before .before .before .before .before .before .before .factor .kept .1 .1 .1 .1 .1 .1 .0), c .before .before .before .before .before .before .before .before .before .before .before .before .before .before .before .before .before .pre .1 .1))
+    let c6 = c .before .before .before .before .before .before in
+    let c11 = c6 .before .before .before .before .before in
+    let c13 = c11 .before .before in
+    let c14 = c13 .before in
+    let c17 = c14 .before .before .before in
+    let w = sign-within _ _ _ _ _ _ _ _ _
+    (some-sign 42 47 _ _ _ (c14 .join .ensures) refl (signed (c13 .match .came) (λ w. w .1 .given .1) (λ w. w .1 .given .1)) .2)
+    (c6 .then-emit .ensures) (c11 .factor .ensures .within) in
+    let d = within-done _ _ _ _ _ _ _ _ w (c .before .before .n .given .1) in (
+      omega (arith, c17 .pre .0, d .0, d .1),
+      (
+        ready-next _ _ _ _ _ (c17 .pre .1 .0) _ _ _ _ _ _ (omega arith) w (c .before .before .n .given .1)
+            (c6 .then-emit .kept .1 .0 ∙ c11 .factor .kept .1 .1 .1 .1 .1 .1 .0),
+        c17 .pre .1 .1,
+      ),
+    )
 
-more-factors-enum-told : (t : ℕ) → more-factors-lts.Need-enum-told (more-factors-claims t) (more-factors-at t) more-factors.Post
-more-factors-enum-told t c = search needs
+more-factors-enum-told-4 : (t : ℕ) → more-factors-lts.Need-enum-told-4 (more-factors-claims t) (more-factors-at t) more-factors.Post
+more-factors-enum-told-4 t c = search needs
 
 more-factors-same-length : (t : ℕ) → more-factors-lts.Need-same-length (more-factors-claims t) (more-factors-at t) more-factors.Post
-more-factors-same-length t c = c .before .before .more-factors .kept .1 .1 .1 .1 .1 .1 .0 ∙ c .before .before .before .before .before .before .before .before .before .then-emit .kept .1 .0 ∙ c .before .before .before .before .before .before .before .before .before .before .before .before .before .before .factor .kept .1 .1 .1 .1 .1 .1 .0
+more-factors-same-length t c =
+    let c9 = c .before .before .before .before .before .before .before .before .before in
+    let c14 = c9 .before .before .before .before .before in
+    c .before .before .more-factors .kept .1 .1 .1 .1 .1 .1 .0 ∙ c9 .then-emit .kept .1 .0 ∙ c14 .factor .kept .1 .1 .1 .1 .1 .1 .0
 
 more-factors-returns-2 : (t : ℕ) → more-factors-lts.Need-returns-2 (more-factors-claims t) (more-factors-at t) more-factors.Post
-more-factors-returns-2 t c = factors-some _ _ _ _ _ _ _ _ _ (c .before .before .before .before .before .before .before .before .before .before .before .before .before .before .before .before .before .join .ensures) (c .before .before .before .before .before .before .before .before .before .before .before .before .before .before .before .before .if1 .left) _ _ _ _ _ _ _ (c .before .before .before .before .before .before .before .before .before .before .factor-operation .ensures) (c .before .before .before .before .before .before .before .before .before .then-emit .ensures) (c .before .before .before .before .before .before .before .before .before .before .before .before .before .before .factor .ensures) (goes-on _ _ _ _ _ _ _ _ _ _ _ _ (c .before .before .before .before .before .n .given .1) (c .before .before .more-factors .ensures))
+more-factors-returns-2 t c =
+    let c5 = c .before .before .before .before .before in
+    let c9 = c5 .before .before .before .before in
+    let c10 = c9 .before in
+    let c14 = c10 .before .before .before .before in
+    let c16 = c14 .before .before in
+    let c17 = c16 .before in
+    factors-some _ _ _ _ _ _ _ _ _ (c17 .join .ensures) (signed (c16 .match .came) (λ w. w .1 .given .1) (λ w. w .1 .given .1)) _ _ _ _ _ _ _
+    (c10 .factor-operation .ensures) (c9 .then-emit .ensures) (c14 .factor .ensures)
+    (goes-on _ _ _ _ _ _ _ _ _ _ _ _ (c5 .n .given .1) (c .before .before .more-factors .ensures))
 
 more-factors-same-length-2 : (t : ℕ) → more-factors-lts.Need-same-length-2 (more-factors-claims t) (more-factors-at t) more-factors.Post
-more-factors-same-length-2 t c = c .before .before .before .before .then-emit .kept .1 .0 ∙ c .before .before .before .before .before .before .before .before .before .factor .kept .1 .1 .1 .1 .1 .1 .0
+more-factors-same-length-2 t c =
+    let c4 = c .before .before .before .before in
+    let c9 = c4 .before .before .before .before .before in
+    c4 .then-emit .kept .1 .0 ∙ c9 .factor .kept .1 .1 .1 .1 .1 .1 .0
 
 more-factors-returns-3 : (t : ℕ) → more-factors-lts.Need-returns-3 (more-factors-claims t) (more-factors-at t) more-factors.Post
-more-factors-returns-3 t c = factors-some _ _ _ _ _ _ _ _ _ (c .before .before .before .before .before .before .before .before .before .before .before .before .join .ensures) (c .before .before .before .before .before .before .before .before .before .before .before .if1 .left) _ _ _ _ _ _ _ (c .before .before .before .before .before .factor-operation .ensures) (c .before .before .before .before .then-emit .ensures) (c .before .before .before .before .before .before .before .before .before .factor .ensures) (goes-not _ _ _ _ _ _ _ _ (c .enum-told .given .1))
+more-factors-returns-3 t c =
+    let c4 = c .before .before .before .before in
+    let c5 = c4 .before in
+    let c9 = c5 .before .before .before .before in
+    let c11 = c9 .before .before in
+    let c12 = c11 .before in
+    factors-some _ _ _ _ _ _ _ _ _ (c12 .join .ensures) (signed (c11 .match .came) (λ w. w .1 .given .1) (λ w. w .1 .given .1)) _ _ _ _ _ _ _
+    (c5 .factor-operation .ensures) (c4 .then-emit .ensures) (c9 .factor .ensures) (goes-not _ _ _ _ _ _ _ _ (c .enum-told4 .given .1))
 
 more-terms-join-requires : (t : ℕ) → more-terms-lts.Need-join-requires (more-terms-claims t) (more-terms-at t) more-terms.Post
 more-terms-join-requires t c κs = (c .before .before .pre .1 .0 .inside, refl, refl)
 
+more-terms-enum-told : (t : ℕ) → more-terms-lts.Need-enum-told (more-terms-claims t) (more-terms-at t) more-terms.Post
+more-terms-enum-told t c = search needs
+
 more-terms-returns : (t : ℕ) → more-terms-lts.Need-returns (more-terms-claims t) (more-terms-at t) more-terms.Post
-more-terms-returns t c = terms-none _ _ _ _ _ _ _ _ _ (c .before .join .ensures) (c .if1 .taken) (c .before .before .before .before .pre .1 .0 .inside)
+more-terms-returns t c =
+    let c5 = c .before .before .before .before .before in
+    terms-none _ _ _ _ _ _ _ _ _ (c .before .before .join .ensures) (c .enum-told .given .1) (c5 .pre .1 .0 .inside)
+
+more-terms-enum-told-2 : (t : ℕ) → more-terms-lts.Need-enum-told-2 (more-terms-claims t) (more-terms-at t) more-terms.Post
+more-terms-enum-told-2 t c = search needs
+
+more-terms-enum-told-3 : (t : ℕ) → more-terms-lts.Need-enum-told-3 (more-terms-claims t) (more-terms-at t) more-terms.Post
+more-terms-enum-told-3 t c = search needs
 
 more-terms-term-requires : (t : ℕ) → more-terms-lts.Need-term-requires (more-terms-claims t) (more-terms-at t) more-terms.Post
 more-terms-term-requires t c κs =
-    let p = some-sign 43 45 _ _ _ (c .before .before .join .ensures) refl (c .before .if1 .left) .2 in
-    (omega (arith, c .before .before .before .before .before .pre .0, p .from, p .within), (ready-later _ _ _ _ _ (c .before .before .before .before .before .pre .1 .0) 1 _ _ _ (p .from) (p .within) (omega arith) refl, c .before .before .before .before .before .pre .1 .1))
+    let c5 = c .before .before .before .before .before in
+    let p = some-sign 43 45 _ _ _ (c .before .before .join .ensures) refl (signed (c .before .match .came) (λ w. w .1 .given .1) (λ w. w .1 .given .1)) .2 in
+    (omega (arith, c5 .pre .0, p .from, p .within), (ready-later _ _ _ _ _ (c5 .pre .1 .0) 1 _ _ _ (p .from) (p .within) (omega arith) refl, c5 .pre .1 .1))
 
 more-terms-term-operation-requires : (t : ℕ) → more-terms-lts.Need-term-operation-requires (more-terms-claims t) (more-terms-at t) more-terms.Post
 more-terms-term-operation-requires t c κs = tt
 
 more-terms-then-emit-requires : (t : ℕ) → more-terms-lts.Need-then-emit-requires (more-terms-claims t) (more-terms-at t) more-terms.Post
-more-terms-then-emit-requires t c κs = ready-room _ _ _ _ _ (c .before .before .before .before .before .before .before .before .before .before .pre .1 .0) 1 _ _ _ _ (some-sign 43 45 _ _ _ (c .before .before .before .before .before .before .before .join .ensures) refl (c .before .before .before .before .before .before .if1 .left) .2 .from) (c .before .before .before .before .term .ensures .within) (c .before .before .before .before .term .kept .1 .1 .1 .1 .1 .1 .0)
+more-terms-then-emit-requires t c κs =
+    let c4 = c .before .before .before .before in
+    let c6 = c4 .before .before in
+    let c7 = c6 .before in
+    let c10 = c7 .before .before .before in
+    ready-room _ _ _ _ _ (c10 .pre .1 .0) 1 _ _ _ _
+    (some-sign 43 45 _ _ _ (c7 .join .ensures) refl (signed (c6 .match .came) (λ w. w .1 .given .1) (λ w. w .1 .given .1)) .2 .from)
+    (c4 .term .ensures .within) (c4 .term .kept .1 .1 .1 .1 .1 .1 .0)
 
 more-terms-enum-known-n : (t : ℕ) → more-terms-lts.Need-enum-known-n (more-terms-claims t) (more-terms-at t) more-terms.Post
 more-terms-enum-known-n t c = search needs
 
 more-terms-more-terms-requires : (t : ℕ) → more-terms-lts.Need-more-terms-requires (more-terms-claims t) (more-terms-at t) more-terms.Post
 more-terms-more-terms-requires t c κs =
-    let w = sign-within _ _ _ _ _ _ _ _ _ (some-sign 43 45 _ _ _ (c .before .before .before .before .before .before .before .before .before .before .before .before .before .before .join .ensures) refl (c .before .before .before .before .before .before .before .before .before .before .before .before .before .if1 .left) .2) (c .before .before .before .before .before .before .then-emit .ensures) (c .before .before .before .before .before .before .before .before .before .before .before .term .ensures .within) in
-    let d = within-done _ _ _ _ _ _ _ _ w (c .before .before .n .given .1) in
-    (omega (arith, c .before .before .before .before .before .before .before .before .before .before .before .before .before .before .before .before .before .pre .0, d .0, d .1), (ready-next _ _ _ _ _ (c .before .before .before .before .before .before .before .before .before .before .before .before .before .before .before .before .before .pre .1 .0) _ _ _ _ _ _ (omega arith) w (c .before .before .n .given .1) (c .before .before .before .before .before .before .then-emit .kept .1 .0 ∙ c .before .before .before .before .before .before .before .before .before .before .before .term .kept .1 .1 .1 .1 .1 .1 .0), c .before .before .before .before .before .before .before .before .before .before .before .before .before .before .before .before .before .pre .1 .1))
+    let c6 = c .before .before .before .before .before .before in
+    let c11 = c6 .before .before .before .before .before in
+    let c13 = c11 .before .before in
+    let c14 = c13 .before in
+    let c17 = c14 .before .before .before in
+    let w = sign-within _ _ _ _ _ _ _ _ _
+    (some-sign 43 45 _ _ _ (c14 .join .ensures) refl (signed (c13 .match .came) (λ w. w .1 .given .1) (λ w. w .1 .given .1)) .2)
+    (c6 .then-emit .ensures) (c11 .term .ensures .within) in
+    let d = within-done _ _ _ _ _ _ _ _ w (c .before .before .n .given .1) in (
+      omega (arith, c17 .pre .0, d .0, d .1),
+      (
+        ready-next _ _ _ _ _ (c17 .pre .1 .0) _ _ _ _ _ _ (omega arith) w (c .before .before .n .given .1)
+            (c6 .then-emit .kept .1 .0 ∙ c11 .term .kept .1 .1 .1 .1 .1 .1 .0),
+        c17 .pre .1 .1,
+      ),
+    )
 
-more-terms-enum-told : (t : ℕ) → more-terms-lts.Need-enum-told (more-terms-claims t) (more-terms-at t) more-terms.Post
-more-terms-enum-told t c = search needs
+more-terms-enum-told-4 : (t : ℕ) → more-terms-lts.Need-enum-told-4 (more-terms-claims t) (more-terms-at t) more-terms.Post
+more-terms-enum-told-4 t c = search needs
 
 more-terms-same-length : (t : ℕ) → more-terms-lts.Need-same-length (more-terms-claims t) (more-terms-at t) more-terms.Post
-more-terms-same-length t c = c .before .before .more-terms .kept .1 .1 .1 .1 .1 .1 .0 ∙ c .before .before .before .before .before .before .before .before .before .then-emit .kept .1 .0 ∙ c .before .before .before .before .before .before .before .before .before .before .before .before .before .before .term .kept .1 .1 .1 .1 .1 .1 .0
+more-terms-same-length t c =
+    let c9 = c .before .before .before .before .before .before .before .before .before in
+    let c14 = c9 .before .before .before .before .before in
+    c .before .before .more-terms .kept .1 .1 .1 .1 .1 .1 .0 ∙ c9 .then-emit .kept .1 .0 ∙ c14 .term .kept .1 .1 .1 .1 .1 .1 .0
 
 more-terms-returns-2 : (t : ℕ) → more-terms-lts.Need-returns-2 (more-terms-claims t) (more-terms-at t) more-terms.Post
-more-terms-returns-2 t c = terms-some _ _ _ _ _ _ _ _ _ (c .before .before .before .before .before .before .before .before .before .before .before .before .before .before .before .before .before .join .ensures) (c .before .before .before .before .before .before .before .before .before .before .before .before .before .before .before .before .if1 .left) _ _ _ _ _ _ _ (c .before .before .before .before .before .before .before .before .before .before .term-operation .ensures) (c .before .before .before .before .before .before .before .before .before .then-emit .ensures) (c .before .before .before .before .before .before .before .before .before .before .before .before .before .before .term .ensures) (goes-on _ _ _ _ _ _ _ _ _ _ _ _ (c .before .before .before .before .before .n .given .1) (c .before .before .more-terms .ensures))
+more-terms-returns-2 t c =
+    let c5 = c .before .before .before .before .before in
+    let c9 = c5 .before .before .before .before in
+    let c10 = c9 .before in
+    let c14 = c10 .before .before .before .before in
+    let c16 = c14 .before .before in
+    let c17 = c16 .before in
+    terms-some _ _ _ _ _ _ _ _ _ (c17 .join .ensures) (signed (c16 .match .came) (λ w. w .1 .given .1) (λ w. w .1 .given .1)) _ _ _ _ _ _ _
+    (c10 .term-operation .ensures) (c9 .then-emit .ensures) (c14 .term .ensures)
+    (goes-on _ _ _ _ _ _ _ _ _ _ _ _ (c5 .n .given .1) (c .before .before .more-terms .ensures))
 
 more-terms-same-length-2 : (t : ℕ) → more-terms-lts.Need-same-length-2 (more-terms-claims t) (more-terms-at t) more-terms.Post
-more-terms-same-length-2 t c = c .before .before .before .before .then-emit .kept .1 .0 ∙ c .before .before .before .before .before .before .before .before .before .term .kept .1 .1 .1 .1 .1 .1 .0
+more-terms-same-length-2 t c =
+    let c4 = c .before .before .before .before in
+    let c9 = c4 .before .before .before .before .before in
+    c4 .then-emit .kept .1 .0 ∙ c9 .term .kept .1 .1 .1 .1 .1 .1 .0
 
 more-terms-returns-3 : (t : ℕ) → more-terms-lts.Need-returns-3 (more-terms-claims t) (more-terms-at t) more-terms.Post
-more-terms-returns-3 t c = terms-some _ _ _ _ _ _ _ _ _ (c .before .before .before .before .before .before .before .before .before .before .before .before .join .ensures) (c .before .before .before .before .before .before .before .before .before .before .before .if1 .left) _ _ _ _ _ _ _ (c .before .before .before .before .before .term-operation .ensures) (c .before .before .before .before .then-emit .ensures) (c .before .before .before .before .before .before .before .before .before .term .ensures) (goes-not _ _ _ _ _ _ _ _ (c .enum-told .given .1))
+more-terms-returns-3 t c =
+    let c4 = c .before .before .before .before in
+    let c5 = c4 .before in
+    let c9 = c5 .before .before .before .before in
+    let c11 = c9 .before .before in
+    let c12 = c11 .before in
+    terms-some _ _ _ _ _ _ _ _ _ (c12 .join .ensures) (signed (c11 .match .came) (λ w. w .1 .given .1) (λ w. w .1 .given .1)) _ _ _ _ _ _ _
+    (c5 .term-operation .ensures) (c4 .then-emit .ensures) (c9 .term .ensures) (goes-not _ _ _ _ _ _ _ _ (c .enum-told4 .given .1))
 
 quotient-add-inner : (t : ℕ) → quotient-lts.Need-add-inner (quotient-claims t) (quotient-at t) quotient.Post
 quotient-add-inner t c = omega (arith, c .before .before .pre .1 .0 .shallow, c .before .before .pre .1 .0 .inside, c .before .before .pre .1 .0 .short)
@@ -356,39 +649,74 @@ quotient-enum-known-n t c = search needs
 
 quotient-expression-requires-2 : (t : ℕ) → quotient-lts.Need-expression-requires-2 (quotient-claims t) (quotient-at t) quotient.Post
 quotient-expression-requires-2 t c κs =
-    let w = within-from _ _ _ _ (c .before .before .before .before .before .before .before .before .before .before .before .before .args .at) (c .before .before .before .before .before .before .before .before .before .before .before .before .args .place) (suc (c .before .before .before .before .before .before .before .before .before .before .before .before .args .at)) _ (omega arith) (omega arith) (within-sealed _ _ _ (c .before .before .before .before .expect .ensures) (c .before .before .before .before .before .before .before .expression .ensures .within)) in
-    let d = within-done _ _ _ _ _ _ _ _ w (c .before .before .n .given .1) in
-    (omega (arith, c .before .before .before .before .before .before .before .before .before .before .before .before .pre .0, d .0, d .1), (ready-next _ _ _ _ _ (c .before .before .before .before .before .before .before .before .before .before .before .before .pre .1 .0) _ _ _ _ _ _ (omega arith) w (c .before .before .n .given .1) (c .before .before .before .before .before .before .before .expression .kept .1 .1 .1 .1 .1 .1 .0), c .before .before .before .before .before .before .before .before .before .before .before .before .pre .1 .1))
+    let c4 = c .before .before .before .before in
+    let c7 = c4 .before .before .before in
+    let c12 = c7 .before .before .before .before .before in
+    let w = within-from _ _ _ _ (c12 .args .at) (c12 .args .place) (suc (c12 .args .at)) _ (omega arith) (omega arith)
+    (within-sealed _ _ _ (c4 .expect .ensures) (c7 .expression .ensures .within)) in
+    let d = within-done _ _ _ _ _ _ _ _ w (c .before .before .n .given .1) in (
+      omega (arith, c12 .pre .0, d .0, d .1),
+      (
+        ready-next _ _ _ _ _ (c12 .pre .1 .0) _ _ _ _ _ _ (omega arith) w (c .before .before .n .given .1)
+            (c7 .expression .kept .1 .1 .1 .1 .1 .1 .0),
+        c12 .pre .1 .1,
+      ),
+    )
 
 quotient-expect-requires-2 : (t : ℕ) → quotient-lts.Need-expect-requires-2 (quotient-claims t) (quotient-at t) quotient.Post
 quotient-expect-requires-2 t c κs = (within-inside _ _ _ _ _ (c .before .before .expression2 .ensures .within), refl)
 
 quotient-mul-then-emit : (t : ℕ) → quotient-lts.Need-mul-then-emit (quotient-claims t) (quotient-at t) quotient.Post
-quotient-mul-then-emit t c = omega (arith, c .before .before .before .before .before .before .before .before .before .before .before .before .before .before .before .before .before .pre .1 .1)
+quotient-mul-then-emit t c =
+    let c17 = c .before .before .before .before .before .before .before .before .before .before .before .before .before .before .before .before .before in
+    omega (arith, c17 .pre .1 .1)
 
 quotient-add-then-emit : (t : ℕ) → quotient-lts.Need-add-then-emit (quotient-claims t) (quotient-at t) quotient.Post
-quotient-add-then-emit t c = omega (arith, c .before .before .before .before .before .before .before .before .before .before .before .before .before .before .before .before .before .pre .1 .1)
+quotient-add-then-emit t c =
+    let c17 = c .before .before .before .before .before .before .before .before .before .before .before .before .before .before .before .before .before in
+    omega (arith, c17 .pre .1 .1)
 
 quotient-then-emit-requires : (t : ℕ) → quotient-lts.Need-then-emit-requires (quotient-claims t) (quotient-at t) quotient.Post
 quotient-then-emit-requires t c κs =
-    let d = within-done _ _ _ _ _ _ _ _ (within-sealed _ _ _ (c .before .before .before .before .before .before .before .before .before .expect .ensures) (c .before .before .before .before .before .before .before .before .before .before .before .before .expression .ensures .within)) (c .before .before .before .before .before .before .before .n .given .1) in
-    let w = within-from _ _ _ _ (c .before .before .before .before .before .before .before .before .before .before .before .before .before .before .before .before .before .args .at + 1) (c .before .before .before .before .before .before .before .before .before .before .before .before .before .before .before .before .before .args .place) 0 _ (omega arith) (omega (arith, d .2)) (within-sealed _ _ _ (c .before .expect2 .ensures) (c .before .before .before .before .expression2 .ensures .within)) in
-    ready-room _ _ _ _ _ (c .before .before .before .before .before .before .before .before .before .before .before .before .before .before .before .before .before .pre .1 .0) 1 _ _ _ _ (omega arith) w (c .before .before .before .before .expression2 .kept .1 .1 .1 .1 .1 .1 .0 ∙ c .before .before .before .before .before .before .before .before .before .before .before .before .expression .kept .1 .1 .1 .1 .1 .1 .0)
+    let c4 = c .before .before .before .before in
+    let c7 = c4 .before .before .before in
+    let c9 = c7 .before .before in
+    let c12 = c9 .before .before .before in
+    let c17 = c12 .before .before .before .before .before in
+    let d = within-done _ _ _ _ _ _ _ _ (within-sealed _ _ _ (c9 .expect .ensures) (c12 .expression .ensures .within)) (c7 .n .given .1) in
+    let w = within-from _ _ _ _ (c17 .args .at + 1) (c17 .args .place) 0 _ (omega arith) (omega (arith, d .2))
+    (within-sealed _ _ _ (c .before .expect2 .ensures) (c4 .expression2 .ensures .within)) in
+    ready-room _ _ _ _ _ (c17 .pre .1 .0) 1 _ _ _ _ (omega arith) w (c4 .expression2 .kept .1 .1 .1 .1 .1 .1 .0 ∙ c12 .expression .kept .1 .1 .1 .1 .1 .1 .0)
 
 quotient-enum-told : (t : ℕ) → quotient-lts.Need-enum-told (quotient-claims t) (quotient-at t) quotient.Post
 quotient-enum-told t c = search needs
 
 quotient-same-length : (t : ℕ) → quotient-lts.Need-same-length (quotient-claims t) (quotient-at t) quotient.Post
-quotient-same-length t c = c .before .before .then-emit .kept .1 .0 ∙ c .before .before .before .before .before .before .before .expression2 .kept .1 .1 .1 .1 .1 .1 .0 ∙ c .before .before .before .before .before .before .before .before .before .before .before .before .before .before .before .expression .kept .1 .1 .1 .1 .1 .1 .0
+quotient-same-length t c =
+    let c7 = c .before .before .before .before .before .before .before in
+    let c15 = c7 .before .before .before .before .before .before .before .before in
+    c .before .before .then-emit .kept .1 .0 ∙ c7 .expression2 .kept .1 .1 .1 .1 .1 .1 .0 ∙ c15 .expression .kept .1 .1 .1 .1 .1 .1 .0
 
 quotient-returns : (t : ℕ) → quotient-lts.Need-returns (quotient-claims t) (quotient-at t) quotient.Post
-quotient-returns t c = quotient-answers _ _ _ _ _ _ _ _ _ _ _ _ _ _ _ (add-one _) (c .before .before .before .before .before .before .before .before .before .before .before .before .before .before .before .before .before .opened .ensures) (c .before .before .before .before .before .before .before .before .before .before .before .before .before .before .before .expression .ensures) (c .before .before .before .before .before .before .before .before .before .before .before .before .expect .ensures) (ends-on _ _ _ _ _ _ _ _ _ _ _ _ _ _ (c .before .before .before .before .before .before .before .before .before .before .n .given .1) (c .before .before .before .before .before .before .before .expression2 .ensures) (c .before .before .before .before .expect2 .ensures) (c .before .before .then-emit .ensures))
+quotient-returns t c =
+    let c4 = c .before .before .before .before in
+    let c7 = c4 .before .before .before in
+    let c10 = c7 .before .before .before in
+    let c12 = c10 .before .before in
+    let c15 = c12 .before .before .before in
+    let c17 = c15 .before .before in
+    quotient-answers _ _ _ _ _ _ _ _ _ _ _ _ _ _ _ (add-one _) (c17 .opened .ensures) (c15 .expression .ensures) (c12 .expect .ensures)
+    (ends-on _ _ _ _ _ _ _ _ _ _ _ _ _ _ (c10 .n .given .1) (c7 .expression2 .ensures) (c4 .expect2 .ensures) (c .before .before .then-emit .ensures))
 
 quotient-same-length-2 : (t : ℕ) → quotient-lts.Need-same-length-2 (quotient-claims t) (quotient-at t) quotient.Post
 quotient-same-length-2 t c = c .before .before .before .before .before .expression .kept .1 .1 .1 .1 .1 .1 .0
 
 quotient-returns-2 : (t : ℕ) → quotient-lts.Need-returns-2 (quotient-claims t) (quotient-at t) quotient.Post
-quotient-returns-2 t c = quotient-answers _ _ _ _ _ _ _ _ _ _ _ _ _ _ _ (add-one _) (c .before .before .before .before .before .before .before .opened .ensures) (c .before .before .before .before .before .expression .ensures) (c .before .before .expect .ensures) (ends-not _ _ _ _ _ _ _ (c .enum-told .given .1))
+quotient-returns-2 t c =
+    let c5 = c .before .before .before .before .before in
+    let c7 = c5 .before .before in
+    quotient-answers _ _ _ _ _ _ _ _ _ _ _ _ _ _ _ (add-one _) (c7 .opened .ensures) (c5 .expression .ensures) (c .before .before .expect .ensures)
+    (ends-not _ _ _ _ _ _ _ (c .enum-told .given .1))
 
 term-factor-requires : (t : ℕ) → term-lts.Need-factor-requires (term-claims t) (term-at t) term.Post
 term-factor-requires t c κs = (omega (arith, c .before .before .before .pre .0), c .before .before .before .pre .1)
@@ -398,24 +726,39 @@ term-enum-known-n t c = search needs
 
 term-more-factors-requires : (t : ℕ) → term-lts.Need-more-factors-requires (term-claims t) (term-at t) term.Post
 term-more-factors-requires t c κs =
-    let w = c .before .before .before .before .before .before .factor .ensures .within in
-    let d = within-done _ _ _ _ _ _ _ _ w (c .before .before .n .given .1) in
-    (omega (arith, c .before .before .before .before .before .before .before .before .before .before .pre .0, d .0, d .1), (ready-next _ _ _ _ _ (c .before .before .before .before .before .before .before .before .before .before .pre .1 .0) _ _ _ _ _ _ (omega arith) w (c .before .before .n .given .1) (c .before .before .before .before .before .before .factor .kept .1 .1 .1 .1 .1 .1 .0), c .before .before .before .before .before .before .before .before .before .before .pre .1 .1))
+    let c6 = c .before .before .before .before .before .before in
+    let c10 = c6 .before .before .before .before in
+    let w = c6 .factor .ensures .within in
+    let d = within-done _ _ _ _ _ _ _ _ w (c .before .before .n .given .1) in (
+      omega (arith, c10 .pre .0, d .0, d .1),
+      (
+        ready-next _ _ _ _ _ (c10 .pre .1 .0) _ _ _ _ _ _ (omega arith) w (c .before .before .n .given .1)
+            (c6 .factor .kept .1 .1 .1 .1 .1 .1 .0),
+        c10 .pre .1 .1,
+      ),
+    )
 
 term-enum-told : (t : ℕ) → term-lts.Need-enum-told (term-claims t) (term-at t) term.Post
 term-enum-told t c = search needs
 
 term-same-length : (t : ℕ) → term-lts.Need-same-length (term-claims t) (term-at t) term.Post
-term-same-length t c = c .before .before .more-factors .kept .1 .1 .1 .1 .1 .1 .0 ∙ c .before .before .before .before .before .before .before .before .before .factor .kept .1 .1 .1 .1 .1 .1 .0
+term-same-length t c =
+    let c9 = c .before .before .before .before .before .before .before .before .before in
+    c .before .before .more-factors .kept .1 .1 .1 .1 .1 .1 .0 ∙ c9 .factor .kept .1 .1 .1 .1 .1 .1 .0
 
 term-returns : (t : ℕ) → term-lts.Need-returns (term-claims t) (term-at t) term.Post
-term-returns t c = term-answers _ _ _ _ _ _ _ _ _ _ _ _ (c .before .before .before .before .before .before .before .before .before .factor .ensures) (goes-on _ _ _ _ _ _ _ _ _ _ _ _ (c .before .before .before .before .before .n .given .1) (c .before .before .more-factors .ensures))
+term-returns t c =
+    let c5 = c .before .before .before .before .before in
+    let c9 = c5 .before .before .before .before in
+    term-answers _ _ _ _ _ _ _ _ _ _ _ _ (c9 .factor .ensures) (goes-on _ _ _ _ _ _ _ _ _ _ _ _ (c5 .n .given .1) (c .before .before .more-factors .ensures))
 
 term-same-length-2 : (t : ℕ) → term-lts.Need-same-length-2 (term-claims t) (term-at t) term.Post
 term-same-length-2 t c = c .before .before .before .before .factor .kept .1 .1 .1 .1 .1 .1 .0
 
 term-returns-2 : (t : ℕ) → term-lts.Need-returns-2 (term-claims t) (term-at t) term.Post
-term-returns-2 t c = term-answers _ _ _ _ _ _ _ _ _ _ _ _ (c .before .before .before .before .factor .ensures) (goes-not _ _ _ _ _ _ _ _ (c .enum-told .given .1))
+term-returns-2 t c =
+    let c4 = c .before .before .before .before in
+    term-answers _ _ _ _ _ _ _ _ _ _ _ _ (c4 .factor .ensures) (goes-not _ _ _ _ _ _ _ _ (c .enum-told .given .1))
 
 pub +expression+factor+more-factors+more-terms+quotient+term-spec : {M : Type 1} → statement M
 +expression+factor+more-factors+more-terms+quotient+term-spec =
@@ -443,26 +786,32 @@ pub +expression+factor+more-factors+more-terms+quotient+term-spec : {M : Type 1}
     (factor-at t)
     factor.Post
     (factor-begin-requires t)
-    (factor-constant-requires t)
-    (factor-same-length t)
-    (factor-returns t)
-    (factor-quotient-requires t)
-    (factor-same-length-2 t)
-    (factor-returns-2 t)
-    (factor-variable-requires t)
-    (factor-same-length-3 t)
-    (factor-returns-3 t)
     (factor-add-inner t)
+    (factor-enum-told t)
+    (factor-constant-requires t)
+    (factor-enum-told-2 t)
     (factor-opened-requires t)
     (factor-expression-requires t)
     (factor-expect-requires t)
-    (factor-same-length-4 t)
-    (factor-returns-4 t)
+    (factor-enum-told-3 t)
+    (factor-quotient-requires t)
+    (factor-enum-told-4 t)
+    (factor-variable-requires t)
+    (factor-enum-told-5 t)
     (factor-named-requires t)
     (factor-opened-requires-2 t)
     (factor-expression-requires-2 t)
     (factor-expect-requires-2 t)
     (factor-then-read-requires t)
+    (factor-enum-told-6 t)
+    (factor-same-length t)
+    (factor-returns t)
+    (factor-same-length-2 t)
+    (factor-returns-2 t)
+    (factor-same-length-3 t)
+    (factor-returns-3 t)
+    (factor-same-length-4 t)
+    (factor-returns-4 t)
     (factor-same-length-5 t)
     (factor-returns-5 t)
     (factor-returns-6 t))
@@ -470,13 +819,16 @@ pub +expression+factor+more-factors+more-terms+quotient+term-spec : {M : Type 1}
     (more-factors-at t)
     more-factors.Post
     (more-factors-join-requires t)
+    (more-factors-enum-told t)
     (more-factors-returns t)
+    (more-factors-enum-told-2 t)
+    (more-factors-enum-told-3 t)
     (more-factors-factor-requires t)
     (more-factors-factor-operation-requires t)
     (more-factors-then-emit-requires t)
     (more-factors-enum-known-n t)
     (more-factors-more-factors-requires t)
-    (more-factors-enum-told t)
+    (more-factors-enum-told-4 t)
     (more-factors-same-length t)
     (more-factors-returns-2 t)
     (more-factors-same-length-2 t)
@@ -485,13 +837,16 @@ pub +expression+factor+more-factors+more-terms+quotient+term-spec : {M : Type 1}
     (more-terms-at t)
     more-terms.Post
     (more-terms-join-requires t)
+    (more-terms-enum-told t)
     (more-terms-returns t)
+    (more-terms-enum-told-2 t)
+    (more-terms-enum-told-3 t)
     (more-terms-term-requires t)
     (more-terms-term-operation-requires t)
     (more-terms-then-emit-requires t)
     (more-terms-enum-known-n t)
     (more-terms-more-terms-requires t)
-    (more-terms-enum-told t)
+    (more-terms-enum-told-4 t)
     (more-terms-same-length t)
     (more-terms-returns-2 t)
     (more-terms-same-length-2 t)

@@ -1,9 +1,10 @@
 -- `expressions::reference` meets its contract, by how the reference begins.
 use native.Mathlib.Omega.{arith}
-use mathlib.Core.Path.{refl}
+use mathlib.Core.Path.{refl, sym, _∙_, ap}
 use borrow.Author.Needs.{needs}
+use Rattle.parts.specs.declared.Beginning.the-variants.{Element}
 use Rattle.parts.proofs.Spans.{within-inside, ready-later}
-use Rattle.expressions.proofs.Shapes.{begins-kind}
+use Rattle.expressions.proofs.Shapes.{named, begins-kind}
 use Rattle.expressions.proofs.Factors.{passed, reference-single, reference-element, reference-none}
 use Rattle.expressions.proofs.reference.Statement.{statement}
 use Rattle.expressions.proofs.reference.Tie as tie
@@ -11,42 +12,90 @@ use Rattle.expressions.proofs.reference.Tie as tie
 begin-requires : tie.Need-begin-requires
 begin-requires c κs = search needs
 
-named-requires : tie.Need-named-requires
-named-requires c κs = (c .before .before .before .before .pre .0 .inside, begins-kind _ (omega (arith, c .before .begin .ensures .what, c .if1 .taken)))
+enum-told : tie.Need-enum-told
+enum-told c = search needs
 
-returns : tie.Need-returns
-returns c = reference-single _ _ _ 0 _ _ _ _ _ _ _ (c .before .before .begin .ensures) _ (c .before .if1 .taken) refl refl (c .named .ensures)
+named-requires : tie.Need-named-requires
+named-requires c κs =
+    let c5 = c .before .before .before .before .before in
+    (c5 .pre .0 .inside, begins-kind _ (sym (ap named (c .before .before .begin .ensures .beginning)) ∙ ap named (c .enum-told .given .1)))
+
+enum-told-2 : tie.Need-enum-told-2
+enum-told-2 c = search needs
 
 named-requires-2 : tie.Need-named-requires-2
-named-requires-2 c κs = (c .before .before .before .before .before .pre .0 .inside, begins-kind _ (omega (arith, c .before .before .begin .ensures .what, c .if2 .taken)))
+named-requires-2 c κs =
+    let c5 = c .before .before .before .before .before in
+    (c5 .pre .0 .inside, begins-kind _ (sym (ap named (c .before .before .begin .ensures .beginning)) ∙ ap named (c .enum-told2 .given .1)))
 
 expression-requires : tie.Need-expression-requires
 expression-requires c κs =
-    let p = passed _ _ _ (c .before .before .before .before .begin .ensures) 5 (c .before .before .if2 .taken) in
-    (ready-later _ _ _ _ _ (c .before .before .before .before .before .before .before .pre .0) 1 _ _ _ (omega (arith, p .from)) (p .within) (omega arith) refl, c .before .before .before .before .before .before .before .pre .1)
+    let c4 = c .before .before .before .before in
+    let c7 = c4 .before .before .before in
+    let p = passed _ _ _ (c4 .begin .ensures) Element (c .before .before .enum-told2 .given .1) in
+    (ready-later _ _ _ _ _ (c7 .pre .0) 1 _ _ _ (omega (arith, p .from)) (p .within) (omega arith) refl, c7 .pre .1)
 
 expect-requires : tie.Need-expect-requires
 expect-requires c κs = (within-inside _ _ _ _ _ (c .before .before .expression .ensures .within), refl)
+
+enum-told-3 : tie.Need-enum-told-3
+enum-told-3 c = search needs
+
+enum-told-4 : tie.Need-enum-told-4
+enum-told-4 c = search needs
+
+enum-told-5 : tie.Need-enum-told-5
+enum-told-5 c = search needs
+
+enum-told-6 : tie.Need-enum-told-6
+enum-told-6 c = search needs
+
+returns : tie.Need-returns
+returns c = reference-single _ _ _ 0 _ _ _ _ _ _ _ (c .before .before .before .begin .ensures) _ (c .before .enum-told .given .1) refl refl (c .named .ensures)
 
 same-length : tie.Need-same-length
 same-length c = search needs
 
 returns-2 : tie.Need-returns-2
-returns-2 c = reference-element _ _ _ 0 _ _ _ _ _ _ _ (c .before .before .before .before .before .before .before .before .begin .ensures) _ _ _ (c .before .before .before .before .before .before .if2 .taken) refl (λ t d. omega (arith, c .before .before .before .before .before .named2 .ensures t d)) (c .before .before .before .expression .ensures) (c .expect .ensures)
+returns-2 c =
+    let c3 = c .before .before .before in
+    let c5 = c3 .before .before in
+    let c6 = c5 .before in
+    let c8 = c6 .before .before in
+    reference-element _ _ _ 0 _ _ _ _ _ _ _ (c8 .begin .ensures) _ _ _ (c6 .enum-told2 .given .1) refl (λ t d. omega (arith, c5 .named2 .ensures t d))
+    (c3 .expression .ensures) (c .expect .ensures)
 
 returns-3 : tie.Need-returns-3
-returns-3 c = reference-none _ _ _ 0 _ _ _ _ _ _ _ (c .before .before .begin .ensures) refl (c .before .if1 .left) (c .if2 .left)
+returns-3 c = reference-none _ _ _ 0 _ _ _ _ _ _ _ (c .before .before .begin .ensures) refl (ap named (c .enum-told3 .given .1))
+
+returns-4 : tie.Need-returns-4
+returns-4 c = reference-none _ _ _ 0 _ _ _ _ _ _ _ (c .before .before .begin .ensures) refl (ap named (c .enum-told4 .given .1))
+
+returns-5 : tie.Need-returns-5
+returns-5 c = reference-none _ _ _ 0 _ _ _ _ _ _ _ (c .before .before .begin .ensures) refl (ap named (c .enum-told5 .given .1))
+
+returns-6 : tie.Need-returns-6
+returns-6 c = reference-none _ _ _ 0 _ _ _ _ _ _ _ (c .before .before .begin .ensures) refl (ap named (c .enum-told6 .given .1))
 
 pub reference-spec : {M : Type 1} → statement M
 reference-spec =
     tie.close
     (tie.spec
     begin-requires
+    enum-told
     named-requires
-    returns
+    enum-told-2
     named-requires-2
     expression-requires
     expect-requires
+    enum-told-3
+    enum-told-4
+    enum-told-5
+    enum-told-6
+    returns
     same-length
     returns-2
-    returns-3)
+    returns-3
+    returns-4
+    returns-5
+    returns-6)

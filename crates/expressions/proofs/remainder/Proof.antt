@@ -13,7 +13,13 @@ enum-known-n : tie.Need-enum-known-n
 enum-known-n c = search needs
 
 more-terms-requires : tie.Need-more-terms-requires
-more-terms-requires c κs = (ready-next _ _ _ _ _ (c .before .before .before .before .before .before .before .before .before .before .pre .0) _ _ _ _ _ _ (omega arith) (c .before .before .before .before .before .before .term .ensures .within) (c .before .before .n .given .1) (c .before .before .before .before .before .before .term .kept .1 .1 .1 .1 .1 .1 .0), c .before .before .before .before .before .before .before .before .before .before .pre .1)
+more-terms-requires c κs =
+    let c6 = c .before .before .before .before .before .before in
+    let c10 = c6 .before .before .before .before in (
+      ready-next _ _ _ _ _ (c10 .pre .0) _ _ _ _ _ _ (omega arith) (c6 .term .ensures .within) (c .before .before .n .given .1)
+          (c6 .term .kept .1 .1 .1 .1 .1 .1 .0),
+      c10 .pre .1,
+    )
 
 enum-told : tie.Need-enum-told
 enum-told c = search needs
@@ -22,7 +28,10 @@ same-length : tie.Need-same-length
 same-length c = search needs
 
 returns : tie.Need-returns
-returns c = remainder-answers _ _ _ _ _ _ _ _ _ _ _ _ (c .before .before .before .before .before .before .before .before .before .term .ensures) (goes-on _ _ _ _ _ _ _ _ _ _ _ _ (c .before .before .before .before .before .n .given .1) (c .before .before .more-terms .ensures))
+returns c =
+    let c5 = c .before .before .before .before .before in
+    let c9 = c5 .before .before .before .before in
+    remainder-answers _ _ _ _ _ _ _ _ _ _ _ _ (c9 .term .ensures) (goes-on _ _ _ _ _ _ _ _ _ _ _ _ (c5 .n .given .1) (c .before .before .more-terms .ensures))
 
 same-length-2 : tie.Need-same-length-2
 same-length-2 c = search needs

@@ -55,7 +55,10 @@ loop-less c = omega arith
 
 loop-again : tie.Need-loop-again Inv-loop μ-loop
 unfolding last-word
-loop-again c = (omega arith, rw (add-one, c .choose .ensures, c .before .before .before .before .before .loop .inv .1, c .before .before .before .own-of .ensures))
+loop-again c =
+    let c3 = c .before .before .before in
+    let c5 = c3 .before .before in
+    (omega arith, rw (add-one, c .choose .ensures, c5 .loop .inv .1, c3 .own-of .ensures))
 
 of-word-requires : tie.Need-of-word-requires Inv-loop μ-loop
 of-word-requires c κs = search needs

@@ -38,15 +38,34 @@ add-requires c κs = search needs
 
 returns-3 : tie.Need-returns-3
 returns-3 c =
-    let e : toZ w32 (ofZ w32 (c .before .before .before .before .last-value .result)) ≡ c .before .before .before .before .last-value .result = search needs in
+    let c3 = c .before .before .before in
+    let c4 = c3 .before in
+    let c5 = c4 .before in
+    let e : toZ w32 (ofZ w32 (c4 .last-value .result)) ≡ c4 .last-value .result = search needs in
     let f : toZ w32 (ofZ w32 (c .before .total .result)) ≡ c .before .total .result = search needs in
     let g : toZ w32 (ofZ w32 (c .add .result)) ≡ c .add .result = search needs in
-    rw (g, c .add .ensures, e, f, c .before .before .before .before .last-value .ensures, c .before .total .ensures, ne-eqb _ _ (c .before .before .before .before .before .if1 .left), ne-eqb _ _ (c .before .before .before .if2 .left), eq-eqb _ _ (c .before .before .if3 .taken))
+    rw (
+      g,
+      c .add .ensures,
+      e,
+      f,
+      c4 .last-value .ensures,
+      c .before .total .ensures,
+      ne-eqb _ _ (c5 .if1 .left),
+      ne-eqb _ _ (c3 .if2 .left),
+      eq-eqb _ _ (c .before .before .if3 .taken),
+    )
 
 returns-4 : tie.Need-returns-4
 returns-4 c =
     let e : toZ w32 (ofZ w32 (c .before .before .last-value .result)) ≡ c .before .before .last-value .result = search needs in
-    rw (e, c .before .before .last-value .ensures, ne-eqb _ _ (c .before .before .before .if1 .left), ne-eqb _ _ (c .before .if2 .left), ne-eqb _ _ (c .if3 .left))
+    rw (
+      e,
+      c .before .before .last-value .ensures,
+      ne-eqb _ _ (c .before .before .before .if1 .left),
+      ne-eqb _ _ (c .before .if2 .left),
+      ne-eqb _ _ (c .if3 .left),
+    )
 
 pub merged-value-spec : {M : Type 1} → statement M
 merged-value-spec =

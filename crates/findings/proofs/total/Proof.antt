@@ -48,9 +48,11 @@ loop-less c = omega arith
 loop-again : tie.Need-loop-again Inv-loop μ-loop
 unfolding gathered
 loop-again c =
+    let c3 = c .before .before .before in
+    let c5 = c3 .before .before in
     let e : toZ w32 (ofZ w32 (c .before .of-word .result)) ≡ c .before .of-word .result = search needs in
     let f : toZ w32 (ofZ w32 (c .add .result)) ≡ c .add .result = search needs in
-    (omega arith, rw (add-one, f, c .add .ensures, e, c .before .of-word .ensures, c .before .before .before .before .before .loop .inv .1, c .before .before .before .own-of .ensures))
+    (omega arith, rw (add-one, f, c .add .ensures, e, c .before .of-word .ensures, c5 .loop .inv .1, c3 .own-of .ensures))
 
 returns : tie.Need-returns Inv-loop μ-loop
 returns c =

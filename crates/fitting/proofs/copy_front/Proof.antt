@@ -42,13 +42,30 @@ loop-less : tie.Need-loop-less Inv-loop μ-loop
 loop-less c = omega (arith, c .before .before .loop .inv .1)
 
 loop-again : tie.Need-loop-again Inv-loop μ-loop
-loop-again c = let e : toZ w32 (ofZ w32 (getD (c .before .before .before .args .from .now) (c .before .before .loop .c) (pos 0))) ≡ getD (c .before .before .before .args .from .now) (c .before .before .loop .c) (pos 0) = search needs in (omega (arith, c .before .before .loop .inv .1), length-set (c .before .before .loop .own) (c .before .before .loop .c) (toZ w32 (ofZ w32 (getD (c .before .before .before .args .from .now) (c .before .before .loop .c) (pos 0)))) ∙ c .before .before .loop .inv .1, ap (λ (u : List ℤ). set u (c .before .before .loop .c) (toZ w32 (ofZ w32 (getD (c .before .before .before .args .from .now) (c .before .before .loop .c) (pos 0))))) (c .before .before .loop .inv .2) ∙ copied-more (c .before .before .before .args .own .now) (c .before .before .before .args .from .now) (c .before .before .loop .c) (toZ w32 (ofZ w32 (getD (c .before .before .before .args .from .now) (c .before .before .loop .c) (pos 0)))) (omega (arith, c .before .before .loop .inv .1, c .before .before .before .pre)) (omega (arith, c .before .before .loop .inv .1, c .before .before .before .pre)) e)
+loop-again c =
+    let e : toZ w32 (ofZ w32 (getD (c .before .before .before .args .from .now) (c .before .before .loop .c) (pos 0)))
+    ≡ getD (c .before .before .before .args .from .now) (c .before .before .loop .c) (pos 0) =
+    search needs in (
+      omega (arith, c .before .before .loop .inv .1),
+      length-set (c .before .before .loop .own) (c .before .before .loop .c)
+          (toZ w32 (ofZ w32 (getD (c .before .before .before .args .from .now) (c .before .before .loop .c) (pos 0))))
+          ∙ c .before .before .loop .inv .1,
+      ap
+          (λ (u : List ℤ). set u (c .before .before .loop .c)
+          (toZ w32 (ofZ w32 (getD (c .before .before .before .args .from .now) (c .before .before .loop .c) (pos 0)))))
+          (c .before .before .loop .inv .2)
+          ∙ copied-more (c .before .before .before .args .own .now) (c .before .before .before .args .from .now) (c .before .before .loop .c)
+          (toZ w32 (ofZ w32 (getD (c .before .before .before .args .from .now) (c .before .before .loop .c) (pos 0))))
+          (omega (arith, c .before .before .loop .inv .1, c .before .before .before .pre))
+          (omega (arith, c .before .before .loop .inv .1, c .before .before .before .pre)) e,
+    )
 
 same-length : tie.Need-same-length Inv-loop μ-loop
 same-length c = c .before .loop .inv .1
 
 returns : tie.Need-returns Inv-loop μ-loop
-returns c = copied-front (c .before .before .args .own .now) (c .before .before .args .from .now) (c .before .loop .own) (c .before .loop .c) (c .before .loop .inv .2) (omega (arith, c .loop-test .left, c .before .loop .inv .0))
+returns c = copied-front (c .before .before .args .own .now) (c .before .before .args .from .now) (c .before .loop .own) (c .before .loop .c)
+    (c .before .loop .inv .2) (omega (arith, c .loop-test .left, c .before .loop .inv .0))
 
 pub copy-front-spec : {M : Type 1} → statement M
 copy-front-spec =

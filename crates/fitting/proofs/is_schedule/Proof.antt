@@ -33,7 +33,12 @@ cast-if1 : tie.Need-cast-if1 Inv-loop μ-loop
 cast-if1 c = omega (arith, c .shared-slice-known .given (c .before .before .loop .i))
 
 returns : tie.Need-returns Inv-loop μ-loop
-returns c = let l = c .before .before .before .loop in let s = c .before .before .before .before .args .schedule .now in let p = c .before .before .before .before .args .processors in sym (l .inv .1 ∙ all-off (λ (b : ℕ). ltb b p) s (l .i) (omega arith) (le-ltb _ p (c .if1 .taken)))
+returns c =
+    let c3 = c .before .before .before in
+    let c4 = c3 .before in
+    let l = c3 .loop in
+    let s = c4 .args .schedule .now in
+    let p = c4 .args .processors in sym (l .inv .1 ∙ all-off (λ (b : ℕ). ltb b p) s (l .i) (omega arith) (le-ltb _ p (c .if1 .taken)))
 
 add-i : tie.Need-add-i Inv-loop μ-loop
 add-i c = search needs
@@ -42,10 +47,18 @@ loop-less : tie.Need-loop-less Inv-loop μ-loop
 loop-less c = omega arith
 
 loop-again : tie.Need-loop-again Inv-loop μ-loop
-loop-again c = let l = c .before .before .before .loop in let s = c .before .before .before .before .args .schedule .now in let p = c .before .before .before .before .args .processors in (omega arith, l .inv .1 ∙ all-on (λ (b : ℕ). ltb b p) s (l .i) (omega arith) (lt-ltb _ p (c .if1 .left)))
+loop-again c =
+    let c3 = c .before .before .before in
+    let c4 = c3 .before in
+    let l = c3 .loop in
+    let s = c4 .args .schedule .now in
+    let p = c4 .args .processors in (omega arith, l .inv .1 ∙ all-on (λ (b : ℕ). ltb b p) s (l .i) (omega arith) (lt-ltb _ p (c .if1 .left)))
 
 returns-2 : tie.Need-returns-2 Inv-loop μ-loop
-returns-2 c = let l = c .before .loop in let s = c .before .before .args .schedule .now in let p = c .before .before .args .processors in sym (l .inv .1 ∙ all-out (λ (b : ℕ). ltb b p) s (l .i) (omega arith))
+returns-2 c =
+    let l = c .before .loop in
+    let s = c .before .before .args .schedule .now in
+    let p = c .before .before .args .processors in sym (l .inv .1 ∙ all-out (λ (b : ℕ). ltb b p) s (l .i) (omega arith))
 
 pub is-schedule-spec : {M : Type 1} → statement M
 is-schedule-spec =

@@ -49,12 +49,17 @@ go-on-requires c κs = search needs
 returns-2 : tie.Need-returns-2
 unfolding perform
 returns-2 c =
-    let a = c .before .before .before .before .before .before .before .args in
-    let p = c .before .before .before .before .before .before .before .pre in
-    let x : SFits w32 (getD (a .pending .now) (a .depth - 2) (pos 0)) = record { sfits = c .before .before .before .before .before .x .given } in
-    let y : SFits w32 (getD (a .pending .now) (a .depth - 2 + 1) (pos 0)) = record { sfits = c .before .before .before .before .y .given } in
+    let c3 = c .before .before .before in
+    let c4 = c3 .before in
+    let c5 = c4 .before in
+    let c7 = c5 .before .before in
+    let a = c7 .args in
+    let p = c7 .pre in
+    let x : SFits w32 (getD (a .pending .now) (a .depth - 2) (pos 0)) = record { sfits = c5 .x .given } in
+    let y : SFits w32 (getD (a .pending .now) (a .depth - 2 + 1) (pos 0)) = record { sfits = c4 .y .given } in
     let h = sym (c .before .before .holds .ensures) ∙ c .before .if2 .taken in
-    λ v. goes _ _ _ _ (p .0 .size) _ (omega (arith, p .0 .most)) (omega arith) (c .go-on .ensures) (λ go. with2-taken _ _ _ (omega arith) ∙ branches (a .arg % 8) _ _ x y (c .before .before .before .relation .ensures) h)
+    λ v. goes _ _ _ _ (p .0 .size) _ (omega (arith, p .0 .most)) (omega arith) (c .go-on .ensures)
+    (λ go. with2-taken _ _ _ (omega arith) ∙ branches (a .arg % 8) _ _ x y (c3 .relation .ensures) h)
 
 jump-requires : tie.Need-jump-requires
 jump-requires c κs = search needs
@@ -62,11 +67,16 @@ jump-requires c κs = search needs
 returns-3 : tie.Need-returns-3
 unfolding perform
 returns-3 c =
-    let a = c .before .before .before .before .before .before .before .args in
-    let x : SFits w32 (getD (a .pending .now) (a .depth - 2) (pos 0)) = record { sfits = c .before .before .before .before .before .x .given } in
-    let y : SFits w32 (getD (a .pending .now) (a .depth - 2 + 1) (pos 0)) = record { sfits = c .before .before .before .before .y .given } in
+    let c3 = c .before .before .before in
+    let c4 = c3 .before in
+    let c5 = c4 .before in
+    let c7 = c5 .before .before in
+    let a = c7 .args in
+    let x : SFits w32 (getD (a .pending .now) (a .depth - 2) (pos 0)) = record { sfits = c5 .x .given } in
+    let y : SFits w32 (getD (a .pending .now) (a .depth - 2 + 1) (pos 0)) = record { sfits = c4 .y .given } in
     let h = sym (c .before .before .holds .ensures) ∙ c .before .if2 .left in
-    λ v. like (a .place) _ (λ go. with2-taken _ _ _ (omega arith) ∙ branches (a .arg % 8) _ _ x y (c .before .before .before .relation .ensures) h) (c .jump .ensures (a .pending .now) v (c .before .before .before .before .before .before .before .pre .0 .size))
+    λ v. like (a .place) _ (λ go. with2-taken _ _ _ (omega arith) ∙ branches (a .arg % 8) _ _ x y (c3 .relation .ensures) h)
+    (c .jump .ensures (a .pending .now) v (c7 .pre .0 .size))
 
 pub jump-unless-spec : {M : Type 1} → statement M
 jump-unless-spec =

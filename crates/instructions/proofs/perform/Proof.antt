@@ -73,21 +73,26 @@ stop-requires c κs = search needs
 returns : tie.Need-returns
 unfolding perform
 returns c =
-    let a = c .before .before .before .before .args in
-    let e : toZ w32 (ofZ w32 (c .before .of-word .result)) ≡ value (a .arg) = landed (c .before .of-word .ensures) (value-fits (a .arg) (c .before .before .before .before .fits .arg .fits)) in
-    performs-as (a .place) (a .depth) (a .pending .now) _ (a .v) (decode-as (a .word) (a .arg) 0 (c .before .before .before .match .keys1)) (rw e at (c .push .ensures))
+    let c3 = c .before .before .before in
+    let c4 = c3 .before in
+    let a = c4 .args in
+    let e : toZ w32 (ofZ w32 (c .before .of-word .result)) ≡ value (a .arg) = landed (c .before .of-word .ensures)
+    (value-fits (a .arg) (c4 .fits .arg .fits)) in
+    performs-as (a .place) (a .depth) (a .pending .now) _ (a .v) (decode-as (a .word) (a .arg) 0 (c3 .match .keys1)) (rw e at (c .push .ensures))
 
 returns-2 : tie.Need-returns-2
 unfolding perform
 returns-2 c =
     let a = c .before .before .before .args in
     let e : toZ w32 (ofZ w32 (a .v)) ≡ a .v = search needs in
-    performs-as (a .place) (a .depth) (a .pending .now) _ (a .v) (decode-as (a .word) (a .arg) 1 (c .before .before .match .keys2)) (rw e at (c .push2 .ensures))
+    performs-as (a .place) (a .depth) (a .pending .now) _ (a .v) (decode-as (a .word) (a .arg) 1 (c .before .before .match .keys2))
+    (rw e at (c .push2 .ensures))
 
 returns-3 : tie.Need-returns-3
 returns-3 c =
     let a = c .before .before .args in
-    performs-as (a .place) (a .depth) (a .pending .now) _ (a .v) (decode-as (a .word) (a .arg) 2 (c .before .match .keys3)) (c .load .ensures (a .pending .now) (a .v) (c .before .before .pre .0 .size))
+    performs-as (a .place) (a .depth) (a .pending .now) _ (a .v) (decode-as (a .word) (a .arg) 2 (c .before .match .keys3))
+    (c .load .ensures (a .pending .now) (a .v) (c .before .before .pre .0 .size))
 
 returns-4 : tie.Need-returns-4
 returns-4 c =
@@ -102,12 +107,14 @@ returns-5 c =
 returns-6 : tie.Need-returns-6
 returns-6 c =
     let a = c .before .before .before .args in
-    performs-as (a .place) (a .depth) (a .pending .now) _ (a .v) (decode-as (a .word) (a .arg) 5 (c .before .before .match .keys6)) (c .subtract .ensures (a .v))
+    performs-as (a .place) (a .depth) (a .pending .now) _ (a .v) (decode-as (a .word) (a .arg) 5 (c .before .before .match .keys6))
+    (c .subtract .ensures (a .v))
 
 returns-7 : tie.Need-returns-7
 returns-7 c =
     let a = c .before .before .before .args in
-    performs-as (a .place) (a .depth) (a .pending .now) _ (a .v) (decode-as (a .word) (a .arg) 6 (c .before .before .match .keys7)) (c .multiply .ensures (a .v))
+    performs-as (a .place) (a .depth) (a .pending .now) _ (a .v) (decode-as (a .word) (a .arg) 6 (c .before .before .match .keys7))
+    (c .multiply .ensures (a .v))
 
 returns-8 : tie.Need-returns-8
 returns-8 c =
@@ -132,7 +139,8 @@ returns-11 c =
 returns-12 : tie.Need-returns-12
 returns-12 c =
     let a = c .before .before .before .args in
-    performs-as (a .place) (a .depth) (a .pending .now) _ (a .v) (decode-as (a .word) (a .arg) 11 (c .before .before .match .keys12)) (c .store-at .ensures (a .v))
+    performs-as (a .place) (a .depth) (a .pending .now) _ (a .v) (decode-as (a .word) (a .arg) 11 (c .before .before .match .keys12))
+    (c .store-at .ensures (a .v))
 
 returns-13 : tie.Need-returns-13
 returns-13 c =
@@ -142,22 +150,26 @@ returns-13 c =
 returns-14 : tie.Need-returns-14
 returns-14 c =
     let a = c .before .before .before .args in
-    performs-as (a .place) (a .depth) (a .pending .now) _ (a .v) (decode-as (a .word) (a .arg) 13 (c .before .before .match .keys14)) (c .update .ensures (a .v))
+    performs-as (a .place) (a .depth) (a .pending .now) _ (a .v) (decode-as (a .word) (a .arg) 13 (c .before .before .match .keys14))
+    (c .update .ensures (a .v))
 
 returns-15 : tie.Need-returns-15
 returns-15 c =
     let a = c .before .before .before .args in
-    performs-as (a .place) (a .depth) (a .pending .now) _ (a .v) (decode-as (a .word) (a .arg) 14 (c .before .before .match .keys15)) (c .update-at .ensures (a .v))
+    performs-as (a .place) (a .depth) (a .pending .now) _ (a .v) (decode-as (a .word) (a .arg) 14 (c .before .before .match .keys15))
+    (c .update-at .ensures (a .v))
 
 returns-16 : tie.Need-returns-16
 returns-16 c =
     let a = c .before .before .before .args in
-    performs-as (a .place) (a .depth) (a .pending .now) _ (a .v) (decode-as (a .word) (a .arg) 15 (c .before .before .match .keys16)) (c .jump-unless .ensures (a .v))
+    performs-as (a .place) (a .depth) (a .pending .now) _ (a .v) (decode-as (a .word) (a .arg) 15 (c .before .before .match .keys16))
+    (c .jump-unless .ensures (a .v))
 
 returns-17 : tie.Need-returns-17
 returns-17 c =
     let a = c .before .before .args in
-    performs-as (a .place) (a .depth) (a .pending .now) _ (a .v) (decode-as (a .word) (a .arg) 16 (c .before .match .keys17)) (c .jump .ensures (a .pending .now) (a .v) (c .before .before .pre .0 .size))
+    performs-as (a .place) (a .depth) (a .pending .now) _ (a .v) (decode-as (a .word) (a .arg) 16 (c .before .match .keys17))
+    (c .jump .ensures (a .pending .now) (a .v) (c .before .before .pre .0 .size))
 
 returns-18 : tie.Need-returns-18
 unfolding perform
@@ -165,7 +177,8 @@ returns-18 c =
     let a = c .before .before .args in
     let p = c .before .before .pre in
     let k : 17 ≤ a .word % 32 = past-all 17 (a .word % 32) (c .before .match .rest) in
-    performs-as (a .place) (a .depth) (a .pending .now) _ (a .v) (decode-last (a .word) (a .arg) k) (ends (does Instr.end (a .place) (a .depth) (a .pending .now) (a .v)) _ _ _ (p .0 .size) (p .0 .most) (c .stop .ensures) (λ go. refl))
+    performs-as (a .place) (a .depth) (a .pending .now) _ (a .v) (decode-last (a .word) (a .arg) k)
+    (ends (does Instr.end (a .place) (a .depth) (a .pending .now) (a .v)) _ _ _ (p .0 .size) (p .0 .most) (c .stop .ensures) (λ go. refl))
 
 pub perform-spec : {M : Type 1} → statement M
 perform-spec =

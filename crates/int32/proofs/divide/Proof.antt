@@ -24,7 +24,9 @@ returns-2 c = let s = c .before .before .before in divided-end quotient refl (s 
 apart : (c : tie.Joined2) → ofZ w32 (c .before .before .args .x) ≡ 2147483648 → ofZ w32 (c .before .before .args .y) ≡ 4294967295 → ⊥
 apart c p q = ⊎-elim (λ w. w .1 .left q) (λ w. w .left p) (c .if2 .came)
 
-plain : (c : tie.Joined2) → quotZ (toZ w32 (ofZ w32 (c .before .before .args .x))) (toZ w32 (ofZ w32 (c .before .before .args .y))) ≡ quotZ (c .before .before .args .x) (c .before .before .args .y)
+plain : (c : tie.Joined2)
+    → quotZ (toZ w32 (ofZ w32 (c .before .before .args .x))) (toZ w32 (ofZ w32 (c .before .before .args .y)))
+    ≡ quotZ (c .before .before .args .x) (c .before .before .args .y)
 plain c = let s = c .before .before in λ i. quotZ (toZ-ofZ w32 (s .args .x) (s .fits .x) i) (toZ-ofZ w32 (s .args .y) (s .fits .y) i)
 
 fits : (c : tie.Joined2) → SFits w32 (quotZ (c .before .before .args .x) (c .before .before .args .y))

@@ -45,23 +45,33 @@ returns c = let s = c .before .before in test-same (s .args .x) (s .args .y) (s 
 
 returns-2 : tie.Need-returns-2
 unfolding related
-returns-2 c = let s = c .before .before in ap not (test-same (s .args .x) (s .args .y) (s .fits .x) (s .fits .y)) ∙ arm (s .args .x) (s .args .y) (c .enum-told2 .given .1)
+returns-2 c =
+    let s = c .before .before in
+    ap not (test-same (s .args .x) (s .args .y) (s .fits .x) (s .fits .y)) ∙ arm (s .args .x) (s .args .y) (c .enum-told2 .given .1)
 
 returns-3 : tie.Need-returns-3
 unfolding related
-returns-3 c = let s = c .before .before in on-bits ltZ (s .args .x) (s .args .y) (s .fits .x) (s .fits .y) ∙ arm (s .args .x) (s .args .y) (c .enum-told3 .given .1)
+returns-3 c =
+    let s = c .before .before in
+    on-bits ltZ (s .args .x) (s .args .y) (s .fits .x) (s .fits .y) ∙ arm (s .args .x) (s .args .y) (c .enum-told3 .given .1)
 
 returns-4 : tie.Need-returns-4
 unfolding related
-returns-4 c = let s = c .before .before in on-bits leZ (s .args .x) (s .args .y) (s .fits .x) (s .fits .y) ∙ arm (s .args .x) (s .args .y) (c .enum-told4 .given .1)
+returns-4 c =
+    let s = c .before .before in
+    on-bits leZ (s .args .x) (s .args .y) (s .fits .x) (s .fits .y) ∙ arm (s .args .x) (s .args .y) (c .enum-told4 .given .1)
 
 returns-5 : tie.Need-returns-5
 unfolding related
-returns-5 c = let s = c .before .before in on-bits ltZ (s .args .y) (s .args .x) (s .fits .y) (s .fits .x) ∙ arm (s .args .x) (s .args .y) (c .enum-told5 .given .1)
+returns-5 c =
+    let s = c .before .before in
+    on-bits ltZ (s .args .y) (s .args .x) (s .fits .y) (s .fits .x) ∙ arm (s .args .x) (s .args .y) (c .enum-told5 .given .1)
 
 returns-6 : tie.Need-returns-6
 unfolding related
-returns-6 c = let s = c .before .before in on-bits leZ (s .args .y) (s .args .x) (s .fits .y) (s .fits .x) ∙ arm (s .args .x) (s .args .y) (c .enum-told6 .given .1)
+returns-6 c =
+    let s = c .before .before in
+    on-bits leZ (s .args .y) (s .args .x) (s .fits .y) (s .fits .x) ∙ arm (s .args .x) (s .args .y) (c .enum-told6 .given .1)
 
 pub holds-spec : {M : Type 1} → statement M
 holds-spec =

@@ -20,7 +20,10 @@ returns : tie.Need-returns
 unfolding word
 returns c =
     let s = c .before .before .before in
-    landed (c .of-word .ensures ∙ difference-words (pos 0) (s .args .x) refl (c .before .before .to-word .ensures ∙ seen (s .fits .x)) (c .before .wrapping-sub-u32 .ok) (c .before .wrapping-sub-u32 .ensures) ∙ difference-zero (s .args .x))
+    landed (c .of-word .ensures
+    ∙ difference-words (pos 0) (s .args .x) refl (c .before .before .to-word .ensures ∙ seen (s .fits .x)) (c .before .wrapping-sub-u32 .ok)
+    (c .before .wrapping-sub-u32 .ensures)
+    ∙ difference-zero (s .args .x))
     (negation-fits (s .args .x))
 
 pub negate-spec : {M : Type 1} → statement M

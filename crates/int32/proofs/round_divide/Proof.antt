@@ -30,9 +30,12 @@ magnitude-requires-2 c κs = search needs
 
 round-up-requires : tie.Need-round-up-requires
 round-up-requires c κs =
-    let s = c .before .before .before .before in (
-      subst (λ (n : ℕ). n ≤ 2147483648) (sym (c .before .magnitude .ensures ∙ ap natAbs (toZ-ofZ w32 (s .args .x) (s .fits .x)))) (natAbs-le (s .args .x) (s .fits .x .sfits)),
-      subst (λ (n : ℕ). 0 < n) (sym (c .magnitude2 .ensures ∙ ap natAbs (toZ-ofZ w32 (s .args .y) (s .fits .y)))) (natAbs-pos (s .args .y) (c .before .before .before .if1 .left)),
+    let c3 = c .before .before .before in
+    let c4 = c3 .before in
+    let s = c4 in (
+      subst (λ (n : ℕ). n ≤ 2147483648) (sym (c .before .magnitude .ensures ∙ ap natAbs (toZ-ofZ w32 (s .args .x) (s .fits .x))))
+          (natAbs-le (s .args .x) (s .fits .x .sfits)),
+      subst (λ (n : ℕ). 0 < n) (sym (c .magnitude2 .ensures ∙ ap natAbs (toZ-ofZ w32 (s .args .y) (s .fits .y)))) (natAbs-pos (s .args .y) (c3 .if1 .left)),
     )
 
 with-sign-requires : tie.Need-with-sign-requires

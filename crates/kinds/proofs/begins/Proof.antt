@@ -21,7 +21,9 @@ starts-requires : tie.Need-starts-requires
 starts-requires c κs = search needs
 
 returns : tie.Need-returns
-returns c = c .starts .ensures ∙ begins-at (c .before .before .before .before .before .args .w .now) (c .before .before .before .before .before .args .s .now) _ _ refl (c .before .before .run-end .ensures .0)
+returns c =
+    let c5 = c .before .before .before .before .before in
+    c .starts .ensures ∙ begins-at (c5 .args .w .now) (c5 .args .s .now) _ _ refl (c .before .before .run-end .ensures .0)
 
 pub begins-spec : {M : Type 1} → statement M
 begins-spec =

@@ -15,10 +15,16 @@ reads-requires : tie.Need-reads-requires
 reads-requires c κs = search needs
 
 returns : tie.Need-returns
-returns c = λ e. directive-closing _ _ e (said (c .before .before .before .before .before .args .s .now) (c .before .before .before .before .before .args .at) _ (c .before .before .before .token .ensures) "end" _ (c .before .reads .ensures) refl ∙ c .if1 .taken)
+returns c =
+    let c3 = c .before .before .before in
+    let c5 = c3 .before .before in
+    λ e. directive-closing _ _ e (said (c5 .args .s .now) (c5 .args .at) _ (c3 .token .ensures) "end" _ (c .before .reads .ensures) refl ∙ c .if1 .taken)
 
 returns-2 : tie.Need-returns-2
-returns-2 c = λ e. directive-opening _ _ e (said (c .before .before .before .before .before .args .s .now) (c .before .before .before .before .before .args .at) _ (c .before .before .before .token .ensures) "end" _ (c .before .reads .ensures) refl ∙ c .if1 .left)
+returns-2 c =
+    let c3 = c .before .before .before in
+    let c5 = c3 .before .before in
+    λ e. directive-opening _ _ e (said (c5 .args .s .now) (c5 .args .at) _ (c3 .token .ensures) "end" _ (c .before .reads .ensures) refl ∙ c .if1 .left)
 
 pub directive-kind-spec : {M : Type 1} → statement M
 directive-kind-spec =

@@ -15,7 +15,11 @@ reads-requires : tie.Need-reads-requires
 reads-requires c κs = search needs
 
 returns : tie.Need-returns
-returns c = λ e. end-of-if _ _ _ e (c .before .before .before .token .ensures .next) (c .before .before .before .token .ensures .within) (said (c .before .before .before .before .before .args .s .now) (c .before .before .before .before .before .args .at) _ (c .before .before .before .token .ensures) "if" _ (c .before .reads .ensures) refl ∙ c .if1 .taken)
+returns c =
+    let c3 = c .before .before .before in
+    let c5 = c3 .before .before in
+    λ e. end-of-if _ _ _ e (c3 .token .ensures .next) (c3 .token .ensures .within)
+    (said (c5 .args .s .now) (c5 .args .at) _ (c3 .token .ensures) "if" _ (c .before .reads .ensures) refl ∙ c .if1 .taken)
 
 slice-aggregate-reads-2 : tie.Need-slice-aggregate-reads-2
 slice-aggregate-reads-2 c = search needs
@@ -24,10 +28,23 @@ reads-requires-2 : tie.Need-reads-requires-2
 reads-requires-2 c κs = search needs
 
 returns-2 : tie.Need-returns-2
-returns-2 c = λ e. end-of-do _ _ _ e (c .before .before .before .before .before .before .token .ensures .next) (c .before .before .before .before .before .before .token .ensures .within) (said (c .before .before .before .before .before .before .before .before .args .s .now) (c .before .before .before .before .before .before .before .before .args .at) _ (c .before .before .before .before .before .before .token .ensures) "if" _ (c .before .before .before .before .reads .ensures) refl ∙ c .before .before .before .if1 .left) (said (c .before .before .before .before .before .before .before .before .args .s .now) (c .before .before .before .before .before .before .before .before .args .at) _ (c .before .before .before .before .before .before .token .ensures) "do" _ (c .before .reads2 .ensures) refl ∙ c .if2 .taken)
+returns-2 c =
+    let c3 = c .before .before .before in
+    let c4 = c3 .before in
+    let c6 = c4 .before .before in
+    let c8 = c6 .before .before in
+    λ e. end-of-do _ _ _ e (c6 .token .ensures .next) (c6 .token .ensures .within)
+    (said (c8 .args .s .now) (c8 .args .at) _ (c6 .token .ensures) "if" _ (c4 .reads .ensures) refl ∙ c3 .if1 .left)
+    (said (c8 .args .s .now) (c8 .args .at) _ (c6 .token .ensures) "do" _ (c .before .reads2 .ensures) refl ∙ c .if2 .taken)
 
 returns-3 : tie.Need-returns-3
-returns-3 c = λ e. end-of-none _ _ e (said (c .before .before .before .before .before .before .before .before .args .s .now) (c .before .before .before .before .before .before .before .before .args .at) _ (c .before .before .before .before .before .before .token .ensures) "if" _ (c .before .before .before .before .reads .ensures) refl ∙ c .before .before .before .if1 .left) (said (c .before .before .before .before .before .before .before .before .args .s .now) (c .before .before .before .before .before .before .before .before .args .at) _ (c .before .before .before .before .before .before .token .ensures) "do" _ (c .before .reads2 .ensures) refl ∙ c .if2 .left)
+returns-3 c =
+    let c3 = c .before .before .before in
+    let c4 = c3 .before in
+    let c6 = c4 .before .before in
+    let c8 = c6 .before .before in
+    λ e. end-of-none _ _ e (said (c8 .args .s .now) (c8 .args .at) _ (c6 .token .ensures) "if" _ (c4 .reads .ensures) refl ∙ c3 .if1 .left)
+    (said (c8 .args .s .now) (c8 .args .at) _ (c6 .token .ensures) "do" _ (c .before .reads2 .ensures) refl ∙ c .if2 .left)
 
 pub end-kind-spec : {M : Type 1} → statement M
 end-kind-spec =

@@ -22,13 +22,19 @@ shared-slice-read-if1 : tie.Need-shared-slice-read-if1 Inv-loop μ-loop
 shared-slice-read-if1 c = omega arith
 
 returns : tie.Need-returns Inv-loop μ-loop
-returns c = let l = c .before .before .before .loop in let s = c .before .before .before .before .args .s .now in sym (l .inv .1 ∙ all-off printable s (l .i) (omega arith) (printable-low _ (c .if1 .taken)))
+returns c =
+    let c3 = c .before .before .before in
+    let c4 = c3 .before in
+    let l = c3 .loop in let s = c4 .args .s .now in sym (l .inv .1 ∙ all-off printable s (l .i) (omega arith) (printable-low _ (c .if1 .taken)))
 
 shared-slice-read-if2 : tie.Need-shared-slice-read-if2 Inv-loop μ-loop
 shared-slice-read-if2 c = omega arith
 
 returns-2 : tie.Need-returns-2 Inv-loop μ-loop
-returns-2 c = let l = c .before .before .before .before .before .loop in let s = c .before .before .before .before .before .before .args .s .now in sym (l .inv .1 ∙ all-off printable s (l .i) (omega arith) (printable-high _ (c .if2 .taken)))
+returns-2 c =
+    let c5 = c .before .before .before .before .before in
+    let c6 = c5 .before in
+    let l = c5 .loop in let s = c6 .args .s .now in sym (l .inv .1 ∙ all-off printable s (l .i) (omega arith) (printable-high _ (c .if2 .taken)))
 
 add-i : tie.Need-add-i Inv-loop μ-loop
 add-i c = omega arith
@@ -37,7 +43,12 @@ loop-less : tie.Need-loop-less Inv-loop μ-loop
 loop-less c = omega arith
 
 loop-again : tie.Need-loop-again Inv-loop μ-loop
-loop-again c = let l = c .before .before .before .before .before .loop in let s = c .before .before .before .before .before .before .args .s .now in (omega arith, l .inv .1 ∙ all-on printable s (l .i) (omega arith) (printable-mid _ (c .before .before .if1 .left) (c .if2 .left)))
+loop-again c =
+    let c5 = c .before .before .before .before .before in
+    let c6 = c5 .before in
+    let l = c5 .loop in
+    let s = c6 .args .s .now in
+    (omega arith, l .inv .1 ∙ all-on printable s (l .i) (omega arith) (printable-mid _ (c .before .before .if1 .left) (c .if2 .left)))
 
 returns-3 : tie.Need-returns-3 Inv-loop μ-loop
 returns-3 c = let l = c .before .loop in let s = c .before .before .args .s .now in sym (l .inv .1 ∙ all-out printable s (l .i) (omega arith))

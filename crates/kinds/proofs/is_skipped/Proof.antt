@@ -25,10 +25,18 @@ begins-requires-2 : tie.Need-begins-requires-2
 begins-requires-2 c κs = search needs
 
 returns-2 : tie.Need-returns-2
-returns-2 c = sym (skipped-by _ false true _ (sym (c .before .before .before .before .before .before .is-blank .ensures) ∙ c .before .before .before .before .before .if1 .left) (sym (c .before .before .before .begins .ensures) ∙ c .before .before .if2 .taken) (sym (c .begins2 .ensures)))
+returns-2 c =
+    let c3 = c .before .before .before in
+    let c5 = c3 .before .before in
+    let c6 = c5 .before in
+    sym (skipped-by _ false true _ (sym (c6 .is-blank .ensures) ∙ c5 .if1 .left) (sym (c3 .begins .ensures) ∙ c .before .before .if2 .taken)
+    (sym (c .begins2 .ensures)))
 
 returns-3 : tie.Need-returns-3
-returns-3 c = sym (skipped-by _ false false _ (sym (c .before .before .before .before .is-blank .ensures) ∙ c .before .before .before .if1 .left) (sym (c .before .begins .ensures) ∙ c .if2 .left) refl)
+returns-3 c =
+    let c3 = c .before .before .before in
+    let c4 = c3 .before in
+    sym (skipped-by _ false false _ (sym (c4 .is-blank .ensures) ∙ c3 .if1 .left) (sym (c .before .begins .ensures) ∙ c .if2 .left) refl)
 
 pub is-skipped-spec : {M : Type 1} → statement M
 is-skipped-spec =

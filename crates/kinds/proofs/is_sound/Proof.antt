@@ -22,10 +22,18 @@ begins-requires-2 : tie.Need-begins-requires-2
 begins-requires-2 c κs = search needs
 
 returns : tie.Need-returns
-returns c = sym (sound-by _ true true _ (sym (c .before .before .before .before .before .before .is-printable .ensures) ∙ c .before .before .before .before .before .if1 .taken) (sym (c .before .before .before .begins .ensures) ∙ c .before .before .if2 .taken) (sym (c .begins2 .ensures)))
+returns c =
+    let c3 = c .before .before .before in
+    let c5 = c3 .before .before in
+    let c6 = c5 .before in
+    sym (sound-by _ true true _ (sym (c6 .is-printable .ensures) ∙ c5 .if1 .taken) (sym (c3 .begins .ensures) ∙ c .before .before .if2 .taken)
+    (sym (c .begins2 .ensures)))
 
 returns-2 : tie.Need-returns-2
-returns-2 c = sym (sound-by _ true false _ (sym (c .before .before .before .before .is-printable .ensures) ∙ c .before .before .before .if1 .taken) (sym (c .before .begins .ensures) ∙ c .if2 .left) refl)
+returns-2 c =
+    let c3 = c .before .before .before in
+    let c4 = c3 .before in
+    sym (sound-by _ true false _ (sym (c4 .is-printable .ensures) ∙ c3 .if1 .taken) (sym (c .before .begins .ensures) ∙ c .if2 .left) refl)
 
 returns-3 : tie.Need-returns-3
 returns-3 c = sym (sound-by (c .before .before .before .args .s .now) false _ _ (sym (c .before .is-printable .ensures) ∙ c .if1 .left) refl refl)

@@ -1,35 +1,44 @@
--- `lexer::goes_on` meets its contract.
-use Prim.Native.Nat.{ℕ, zero, suc}
-use mathlib.Core.Path.{_≡_, refl, sym, _∙_, ap}
+-- `lexer::goes_on` meets its contract, run by run.
+use Prim.Native.Nat.{ℕ}
+use mathlib.Core.Path.{_≡_, sym, _∙_, ap}
 use borrow.Author.Needs.{needs}
-use Rattle.syntax.specs.Bytes.{digit}
+use Rattle.lexer.specs.declared.Run.{Run}
 use Rattle.lexer.specs.Lex.{goes}
 use Rattle.lexer.proofs.goes_on.Statement.{statement}
 use Rattle.lexer.proofs.goes_on.Tie as tie
 
-returns : tie.Need-returns
-unfolding goes
-returns c = ap (λ (n : ℕ). goes n (c .before .args .b)) (sym (c .if1 .taken))
+enum-told : tie.Need-enum-told
+enum-told c = search needs
+
+enum-told-2 : tie.Need-enum-told-2
+enum-told-2 c = search needs
 
 in-word-requires : tie.Need-in-word-requires
 in-word-requires c κs = search needs
 
-returns-2 : tie.Need-returns-2
-unfolding goes
-returns-2 c = c .in-word .ensures ∙ ap (λ (n : ℕ). goes n (c .before .before .before .args .b)) (sym (c .before .if2 .taken))
+enum-told-3 : tie.Need-enum-told-3
+enum-told-3 c = search needs
 
 digit-requires : tie.Need-digit-requires
 digit-requires c κs = search needs
 
--- any other number is a run of digits
-others : (n b : ℕ) → (n ≡ 0 → ⊥) → (n ≡ 1 → ⊥) → digit b ≡ goes n b
+-- the run of the arm
+arm : {x y : Run} (b : ℕ) → x ≡ y → goes y b ≡ goes x b
+arm b e = ap (λ (w : Run). goes w b) (sym e)
+
+returns : tie.Need-returns
 unfolding goes
-others zero b h k = absurd (h refl)
-others (suc zero) b h k = absurd (k refl)
-others (suc (suc n)) b h k = refl
+returns c = arm (c .before .before .args .b) (c .enum-told .given .1)
+
+returns-2 : tie.Need-returns-2
+unfolding goes
+returns-2 c = c .in-word .ensures ∙ arm (c .before .before .before .args .b) (c .before .enum-told2 .given .1)
 
 returns-3 : tie.Need-returns-3
-returns-3 c = c .digit .ensures ∙ others (c .before .before .before .args .what) (c .before .before .before .args .b) (c .before .before .if1 .left) (c .before .if2 .left)
+unfolding goes
+returns-3 c = c .digit .ensures ∙ arm (c .before .before .before .args .b) (c .before .enum-told3 .given .1)
 
 pub goes-on-spec : {M : Type 1} → statement M
-goes-on-spec = tie.close (tie.spec returns in-word-requires returns-2 digit-requires returns-3)
+goes-on-spec =
+    tie.close
+    (tie.spec enum-told enum-told-2 in-word-requires enum-told-3 digit-requires returns returns-2 returns-3)

@@ -19,7 +19,11 @@ pass-requires : tie.Need-pass-requires
 pass-requires c κs = search needs
 
 returns-2 : tie.Need-returns-2
-returns-2 c = record { lands = λ h. lead-plus _ _ h _ _ (c .before .pass .ensures) (c .if2 .taken) refl; from = λ h. omega (arith, c .before .pass .ensures .from h); lost = λ h. absurd (omega arith) }
+returns-2 c = record {
+  lands = λ h. lead-plus _ _ h _ _ (c .before .pass .ensures) (c .if2 .taken) refl;
+  from = λ h. omega (arith, c .before .pass .ensures .from h);
+  lost = λ h. absurd (omega arith);
+}
 
 slice-aggregate-pass-2 : tie.Need-slice-aggregate-pass-2
 slice-aggregate-pass-2 c = search needs
@@ -28,10 +32,22 @@ pass-requires-2 : tie.Need-pass-requires-2
 pass-requires-2 c κs = search needs
 
 returns-3 : tie.Need-returns-3
-returns-3 c = record { lands = λ h. lead-minus _ _ h _ _ _ (c .before .before .before .before .pass .ensures) (omega arith) (c .before .pass2 .ensures) (c .if3 .taken) refl; from = λ h. omega (arith, c .before .pass2 .ensures .from h); lost = λ h. absurd (omega arith) }
+returns-3 c =
+    let c4 = c .before .before .before .before in
+    record {
+      lands = λ h. lead-minus _ _ h _ _ _ (c4 .pass .ensures) (omega arith) (c .before .pass2 .ensures) (c .if3 .taken) refl;
+      from = λ h. omega (arith, c .before .pass2 .ensures .from h);
+      lost = λ h. absurd (omega arith);
+    }
 
 returns-4 : tie.Need-returns-4
-returns-4 c = record { lands = λ h. lead-bare _ _ h _ _ _ (c .before .before .before .before .pass .ensures) (omega arith) (c .before .pass2 .ensures) (omega arith) refl; from = λ h. omega arith; lost = λ h. absurd (omega arith) }
+returns-4 c =
+    let c4 = c .before .before .before .before in
+    record {
+      lands = λ h. lead-bare _ _ h _ _ _ (c4 .pass .ensures) (omega arith) (c .before .pass2 .ensures) (omega arith) refl;
+      from = λ h. omega arith;
+      lost = λ h. absurd (omega arith);
+    }
 
 pub lead-spec : {M : Type 1} → statement M
 lead-spec =

@@ -19,7 +19,8 @@ abbrev μ-loop : tie.MeasureT-loop
 
 loop-holds : tie.Need-loop-holds Inv-loop μ-loop
 unfolding number-from
-loop-holds c = (omega arith, omega arith, ap (λ (l : List ℕ). min (number l) 2147483648) (sym (part-none (c .before .args .s .now) (c .before .args .t .start))))
+loop-holds c =
+    (omega arith, omega arith, ap (λ (l : List ℕ). min (number l) 2147483648) (sym (part-none (c .before .args .s .now) (c .before .args .t .start))))
 
 shared-slice-read-shifted : tie.Need-shared-slice-read-shifted Inv-loop μ-loop
 shared-slice-read-shifted c = omega arith
@@ -42,13 +43,18 @@ loop-again : tie.Need-loop-again Inv-loop μ-loop
 loop-again c =
     let l = c .before .before .before .loop in
     let s = c .before .before .before .before .before .args .s .now in
-    let a = c .before .before .before .before .before .args .t .start in
-    (omega arith, omega arith, c .shifted .ensures ∙ ap (λ (n : ℕ). tens n (getD s (l .i) 0)) (l .inv .2) ∙ more (number (part s a (l .i))) (getD s (l .i) 0) ∙ ap (λ (n : ℕ). min n 2147483648) (sym (number-part s a (l .i) (omega arith) (omega arith))))
+    let a = c .before .before .before .before .before .args .t .start in (
+      omega arith,
+      omega arith,
+      c .shifted .ensures ∙ ap (λ (n : ℕ). tens n (getD s (l .i) 0)) (l .inv .2) ∙ more (number (part s a (l .i))) (getD s (l .i) 0)
+          ∙ ap (λ (n : ℕ). min n 2147483648) (sym (number-part s a (l .i) (omega arith) (omega arith))),
+    )
 
 returns : tie.Need-returns Inv-loop μ-loop
 returns c =
     let l = c .before .loop in
-    l .inv .2 ∙ ap (λ (i : ℕ). min (number (part (c .before .before .before .args .s .now) (c .before .before .before .args .t .start) i)) 2147483648) (omega arith)
+    l .inv .2 ∙ ap (λ (i : ℕ). min (number (part (c .before .before .before .args .s .now) (c .before .before .before .args .t .start) i)) 2147483648)
+    (omega arith)
 
 pub literal-spec : {M : Type 1} → statement M
 literal-spec =

@@ -37,11 +37,14 @@ loop-less c = omega arith
 
 loop-again : tie.Need-loop-again Inv-loop μ-loop
 loop-again c =
-    let l = c .before .before .before .loop in
-    let s = c .before .before .before .before .before .before .args .text .now in
+    let c3 = c .before .before .before in
+    let c6 = c3 .before .before .before in
+    let l = c3 .loop in
+    let s = c6 .args .text .now in
     let h : l .i < length s = omega arith in
-    let e : set (l .low) (l .i) (c .lower .result) ≡ set (sets (c .before .before .before .before .before .before .args .low .now) 0 (map lower (take (l .i) s))) (l .i) (lower (getD s (l .i) 0)) = λ j. set (l .inv .2 j) (l .i) (c .lower .ensures j) in
-    (omega arith, simp length-set (l .inv .1), e ∙ sym (sets-map lower (c .before .before .before .before .before .before .args .low .now) s (l .i) 0 h))
+    let e : set (l .low) (l .i) (c .lower .result) ≡ set (sets (c6 .args .low .now) 0 (map lower (take (l .i) s))) (l .i) (lower (getD s (l .i) 0)) = λ j. set
+    (l .inv .2 j) (l .i) (c .lower .ensures j) in
+    (omega arith, simp length-set (l .inv .1), e ∙ sym (sets-map lower (c6 .args .low .now) s (l .i) 0 h))
 
 same-length : tie.Need-same-length Inv-loop μ-loop
 same-length c = c .before .loop .inv .1

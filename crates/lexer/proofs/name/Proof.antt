@@ -1,7 +1,8 @@
 -- `lexer::name` meets its contract: the token there is a name or not.
-use mathlib.Core.Path.{refl}
+use mathlib.Core.Path.{refl, sym, _∙_}
 use native.Mathlib.Omega.{arith}
 use Rattle.lexer.proofs.PlaceLaws.{kind-there, kind-other, spells}
+use borrow.Author.Tests.{eqb-true, eqb-false}
 use borrow.Author.Needs.{needs}
 use Rattle.lexer.proofs.name.Statement.{statement}
 use Rattle.lexer.proofs.name.Tie as tie
@@ -15,14 +16,23 @@ returns c = record { lands = λ h. absurd (omega arith); from = λ h. absurd (om
 take-requires : tie.Need-take-requires
 take-requires c κs = search needs
 
-add-t12 : tie.Need-add-t12
-add-t12 c = search needs
+same-kind-requires : tie.Need-same-kind-requires
+same-kind-requires c κs = search needs
+
+add-t14 : tie.Need-add-t14
+add-t14 c = search needs
 
 returns-2 : tie.Need-returns-2
-returns-2 c = record { lands = λ h. rw (c .before .before .take .ensures .1) (kind-there (c .before .before .take .ensures .0) 1 _ (c .if2 .taken) (spells (c .before .before .take .ensures .0) (c .if2 .taken))); from = λ h. omega (arith, c .before .before .take .ensures .1, c .before .before .take .ensures .0 .from, c .before .before .take .ensures .0 .order, c .before .before .take .ensures .0 .within); lost = λ h. absurd (omega arith) }
+returns-2 c =
+    let (l, n) = c .before .before .before .take .ensures in
+    let k = eqb-true _ 1 (sym (c .before .same-kind .ensures) ∙ c .if2 .taken) in
+    record { lands = λ h. rw n (kind-there l 1 _ k (spells l k)); from = λ h. omega (arith, n, l .from, l .order, l .within); lost = λ h. absurd (omega arith) }
 
 returns-3 : tie.Need-returns-3
-returns-3 c = record { lands = λ h. kind-other (c .before .before .take .ensures .0) 1 _ (c .if2 .left); from = λ h. omega (arith, c .before .before .take .ensures .0 .from, c .before .before .take .ensures .0 .order, c .before .before .take .ensures .0 .within); lost = λ h. absurd (omega arith) }
+returns-3 c =
+    let l = c .before .before .before .take .ensures .0 in
+    let k = eqb-false _ 1 (sym (c .before .same-kind .ensures) ∙ c .if2 .left) in
+    record { lands = λ h. kind-other l 1 _ k; from = λ h. omega (arith, l .from, l .order, l .within); lost = λ h. absurd (omega arith) }
 
 pub name-spec : {M : Type 1} → statement M
-name-spec = tie.close (tie.spec add-t9 returns take-requires add-t12 returns-2 returns-3)
+name-spec = tie.close (tie.spec add-t9 returns take-requires same-kind-requires add-t14 returns-2 returns-3)

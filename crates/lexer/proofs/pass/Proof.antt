@@ -22,10 +22,25 @@ add-result-2 : tie.Need-add-result-2
 add-result-2 c = search needs
 
 returns-2 : tie.Need-returns-2
-returns-2 c = record { lands = λ h. rw (c .before .before .before .take .ensures .1) (passes-there (c .before .before .before .take .ensures .0) (c .before .before .before .before .before .before .before .args .w .now) (sym (c .before .reads .ensures) ∙ c .if2 .taken)); from = λ h. omega (arith, c .before .before .before .take .ensures .1, c .before .before .before .take .ensures .0 .from, c .before .before .before .take .ensures .0 .order, c .before .before .before .take .ensures .0 .within); lost = λ h. absurd (omega arith) }
+returns-2 c =
+    let c3 = c .before .before .before in
+    let c7 = c3 .before .before .before .before in
+    record {
+      lands = λ h. rw (c3 .take .ensures .1)
+          (passes-there (c3 .take .ensures .0) (c7 .args .w .now) (sym (c .before .reads .ensures) ∙ c .if2 .taken));
+      from = λ h. omega (arith, c3 .take .ensures .1, c3 .take .ensures .0 .from, c3 .take .ensures .0 .order, c3 .take .ensures .0 .within);
+      lost = λ h. absurd (omega arith);
+    }
 
 returns-3 : tie.Need-returns-3
-returns-3 c = record { lands = λ h. passes-other (c .before .before .before .take .ensures .0) (c .before .before .before .before .before .before .before .args .w .now) (sym (c .before .reads .ensures) ∙ c .if2 .left); from = λ h. omega (arith, c .before .before .before .take .ensures .0 .from, c .before .before .before .take .ensures .0 .order, c .before .before .before .take .ensures .0 .within); lost = λ h. absurd (omega arith) }
+returns-3 c =
+    let c3 = c .before .before .before in
+    let c7 = c3 .before .before .before .before in
+    record {
+      lands = λ h. passes-other (c3 .take .ensures .0) (c7 .args .w .now) (sym (c .before .reads .ensures) ∙ c .if2 .left);
+      from = λ h. omega (arith, c3 .take .ensures .0 .from, c3 .take .ensures .0 .order, c3 .take .ensures .0 .within);
+      lost = λ h. absurd (omega arith);
+    }
 
 pub pass-spec : {M : Type 1} → statement M
 pass-spec =

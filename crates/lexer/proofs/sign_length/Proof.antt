@@ -9,7 +9,8 @@ use Rattle.lexer.proofs.sign_length.Statement.{statement}
 use Rattle.lexer.proofs.sign_length.Tie as tie
 
 -- the size by the two tests
-sized : (s : List ℕ) (a b : Bool) → starts (bytes "!$omp") s ≡ a → starts (bytes "==") s || (starts (bytes "/=") s || (starts (bytes "<=") s || starts (bytes ">=") s)) ≡ b → cond a 5 (cond b 2 1) ≡ sign-size s
+sized : (s : List ℕ) (a b : Bool) → starts (bytes "!$omp") s ≡ a
+    → starts (bytes "==") s || (starts (bytes "/=") s || (starts (bytes "<=") s || starts (bytes ">=") s)) ≡ b → cond a 5 (cond b 2 1) ≡ sign-size s
 sized s a b p q = λ i. cond (sym p i) 5 (cond (sym q i) 2 1)
 
 slice-aggregate-starts : tie.Need-slice-aggregate-starts
@@ -28,7 +29,11 @@ starts-requires-2 : tie.Need-starts-requires-2
 starts-requires-2 c κs = tt
 
 returns-2 : tie.Need-returns-2
-returns-2 c = sized (c .before .before .before .before .before .before .before .args .s .now) false true (sym (c .before .before .before .before .starts .ensures) ∙ c .before .before .before .if1 .left) (or-yes _ (sym (c .before .starts2 .ensures) ∙ c .if2 .taken))
+returns-2 c =
+    let c3 = c .before .before .before in
+    let c4 = c3 .before in
+    let c7 = c4 .before .before .before in
+    sized (c7 .args .s .now) false true (sym (c4 .starts .ensures) ∙ c3 .if1 .left) (or-yes _ (sym (c .before .starts2 .ensures) ∙ c .if2 .taken))
 
 slice-aggregate-starts-3 : tie.Need-slice-aggregate-starts-3
 slice-aggregate-starts-3 c = refl
@@ -37,7 +42,14 @@ starts-requires-3 : tie.Need-starts-requires-3
 starts-requires-3 c κs = tt
 
 returns-3 : tie.Need-returns-3
-returns-3 c = sized (c .before .before .before .before .before .before .before .before .before .before .args .s .now) false true (sym (c .before .before .before .before .before .before .before .starts .ensures) ∙ c .before .before .before .before .before .before .if1 .left) (or-no (sym (c .before .before .before .before .starts2 .ensures) ∙ c .before .before .before .if2 .left) (or-yes _ (sym (c .before .starts3 .ensures) ∙ c .if3 .taken)))
+returns-3 c =
+    let c3 = c .before .before .before in
+    let c4 = c3 .before in
+    let c6 = c4 .before .before in
+    let c7 = c6 .before in
+    let c10 = c7 .before .before .before in
+    sized (c10 .args .s .now) false true (sym (c7 .starts .ensures) ∙ c6 .if1 .left)
+    (or-no (sym (c4 .starts2 .ensures) ∙ c3 .if2 .left) (or-yes _ (sym (c .before .starts3 .ensures) ∙ c .if3 .taken)))
 
 slice-aggregate-starts-4 : tie.Need-slice-aggregate-starts-4
 slice-aggregate-starts-4 c = refl
@@ -46,7 +58,17 @@ starts-requires-4 : tie.Need-starts-requires-4
 starts-requires-4 c κs = tt
 
 returns-4 : tie.Need-returns-4
-returns-4 c = sized (c .before .before .before .before .before .before .before .before .before .before .before .before .before .args .s .now) false true (sym (c .before .before .before .before .before .before .before .before .before .before .starts .ensures) ∙ c .before .before .before .before .before .before .before .before .before .if1 .left) (or-no (sym (c .before .before .before .before .before .before .before .starts2 .ensures) ∙ c .before .before .before .before .before .before .if2 .left) (or-no (sym (c .before .before .before .before .starts3 .ensures) ∙ c .before .before .before .if3 .left) (or-yes _ (sym (c .before .starts4 .ensures) ∙ c .if4 .taken))))
+returns-4 c =
+    let c3 = c .before .before .before in
+    let c4 = c3 .before in
+    let c6 = c4 .before .before in
+    let c7 = c6 .before in
+    let c9 = c7 .before .before in
+    let c10 = c9 .before in
+    let c13 = c10 .before .before .before in
+    sized (c13 .args .s .now) false true (sym (c10 .starts .ensures) ∙ c9 .if1 .left)
+    (or-no (sym (c7 .starts2 .ensures) ∙ c6 .if2 .left)
+    (or-no (sym (c4 .starts3 .ensures) ∙ c3 .if3 .left) (or-yes _ (sym (c .before .starts4 .ensures) ∙ c .if4 .taken))))
 
 slice-aggregate-starts-5 : tie.Need-slice-aggregate-starts-5
 slice-aggregate-starts-5 c = refl
@@ -55,10 +77,36 @@ starts-requires-5 : tie.Need-starts-requires-5
 starts-requires-5 c κs = tt
 
 returns-5 : tie.Need-returns-5
-returns-5 c = sized (c .before .before .before .before .before .before .before .before .before .before .before .before .before .before .before .before .args .s .now) false true (sym (c .before .before .before .before .before .before .before .before .before .before .before .before .before .starts .ensures) ∙ c .before .before .before .before .before .before .before .before .before .before .before .before .if1 .left) (or-no (sym (c .before .before .before .before .before .before .before .before .before .before .starts2 .ensures) ∙ c .before .before .before .before .before .before .before .before .before .if2 .left) (or-no (sym (c .before .before .before .before .before .before .before .starts3 .ensures) ∙ c .before .before .before .before .before .before .if3 .left) (or-no (sym (c .before .before .before .before .starts4 .ensures) ∙ c .before .before .before .if4 .left) (sym (c .before .starts5 .ensures) ∙ c .if5 .taken))))
+returns-5 c =
+    let c3 = c .before .before .before in
+    let c4 = c3 .before in
+    let c6 = c4 .before .before in
+    let c7 = c6 .before in
+    let c9 = c7 .before .before in
+    let c10 = c9 .before in
+    let c12 = c10 .before .before in
+    let c13 = c12 .before in
+    let c16 = c13 .before .before .before in
+    sized (c16 .args .s .now) false true (sym (c13 .starts .ensures) ∙ c12 .if1 .left)
+    (or-no (sym (c10 .starts2 .ensures) ∙ c9 .if2 .left)
+    (or-no (sym (c7 .starts3 .ensures) ∙ c6 .if3 .left)
+    (or-no (sym (c4 .starts4 .ensures) ∙ c3 .if4 .left) (sym (c .before .starts5 .ensures) ∙ c .if5 .taken))))
 
 returns-6 : tie.Need-returns-6
-returns-6 c = sized (c .before .before .before .before .before .before .before .before .before .before .before .before .before .before .before .before .args .s .now) false false (sym (c .before .before .before .before .before .before .before .before .before .before .before .before .before .starts .ensures) ∙ c .before .before .before .before .before .before .before .before .before .before .before .before .if1 .left) (or-no (sym (c .before .before .before .before .before .before .before .before .before .before .starts2 .ensures) ∙ c .before .before .before .before .before .before .before .before .before .if2 .left) (or-no (sym (c .before .before .before .before .before .before .before .starts3 .ensures) ∙ c .before .before .before .before .before .before .if3 .left) (or-no (sym (c .before .before .before .before .starts4 .ensures) ∙ c .before .before .before .if4 .left) (sym (c .before .starts5 .ensures) ∙ c .if5 .left))))
+returns-6 c =
+    let c3 = c .before .before .before in
+    let c4 = c3 .before in
+    let c6 = c4 .before .before in
+    let c7 = c6 .before in
+    let c9 = c7 .before .before in
+    let c10 = c9 .before in
+    let c12 = c10 .before .before in
+    let c13 = c12 .before in
+    let c16 = c13 .before .before .before in
+    sized (c16 .args .s .now) false false (sym (c13 .starts .ensures) ∙ c12 .if1 .left)
+    (or-no (sym (c10 .starts2 .ensures) ∙ c9 .if2 .left)
+    (or-no (sym (c7 .starts3 .ensures) ∙ c6 .if3 .left)
+    (or-no (sym (c4 .starts4 .ensures) ∙ c3 .if4 .left) (sym (c .before .starts5 .ensures) ∙ c .if5 .left))))
 
 pub sign-length-spec : {M : Type 1} → statement M
 sign-length-spec =

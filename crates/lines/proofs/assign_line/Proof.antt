@@ -2,9 +2,7 @@
 use mathlib.Core.Path.{subst}
 use Rattle.syntax.specs.Reader.{readAssign, peek-in, skip-in}
 use Rattle.statements.specs.Statement.{Compiles}
-use Rattle.lines.specs.Progress.{numberOf}
-use Rattle.lines.proofs.EndLines.{concluded}
-use Rattle.lines.proofs.StatementLines.{assign-line, assign-broken}
+use Rattle.lines.proofs.StatementLines.{assign-line, compiled-broken}
 use borrow.Author.Needs.{needs}
 use Rattle.lines.proofs.assign_line.Statement.{statement}
 use Rattle.lines.proofs.assign_line.Tie as tie
@@ -31,13 +29,21 @@ same-length : tie.Need-same-length
 same-length c = search needs
 
 returns : tie.Need-returns
-returns c = λ I O st rp sane fo f b. concluded _ _ (c .onward .ensures) (numberOf st) _ _ I _ O st _ (assign-line _ _ (c .before .before .before .before .before .before .before .before .before .before .before .args .p) _ I _ O _ st rp _ _ _ (subst (Compiles (readAssign peek-in skip-in) _ _ _ _ _ _) (c .before .before .before .at .given .1) (c .before .before .before .before .before .before .before .assignment .ensures)) _ (c .before .number-of .ensures) f b)
+returns c =
+    let c3 = c .before .before .before in
+    let c7 = c3 .before .before .before .before in
+    λ I O. assign-line _ _ _ _ _ _ _ (subst (Compiles (readAssign peek-in skip-in) _ _ _ _ _ _) (c3 .at .given .1) (c7 .assignment .ensures)) _ _
+    (c .onward .ensures) (c .before .number-of .ensures)
 
 same-length-2 : tie.Need-same-length-2
 same-length-2 c = search needs
 
 returns-2 : tie.Need-returns-2
-returns-2 c = λ I O st rp sane fo f b. concluded _ _ (c .onward2 .ensures) (numberOf st) _ _ I _ O st _ (assign-broken _ _ (c .before .before .before .before .before .before .before .before .before .args .p) _ I _ O _ st rp (subst (Compiles (readAssign peek-in skip-in) _ _ _ _ _ _) (c .before .enum-told .given .1) (c .before .before .before .before .before .assignment .ensures)) _ f b)
+returns-2 c =
+    let c5 = c .before .before .before .before .before in
+    λ I O. compiled-broken _ _ _ _ (readAssign peek-in skip-in)
+    (subst (Compiles (readAssign peek-in skip-in) _ _ _ _ _ _) (c .before .enum-told .given .1) (c5 .assignment .ensures)) _ _ _
+    (c .onward2 .ensures) O
 
 pub assign-line-spec : {M : Type 1} → statement M
 assign-line-spec =

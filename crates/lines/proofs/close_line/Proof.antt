@@ -1,6 +1,5 @@
 -- `lines::close_line` meets its contract.
-use Rattle.lines.specs.Progress.{numberOf}
-use Rattle.lines.proofs.EndLines.{concluded, close-line}
+use Rattle.lines.proofs.EndLines.{close-line}
 use borrow.Author.Needs.{needs}
 use Rattle.lines.proofs.close_line.Statement.{statement}
 use Rattle.lines.proofs.close_line.Tie as tie
@@ -36,7 +35,12 @@ onward-requires : tie.Need-onward-requires
 onward-requires c κs = search needs
 
 returns : tie.Need-returns
-returns c = λ k T I C O st rp sane fo f b. concluded _ _ (c .onward .ensures) (numberOf st) k T I C O st _ (close-line k _ (c .before .before .before .before .before .before .before .before .before .before .before .args .p) T I C O _ _ _ _ (c .before .before .before .before .before .before .before .before .pass .ensures) (c .before .before .before .before .before .before .pass2 .ensures) (c .before .before .before .before .pass3 .ensures) (c .before .before .pass4 .ensures) _ (c .before .number-of .ensures) st rp f)
+returns c =
+    let c4 = c .before .before .before .before in
+    let c6 = c4 .before .before in
+    let c8 = c6 .before .before in
+    λ k T I C O. close-line k _ _ _ _ _ _ (c8 .pass .ensures) (c6 .pass2 .ensures) (c4 .pass3 .ensures) (c .before .before .pass4 .ensures) _
+    (c .before .number-of .ensures) _ (c .onward .ensures)
 
 pub close-line-spec : {M : Type 1} → statement M
 close-line-spec =

@@ -16,11 +16,18 @@ data-values-requires c κs = search needs
 number-of-requires : tie.Need-number-of-requires
 number-of-requires c κs = search needs
 
+before-do-requires : tie.Need-before-do-requires
+before-do-requires c κs = search needs
+
 same-length : tie.Need-same-length
 same-length c = search needs
 
 returns : tie.Need-returns
-returns c = λ k C O st rp sane fo. give-line k _ (c .before .before .before .before .before .before .before .before .args .p) _ _ C O _ _ _ (c .before .before .before .before .before .pass .ensures) (c .before .before .data-values .result) (c .before .before .data-values .ensures .0) (c .before .before .data-values .ensures .1 .0) _ (c .number-of .ensures) st rp sane fo
+returns c =
+    let c3 = c .before .before .before in
+    let c6 = c3 .before .before .before in
+    λ k C O. give-line k _ _ _ _ _ (c6 .pass .ensures) (c3 .data-values .result) (c3 .data-values .ensures .0) (c3 .data-values .ensures .1 .0) _
+    (c .before .number-of .ensures) _ (c .before-do .ensures)
 
 pub data-line-spec : {M : Type 1} → statement M
 data-line-spec =
@@ -30,5 +37,6 @@ data-line-spec =
     pass-requires
     data-values-requires
     number-of-requires
+    before-do-requires
     same-length
     returns)

@@ -1,5 +1,6 @@
--- `lines::directive_line` meets its contract.
-use Rattle.lines.proofs.DirectLine.{direct-line}
+-- `lines::directive_line` meets its contract: `num_threads` stands once, or not.
+use mathlib.Core.Path.{refl}
+use Rattle.lines.proofs.DirectLine.{direct-line, direct-broken}
 use borrow.Author.Needs.{needs}
 use Rattle.lines.proofs.directive_line.Statement.{statement}
 use Rattle.lines.proofs.directive_line.Tie as tie
@@ -25,11 +26,34 @@ pass-requires-3 c κs = search needs
 directive-requires : tie.Need-directive-requires
 directive-requires c κs = search needs
 
+before-do-requires : tie.Need-before-do-requires
+before-do-requires c κs = search needs
+
+returns : tie.Need-returns
+returns c =
+    let c3 = c .before .before .before in
+    let c5 = c3 .before .before in
+    let c7 = c5 .before .before in
+    let c9 = c7 .before .before in
+    let d = c3 .directive in
+    λ k I C O. direct-broken k _ _ _ _ _ _ (c9 .pass .ensures) (c7 .pass2 .ensures) (c5 .pass3 .ensures) (d .result) (d .ensures .0) (d .ensures .1) 2
+    (c .before .if1 .taken) refl _ (c .before-do .ensures)
+
 number-of-requires : tie.Need-number-of-requires
 number-of-requires c κs = search needs
 
-returns : tie.Need-returns
-returns c = λ k I C O st rp sane fo. direct-line k _ (c .before .before .before .before .before .before .before .before .before .before .args .p) _ I C O _ _ _ _ (c .before .before .before .before .before .before .before .pass .ensures) (c .before .before .before .before .before .pass2 .ensures) (c .before .before .before .pass3 .ensures) (c .before .directive .result) (c .before .directive .ensures .0) (c .before .directive .ensures .1) _ (c .number-of .ensures) st rp fo
+before-do-requires-2 : tie.Need-before-do-requires-2
+before-do-requires-2 c κs = search needs
+
+returns-2 : tie.Need-returns-2
+returns-2 c =
+    let c4 = c .before .before .before .before in
+    let c6 = c4 .before .before in
+    let c8 = c6 .before .before in
+    let c10 = c8 .before .before in
+    let d = c4 .directive in
+    λ k I C O. direct-line k _ _ _ _ _ _ (c10 .pass .ensures) (c8 .pass2 .ensures) (c6 .pass3 .ensures) (d .result) (d .ensures .0) (d .ensures .1) _
+    (c .before .before .if1 .left) (c .before .number-of .ensures) _ (c .before-do2 .ensures)
 
 pub directive-line-spec : {M : Type 1} → statement M
 directive-line-spec =
@@ -42,5 +66,8 @@ directive-line-spec =
     slice-aggregate-pass-3
     pass-requires-3
     directive-requires
+    before-do-requires
+    returns
     number-of-requires
-    returns)
+    before-do-requires-2
+    returns-2)

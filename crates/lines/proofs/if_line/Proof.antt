@@ -5,9 +5,7 @@ use lib.ListN.{set}
 use native.Mathlib.Omega.{arith}
 use Rattle.syntax.specs.Reader.{readWhen, peek-in, skip-in}
 use Rattle.statements.specs.Statement.{Compiles}
-use Rattle.lines.specs.Progress.{numberOf}
-use Rattle.lines.proofs.EndLines.{concluded}
-use Rattle.lines.proofs.StatementLines.{when-line, when-deep, when-broken, compiled-bounded, compiled-number}
+use Rattle.lines.proofs.StatementLines.{when-line, when-deep, compiled-broken, compiled-bounded, compiled-number}
 use borrow.Author.Needs.{needs}
 use Rattle.lines.proofs.if_line.Statement.{statement}
 use Rattle.lines.proofs.if_line.Tie as tie
@@ -25,7 +23,11 @@ number-of-requires : tie.Need-number-of-requires
 number-of-requires c κs = search needs
 
 open-word-requires : tie.Need-open-word-requires
-open-word-requires c κs = omega (arith, compiled-bounded _ _ _ _ _ _ _ _ _ _ _ (c .before .before .before .before .before .before .before .before .condition .ensures) (c .before .before .before .before .at .given .1), c .before .before .before .before .before .before .before .before .before .before .before .before .pre .0, c .before .before .before .before .before .before .before .before .before .before .before .before .pre .3)
+open-word-requires c κs =
+    let c4 = c .before .before .before .before in
+    let c8 = c4 .before .before .before .before in
+    let c12 = c8 .before .before .before .before in
+    omega (arith, compiled-bounded _ _ _ _ _ _ _ _ _ _ _ (c8 .condition .ensures) (c4 .at .given .1), c12 .pre .0, c12 .pre .3)
 
 mul-opens : tie.Need-mul-opens
 mul-opens c = search needs
@@ -43,7 +45,15 @@ same-length : tie.Need-same-length
 same-length c = search needs
 
 returns : tie.Need-returns
-returns c = λ I st rp sane fo f b. concluded _ _ (c .onward .ensures) (numberOf st) _ _ I _ _ st _ (when-line _ _ (c .before .before .before .before .before .before .before .before .before .before .before .before .before .before .args .p) _ I _ _ _ st rp _ _ _ (subst (Compiles (readWhen peek-in skip-in) _ _ _ _ _ _) (c .before .before .before .before .before .before .at .given .1) (c .before .before .before .before .before .before .before .before .before .before .condition .ensures)) (omega arith) _ (ap (λ (x : ℕ). set (c .before .before .before .before .before .before .before .before .before .before .before .before .before .before .args .opens .now) (c .before .before .before .before .before .before .before .before .before .before .before .before .before .before .args .p .depth) x) (c .before .open-word .ensures)) _ (compiled-number _ _ _ _ _ (c .before .before .before .before .nested .ensures) (c .before .before .before .number-of .ensures)) f b)
+returns c =
+    let c3 = c .before .before .before in
+    let c4 = c3 .before in
+    let c6 = c4 .before .before in
+    let c10 = c6 .before .before .before .before in
+    let c14 = c10 .before .before .before .before in
+    λ I. when-line _ _ _ _ _ _ _ (subst (Compiles (readWhen peek-in skip-in) _ _ _ _ _ _) (c6 .at .given .1) (c10 .condition .ensures))
+    (omega arith) _ (ap (λ (x : ℕ). set (c14 .args .opens .now) (c14 .args .p .depth) x) (c .before .open-word .ensures)) _ _ (c .onward .ensures)
+    (compiled-number _ _ _ _ _ (c4 .nested .ensures) (c3 .number-of .ensures))
 
 onward-requires-2 : tie.Need-onward-requires-2
 onward-requires-2 c κs = search needs
@@ -58,13 +68,21 @@ same-length-2 : tie.Need-same-length-2
 same-length-2 c = search needs
 
 returns-2 : tie.Need-returns-2
-returns-2 c = λ I st rp sane fo f b. concluded _ _ (c .onward2 .ensures) (numberOf st) _ _ I _ _ st _ (when-deep _ _ (c .before .before .before .before .before .before .before .before .before .before .before .before .before .args .p) _ I _ _ _ st rp _ _ _ (subst (Compiles (readWhen peek-in skip-in) _ _ _ _ _ _) (c .before .before .before .before .before .at .given .1) (c .before .before .before .before .before .before .before .before .before .condition .ensures)) (omega arith) _ _ (compiled-number _ _ _ _ _ (c .before .before .before .nested .ensures) (c .before .before .number-of .ensures)) f b)
+returns-2 c =
+    let c3 = c .before .before .before in
+    let c5 = c3 .before .before in
+    let c9 = c5 .before .before .before .before in
+    λ I. when-deep _ _ _ _ _ _ _ (subst (Compiles (readWhen peek-in skip-in) _ _ _ _ _ _) (c5 .at .given .1) (c9 .condition .ensures))
+    (omega arith) _ _ (c .onward2 .ensures) (compiled-number _ _ _ _ _ (c3 .nested .ensures) (c .before .before .number-of .ensures)) _
 
 same-length-3 : tie.Need-same-length-3
 same-length-3 c = search needs
 
 returns-3 : tie.Need-returns-3
-returns-3 c = λ I st rp sane fo f b. concluded _ _ (c .onward3 .ensures) (numberOf st) _ _ I _ _ st _ (when-broken _ _ (c .before .before .before .before .before .before .before .before .before .args .p) _ I _ _ _ st rp (subst (Compiles (readWhen peek-in skip-in) _ _ _ _ _ _) (c .before .enum-told .given .1) (c .before .before .before .before .before .condition .ensures)) _ f b)
+returns-3 c =
+    let c5 = c .before .before .before .before .before in
+    λ I. compiled-broken _ _ _ _ (readWhen peek-in skip-in)
+    (subst (Compiles (readWhen peek-in skip-in) _ _ _ _ _ _) (c .before .enum-told .given .1) (c5 .condition .ensures)) _ _ _ (c .onward3 .ensures) _
 
 pub if-line-spec : {M : Type 1} → statement M
 if-line-spec =

@@ -16,10 +16,17 @@ integers-requires c κs = search needs
 number-of-requires : tie.Need-number-of-requires
 number-of-requires c κs = search needs
 
+before-do-requires : tie.Need-before-do-requires
+before-do-requires c κs = search needs
+
 returns : tie.Need-returns
-returns c = λ k I C O st rp sane fo. declare-line k _ (c .before .before .before .before .before .before .args .p) _ I C O _ _ (c .before .before .before .pass .ensures) (c .before .integers .result) (c .before .integers .ensures .0) (c .before .integers .ensures .1 .0) (c .before .integers .ensures .1 .1) _ (c .number-of .ensures) st rp fo
+returns c =
+    let found = c .before .before .integers in
+    let passed = c .before .before .before .before .pass in
+    λ k I C O. declare-line k _ _ _ _ (passed .ensures) (found .result) (found .ensures .0) (found .ensures .1 .0) (found .ensures .1 .1) _
+    (c .before .number-of .ensures) _ (c .before-do .ensures)
 
 pub integer-line-spec : {M : Type 1} → statement M
 integer-line-spec =
     tie.close
-    (tie.spec slice-aggregate-pass pass-requires integers-requires number-of-requires returns)
+    (tie.spec slice-aggregate-pass pass-requires integers-requires number-of-requires before-do-requires returns)

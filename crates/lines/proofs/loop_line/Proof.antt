@@ -20,7 +20,10 @@ number-of-requires : tie.Need-number-of-requires
 number-of-requires c κs = search needs
 
 returns : tie.Need-returns
-returns c = let e : toZ w32 (ofZ w32 (c .before .before .do-line .result .from)) ≡ c .before .before .do-line .result .from = search needs in λ k I C O st rp sane fo f b. loop-line k _ (c .before .before .before .before .before .before .before .args .p) _ I C O _ _ (c .before .before .before .before .pass .ensures) (c .before .before .do-line .result) (c .before .before .do-line .ensures) _ (c .before .number-of .ensures) _ e st rp f
+returns c =
+    let line = c .before .before .do-line in
+    let e : toZ w32 (ofZ w32 (line .result .from)) ≡ line .result .from = search needs in
+    λ k I C O. loop-line k _ _ _ _ (c .before .before .before .before .pass .ensures) (line .result) (line .ensures) _ (c .before .number-of .ensures) _ e
 
 pub loop-line-spec : {M : Type 1} → statement M
 loop-line-spec =

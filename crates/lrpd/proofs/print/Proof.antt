@@ -19,13 +19,28 @@ array-borrow-prefix-cells : tie.Need-array-borrow-prefix-cells
 array-borrow-prefix-cells c = omega (arith, lent-few (c .before .check .result), c .lent .ensures)
 
 slice-aggregate-print-over : tie.Need-slice-aggregate-print-over
-slice-aggregate-print-over c = sym (length-take-le (c .before .lent .result) (replicate 128 (pos 0)) (omega (arith, lent-few (c .before .before .check .result), c .before .lent .ensures)))
+slice-aggregate-print-over c = sym (length-take-le (c .before .lent .result) (replicate 128 (pos 0))
+    (omega (arith, lent-few (c .before .before .check .result), c .before .lent .ensures)))
 
 print-over-requires : tie.Need-print-over-requires
-print-over-requires c κs = (c .before .before .before .before .before .pre, omega (arith, lent-few (c .before .before .before .check .result), c .before .before .lent .ensures, length-take-le (c .before .before .lent .result) (replicate 128 (pos 0)) (omega (arith, lent-few (c .before .before .before .check .result), c .before .before .lent .ensures))))
+print-over-requires c κs =
+    let c3 = c .before .before .before in
+    let c5 = c3 .before .before in (
+      c5 .pre,
+      omega (
+        arith,
+        lent-few (c3 .check .result),
+        c .before .before .lent .ensures,
+        length-take-le (c .before .before .lent .result) (replicate 128 (pos 0))
+            (omega (arith, lent-few (c3 .check .result), c .before .before .lent .ensures)),
+      ),
+    )
 
 returns : tie.Need-returns
-returns c = prints-lent _ (c .before .before .before .before .before .check .result) (c .before .before .before .before .lent .result) (c .before .before .before .before .before .check .ensures) (c .before .before .before .before .lent .ensures) (c .before .print-over .ensures)
+returns c =
+    let c4 = c .before .before .before .before in
+    let c5 = c4 .before in
+    prints-lent _ (c5 .check .result) (c4 .lent .result) (c5 .check .ensures) (c4 .lent .ensures) (c .before .print-over .ensures)
 
 pub print-spec : {M : Type 1} → statement M
 print-spec =

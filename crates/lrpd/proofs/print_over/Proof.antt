@@ -34,16 +34,20 @@ read-requires c κs = search needs
 
 report-requires : tie.Need-report-requires
 report-requires c κs =
-    let s = c .before .before .before .before .before .before .before .before .before .before .before .before .before .before .before .before .before .before .before in
-    let load = c .before .before .before .before .before .before .before .before .before .before .before .before .before .before .before .before .load in
-    let run = c .before .before .before .before .before .before .before .before .before .before .before .run in
+    let c5 = c .before .before .before .before .before in
+    let c11 = c5 .before .before .before .before .before .before in
+    let c16 = c11 .before .before .before .before .before in
+    let c19 = c16 .before .before .before in
+    let s = c19 in
+    let load = c16 .load in
+    let run = c11 .run in
     let kept : length (load .last .1 .0) ≡ length (s .args .cells .now) = search needs in
     let few : length (load .last .1 .0) ≤ 128 = omega (arith, kept, s .pre .1) in
     let same : length (run .last .1 .0) ≡ length (load .last .1 .0) = search needs in (
       s .pre .0,
       λ (d : Completes (run .result)). (
         namesOf (read (s .args .text .now)),
-        holds _ _ _ _ _ (c .before .before .before .before .before .read .ensures) (load .last .1 .0) (run .last .1 .0) few same (subst Completes (run .ensures .0) d),
+        holds _ _ _ _ _ (c5 .read .ensures) (load .last .1 .0) (run .last .1 .0) few same (subst Completes (run .ensures .0) d),
       ),
     )
 
@@ -52,9 +56,13 @@ same-length c = search needs
 
 returns : tie.Need-returns
 returns c =
-    let s = c .before .before .before .before .before .before .before .before .before .before .before .before .before .before .before .before .before .before .before .before in
-    let load = c .before .before .before .before .before .before .before .before .before .before .before .before .before .before .before .before .before .load in
-    let run = c .before .before .before .before .before .before .before .before .before .before .before .before .run in
+    let c6 = c .before .before .before .before .before .before in
+    let c12 = c6 .before .before .before .before .before .before in
+    let c17 = c12 .before .before .before .before .before in
+    let c20 = c17 .before .before .before in
+    let s = c20 in
+    let load = c17 .load in
+    let run = c12 .run in
     let kept : length (load .last .1 .0) ≡ length (s .args .cells .now) = search needs in
     let few : length (load .last .1 .0) ≤ 128 = omega (arith, kept, s .pre .1) in
     let same : length (run .last .1 .0) ≡ length (load .last .1 .0) = search needs in
@@ -64,7 +72,7 @@ returns c =
     _
     _
     _
-    (c .before .before .before .before .before .before .read .ensures)
+    (c6 .read .ensures)
     (load .last .1 .0)
     (run .last .1 .0)
     few

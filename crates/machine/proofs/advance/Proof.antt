@@ -78,14 +78,17 @@ enum-known-next c = search needs
 returns : tie.Need-returns Inv-loop μ-loop
 unfolding then
 returns c =
-    let a = c .before .before .before .before .before .before .before .before .before .before .args in
-    let s = c .before .before .before .perform in
-    let i = c .before .before .before .before .before .before .before .before .loop .inv in
+    let c3 = c .before .before .before in
+    let c8 = c3 .before .before .before .before .before in
+    let c10 = c8 .before .before in
+    let a = c10 .args in
+    let s = c3 .perform in
+    let i = c8 .loop .inv in
     let m = c .before .next .given .0 .0 in
     let e : s .result .next ≡ Stop m = cc in
     let f : toZ w32 (ofZ w32 (a .v)) ≡ a .v = search needs in
     record {
-      meaning = rw f at (i .3 ∙ rw e at (from-performed (a .code .now) (toZ w32 (ofZ w32 (a .v))) (c .before .before .before .before .before .before .before .before .loop .at) _ _ _ _ (omega arith) (s .ensures)));
+      meaning = rw f at (i .3 ∙ rw e at (from-performed (a .code .now) (toZ w32 (ofZ w32 (a .v))) (c8 .loop .at) _ _ _ _ (omega arith) (s .ensures)));
       size = s .ensures .size;
       room = rw e at (s .ensures .room);
       forward = omega (arith, s .ensures .forward, accesses-most m);
@@ -98,7 +101,13 @@ returns-2 c =
     let a = c .before .before .before .args in
     let i = c .before .loop .inv in
     let f : toZ w32 (ofZ w32 (a .v)) ≡ a .v = search needs in
-    record { meaning = rw f at (i .3 ∙ from-past _ _ (c .before .loop .at) _ (omega arith)); size = i .0; room = omega arith; forward = omega arith; inside = omega arith }
+    record {
+      meaning = rw f at (i .3 ∙ from-past _ _ (c .before .loop .at) _ (omega arith));
+      size = i .0;
+      room = omega arith;
+      forward = omega arith;
+      inside = omega arith;
+    }
 
 pub advance-spec : {M : Type 1} → statement M
 advance-spec =

@@ -58,8 +58,11 @@ element-write-table-4 c = search needs
 
 returns-2 : tie.Need-returns-2
 returns-2 c =
-    let a = c .before .before .before .before .before .before .before .args in
-    added (a .table .now) (a .w .now) (c .before .before .before .before .count .result) (a .first) (a .size) (a .subscripted) (c .before .put-name .last .0) (c .before .put-name .ensures) (c .before .before .before .before .count .ensures) (omega arith) (omega arith) (c .if2 .table) (⊎-elim
+    let c4 = c .before .before .before .before in
+    let c7 = c4 .before .before .before in
+    let a = c7 .args in
+    added (a .table .now) (a .w .now) (c4 .count .result) (a .first) (a .size) (a .subscripted) (c .before .put-name .last .0)
+    (c .before .put-name .ensures) (c4 .count .ensures) (omega arith) (omega arith) (c .if2 .table) (⊎-elim
     (λ w. w .1 ∙ sym (ap (λ (b : Bool). cond b 1 0) (w .0 .taken)))
     (λ w. w .1 ∙ sym (ap (λ (b : Bool). cond b 1 0) (w .0 .left)))
     (c .if2 .came))

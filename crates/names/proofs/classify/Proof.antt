@@ -16,17 +16,20 @@ mul-table c = search needs
 add-table : tie.Need-add-table
 add-table c = search needs
 
+add-table-2 : tie.Need-add-table-2
+add-table-2 c = search needs
+
 mul-table-2 : tie.Need-mul-table-2
 mul-table-2 c = search needs
 
 element-copy-out-table : tie.Need-element-copy-out-table
 element-copy-out-table c = search needs
 
-add-table-2 : tie.Need-add-table-2
-add-table-2 c = search needs
-
 add-table-3 : tie.Need-add-table-3
 add-table-3 c = search needs
+
+add-table-4 : tie.Need-add-table-4
+add-table-4 c = search needs
 
 mul-table-3 : tie.Need-mul-table-3
 mul-table-3 c = search needs
@@ -37,7 +40,7 @@ element-write-table c = search needs
 returns : tie.Need-returns
 returns c =
     let a = c .before .args in
-    classed (a .table .now) (a .i) (omega arith) _ (word-place (a .table .now) (a .i) factsWord) (a .clause) (omega arith)
+    classed (a .table .now) (a .i) (omega arith) _ (word-place (a .table .now) (a .i) factsWord) (a .class)
 
 pub classify-spec : {M : Type 1} → statement M
 classify-spec =
@@ -46,10 +49,11 @@ classify-spec =
     mul-base
     mul-table
     add-table
+    add-table-2
     mul-table-2
     element-copy-out-table
-    add-table-2
     add-table-3
+    add-table-4
     mul-table-3
     element-write-table
     returns)

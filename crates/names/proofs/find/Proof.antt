@@ -1,11 +1,11 @@
 -- `names::find` meets its contract: what the entry found says, or nothing.
 use mathlib.Core.Path.{_≡_, refl, ap}
 use mathlib.Core.Bool.{Bool, true, false, cond}
-use Prim.Native.Nat.{ℕ}
+use Prim.Native.Nat.{ℕ, _<_}
 use native.Mathlib.Omega.{arith}
-use borrow.Author.Needs.{needs}
-use Rattle.names.specs.Table.{firstWord, sizeWord, factsWord}
+use Rattle.names.specs.Table.{countIn, firstWord, sizeWord, factsWord}
 use Rattle.names.proofs.Laws.{knows-none, knows-there, stands-there, word-place}
+use borrow.Author.Needs.{needs}
 use Rattle.names.proofs.find.Statement.{statement}
 use Rattle.names.proofs.find.Tie as tie
 
@@ -16,7 +16,13 @@ count-requires : tie.Need-count-requires
 count-requires c κs = search needs
 
 returns : tie.Need-returns
-returns c = (omega (arith, c .before .before .position .ensures .within), λ t d. knows-none (c .before .before .before .before .args .table .now) t d (c .before .before .before .before .args .w .now) (c .before .before .position .result) (c .before .before .position .ensures) (omega (arith, c .before .count .ensures)), λ t d e. absurd (no e))
+returns c =
+    let there = c .before .before .position in
+    let a = c .before .before .before .before .args in (
+      omega (arith, there .ensures .within),
+      λ t d. knows-none (a .table .now) t d (a .w .now) (there .result) (there .ensures) (omega (arith, c .before .count .ensures)),
+      λ t d e. absurd (no e),
+    )
   where
     no : false ≡ true → ⊥
     no e = let q : _≡_ {A = ℕ} 0 1 = ap (λ (u : Bool). cond u 1 0) e in omega arith
@@ -39,25 +45,29 @@ add-t8 c = omega (arith, c .before .before .count .ensures)
 mul-t6 : tie.Need-mul-t6
 mul-t6 c = omega (arith, c .before .before .count .ensures)
 
-element-copy-out-t18 : tie.Need-element-copy-out-t18
-element-copy-out-t18 c = omega (arith, c .before .before .count .ensures)
+element-copy-out-t21 : tie.Need-element-copy-out-t21
+element-copy-out-t21 c = omega (arith, c .before .before .count .ensures)
 
-add-t19 : tie.Need-add-t19
-add-t19 c = omega (arith, c .before .before .before .count .ensures)
+add-t22 : tie.Need-add-t22
+add-t22 c = omega (arith, c .before .before .before .count .ensures)
 
-mul-t20 : tie.Need-mul-t20
-mul-t20 c = omega (arith, c .before .before .before .count .ensures)
+mul-t23 : tie.Need-mul-t23
+mul-t23 c = omega (arith, c .before .before .before .count .ensures)
 
-element-copy-out-t23 : tie.Need-element-copy-out-t23
-element-copy-out-t23 c = omega (arith, c .before .before .before .count .ensures)
+element-copy-out-t26 : tie.Need-element-copy-out-t26
+element-copy-out-t26 c = omega (arith, c .before .before .before .count .ensures)
 
 returns-2 : tie.Need-returns-2
 returns-2 c =
-    let T = c .before .before .before .before .before .before .before .args .table .now in
-    let i = c .before .before .before .before .before .position .result in (
-      omega (arith, c .before .before .before .before .before .position .ensures .within),
-      λ t d. knows-there T t d (c .before .before .before .before .before .before .before .args .w .now) i (c .before .before .before .before .before .position .ensures) (omega (arith, c .before .before .before .before .count .ensures)) _ _ _ (word-place T i factsWord) (word-place T i firstWord) (word-place T i sizeWord),
-      λ t d e. stands-there T t d (c .before .before .before .before .before .before .before .args .w .now) i (c .before .before .before .before .before .position .ensures) (omega (arith, c .before .before .before .before .count .ensures)) _ (word-place T i factsWord) _ refl refl,
+    let c4 = c .before .before .before .before in
+    let there = c4 .before .position in
+    let a = c4 .before .before .before .args in
+    let T = a .table .now in
+    let i = there .result in
+    let among : i < countIn T = omega (arith, c4 .count .ensures) in (
+      omega (arith, there .ensures .within),
+      λ t d. knows-there T t d (a .w .now) i (there .ensures) among _ _ _ (word-place T i factsWord) (word-place T i firstWord) (word-place T i sizeWord),
+      λ t d e. stands-there T t d (a .w .now) i (there .ensures) among _ (word-place T i factsWord) _ refl refl,
     )
 
 pub find-spec : {M : Type 1} → statement M
@@ -73,8 +83,8 @@ find-spec =
     element-copy-out-facts
     add-t8
     mul-t6
-    element-copy-out-t18
-    add-t19
-    mul-t20
-    element-copy-out-t23
+    element-copy-out-t21
+    add-t22
+    mul-t23
+    element-copy-out-t26
     returns-2)

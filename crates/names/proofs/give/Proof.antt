@@ -37,7 +37,8 @@ element-write-table c = search needs
 returns : tie.Need-returns
 returns c =
     let a = c .before .before .args in
-    subst (λ (n : ℕ). Gave (a .table .now) (a .i) (set (a .table .now) (a .i * entryWords + factsWord) n)) (sym (c .with-data .ensures)) (gave (a .table .now) (a .i) (omega arith) _ (word-place (a .table .now) (a .i) factsWord))
+    subst (λ (n : ℕ). Gave (a .table .now) (a .i) (set (a .table .now) (a .i * entryWords + factsWord) n)) (sym (c .with-data .ensures))
+    (gave (a .table .now) (a .i) (omega arith) _ (word-place (a .table .now) (a .i) factsWord))
 
 pub give-spec : {M : Type 1} → statement M
 give-spec =

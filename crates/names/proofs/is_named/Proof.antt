@@ -36,8 +36,11 @@ wide-requires c κs = search needs
 
 returns : tie.Need-returns Inv-loop μ-loop
 returns c =
-    let a = c .before .before .before .before .args in
-    sym (name-other (a .table .now) (a .i) (a .w .now) (λ (e : lengthAt (a .table .now) (a .i) ≡ length (a .w .now)). c .if1 .taken (c .before .wide .ensures ∙ word-place (a .table .now) (a .i) lengthWord ∙ e)))
+    let c4 = c .before .before .before .before in
+    let a = c4 .args in
+    sym (name-other (a .table .now) (a .i) (a .w .now)
+    (λ (e : lengthAt (a .table .now) (a .i) ≡ length (a .w .now)). c .if1 .taken
+    (c .before .wide .ensures ∙ word-place (a .table .now) (a .i) lengthWord ∙ e)))
 
 loop-holds : tie.Need-loop-holds Inv-loop μ-loop
 loop-holds c = (omega arith, λ j b. absurd (omega arith))
@@ -63,11 +66,16 @@ long T i w e = name-long T i w (sym (word-place T i lengthWord) ∙ e)
 
 returns-2 : tie.Need-returns-2 Inv-loop μ-loop
 returns-2 c =
-    let a = c .before .before .before .before .before .before .before .before .before .args in
+    let c4 = c .before .before .before .before in
+    let c5 = c4 .before in
+    let c6 = c5 .before in
+    let c9 = c6 .before .before .before in
+    let a = c9 .args in
     let T = a .table .now in
-    let l = c .before .before .before .before .loop in
-    sym (ap (same (a .w .now)) (long T (a .i) (a .w .now) (sym (c .before .before .before .before .before .before .wide .ensures) ∙ c .before .before .before .before .before .if1 .left))
-    ∙ same-differs (a .w .now) (λ k. wordAt T (a .i) k) (l .k) (omega arith) (λ (e : getD (a .w .now) (l .k) 0 ≡ wordAt T (a .i) (l .k)). c .if2 .taken (word-place T (a .i) (l .k) ∙ sym e)))
+    let l = c4 .loop in
+    sym (ap (same (a .w .now)) (long T (a .i) (a .w .now) (sym (c6 .wide .ensures) ∙ c5 .if1 .left))
+    ∙ same-differs (a .w .now) (λ k. wordAt T (a .i) k) (l .k) (omega arith)
+    (λ (e : getD (a .w .now) (l .k) 0 ≡ wordAt T (a .i) (l .k)). c .if2 .taken (word-place T (a .i) (l .k) ∙ sym e)))
 
 add-k : tie.Need-add-k Inv-loop μ-loop
 add-k c = omega arith
@@ -78,15 +86,21 @@ loop-less c = omega arith
 loop-again : tie.Need-loop-again Inv-loop μ-loop
 loop-again c =
     let a = c .before .before .before .before .before .before .before .before .before .args in
-    let l = c .before .before .before .before .loop in
-    (omega arith, below-more (λ j. getD (a .w .now) j 0 ≡ wordAt (a .table .now) (a .i) j) (l .k) (l .inv .1) (sym (c .if2 .left) ∙ word-place (a .table .now) (a .i) (l .k)))
+    let l = c .before .before .before .before .loop in (
+      omega arith,
+      below-more (λ j. getD (a .w .now) j 0 ≡ wordAt (a .table .now) (a .i) j) (l .k) (l .inv .1)
+          (sym (c .if2 .left) ∙ word-place (a .table .now) (a .i) (l .k)),
+    )
 
 returns-3 : tie.Need-returns-3 Inv-loop μ-loop
 returns-3 c =
-    let a = c .before .before .before .before .before .before .args in
+    let c3 = c .before .before .before in
+    let c6 = c3 .before .before .before in
+    let a = c6 .args in
     let T = a .table .now in
     let l = c .before .loop in
-    sym (ap (same (a .w .now)) (long T (a .i) (a .w .now) (sym (c .before .before .before .wide .ensures) ∙ c .before .before .if1 .left)) ∙ same-listed (a .w .now) (λ k. wordAt T (a .i) k) (λ k b. l .inv .1 k (omega arith)))
+    sym (ap (same (a .w .now)) (long T (a .i) (a .w .now) (sym (c3 .wide .ensures) ∙ c .before .before .if1 .left))
+    ∙ same-listed (a .w .now) (λ k. wordAt T (a .i) k) (λ k b. l .inv .1 k (omega arith)))
 
 pub is-named-spec : {M : Type 1} → statement M
 is-named-spec =

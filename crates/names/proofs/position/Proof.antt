@@ -25,7 +25,10 @@ is-named-requires : tie.Need-is-named-requires Inv-loop μ-loop
 is-named-requires c κs = (omega (arith, c .before .before .count .ensures), c .before .before .before .before .pre)
 
 returns : tie.Need-returns Inv-loop μ-loop
-returns c = record { within = omega (arith, c .before .before .before .before .count .ensures); before = c .before .before .before .loop .inv .1; there = λ _. sym (c .before .is-named .ensures) ∙ c .if1 .taken }
+returns c =
+    let c3 = c .before .before .before in
+    let c4 = c3 .before in
+    record { within = omega (arith, c4 .count .ensures); before = c3 .loop .inv .1; there = λ _. sym (c .before .is-named .ensures) ∙ c .if1 .taken }
 
 add-i : tie.Need-add-i Inv-loop μ-loop
 add-i c = omega (arith, c .before .before .before .before .count .ensures)
@@ -34,10 +37,23 @@ loop-less : tie.Need-loop-less Inv-loop μ-loop
 loop-less c = omega arith
 
 loop-again : tie.Need-loop-again Inv-loop μ-loop
-loop-again c = (omega arith, below-more (λ k. same (c .before .before .before .before .before .before .args .w .now) (nameAt (c .before .before .before .before .before .before .args .table .now) k) ≡ false) (c .before .before .before .loop .i) (c .before .before .before .loop .inv .1) (sym (c .before .is-named .ensures) ∙ c .if1 .left))
+loop-again c =
+    let c3 = c .before .before .before in
+    let c6 = c3 .before .before .before in (
+      omega arith,
+      below-more (λ k. same (c6 .args .w .now) (nameAt (c6 .args .table .now) k) ≡ false) (c3 .loop .i) (c3 .loop .inv .1)
+          (sym (c .before .is-named .ensures) ∙ c .if1 .left),
+    )
 
 returns-2 : tie.Need-returns-2 Inv-loop μ-loop
-returns-2 c = record { within = omega (arith, c .before .before .count .ensures); before = c .before .loop .inv .1; there = λ (h : c .before .loop .i < countIn (c .before .before .before .before .args .table .now)). absurd (omega (arith, c .before .before .count .ensures)) }
+returns-2 c = record {
+  within = omega (arith, c .before .before .count .ensures);
+  before = c .before .loop .inv .1;
+  there = λ (h : c .before .loop .i < countIn (c .before .before .before .before .args .table .now)). absurd (omega (
+    arith,
+    c .before .before .count .ensures,
+  ));
+}
 
 pub position-spec : {M : Type 1} → statement M
 position-spec =

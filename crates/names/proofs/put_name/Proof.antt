@@ -50,9 +50,12 @@ loop-less : tie.Need-loop-less Inv-loop μ-loop
 loop-less c = omega arith
 
 -- a byte more
-more : (T : List ℕ) (i k b : ℕ) (w : List ℕ) → i * entryWords + k < length T → b ≡ getD w k 0 → ((j : ℕ) → j < k → wordAt T i j ≡ getD w j 0) → (j : ℕ) → j < k + 1 → wordAt (set T (i * entryWords + k) b) i j ≡ getD w j 0
+more : (T : List ℕ) (i k b : ℕ) (w : List ℕ) → i * entryWords + k < length T → b ≡ getD w k 0 → ((j : ℕ) → j < k → wordAt T i j ≡ getD w j 0)
+    → (j : ℕ) → j < k + 1 → wordAt (set T (i * entryWords + k) b) i j ≡ getD w j 0
 more T i k b w h e f j l = elim (ℕ-discrete j k) [
-  | yes q ↦ ap (λ (n : ℕ). getD (set T (i * entryWords + k) b) n 0) (omega arith) ∙ getD-set-same T (i * entryWords + k) b 0 h ∙ e ∙ ap (λ (n : ℕ). getD w n 0) (sym q)
+  | yes q ↦
+      ap (λ (n : ℕ). getD (set T (i * entryWords + k) b) n 0) (omega arith) ∙ getD-set-same T (i * entryWords + k) b 0 h ∙ e
+      ∙ ap (λ (n : ℕ). getD w n 0) (sym q)
   | no n ↦ getD-set-other T (i * entryWords + k) (entryWords * i + j) b 0 (omega arith) ∙ f j (omega arith)
 ]
 
@@ -88,8 +91,11 @@ returns c =
       long = simp length-set (l .inv .1);
       name = λ h. name-written (l .table) (a .i) (a .w .now) (l .k) k (omega (arith, l .inv .1)) (l .inv .2 h) (omega arith);
       before = λ p (b : p < entryWords * a .i). set-elsewhere (l .table) (a .i * entryWords + lengthWord) p (l .k) (omega arith) ∙ l .inv .3 p b;
-      spare = λ j (b : length (a .w .now) ≤ j) (d : j < nameWords). set-elsewhere (l .table) (a .i * entryWords + lengthWord) (entryWords * a .i + j) (l .k) (omega arith) ∙ l .inv .4 (entryWords * a .i + j) (omega arith);
-      after = λ p (b : entryWords * a .i + firstWord ≤ p). set-elsewhere (l .table) (a .i * entryWords + lengthWord) p (l .k) (omega arith) ∙ l .inv .4 p (omega arith);
+      spare = λ j (b : length (a .w .now) ≤ j) (d : j < nameWords). set-elsewhere (l .table) (a .i * entryWords + lengthWord) (entryWords * a .i + j)
+          (l .k) (omega arith)
+          ∙ l .inv .4 (entryWords * a .i + j) (omega arith);
+      after = λ p (b : entryWords * a .i + firstWord ≤ p). set-elsewhere (l .table) (a .i * entryWords + lengthWord) p (l .k) (omega arith)
+          ∙ l .inv .4 p (omega arith);
     }
 
 pub put-name-spec : {M : Type 1} → statement M

@@ -77,7 +77,9 @@ same-length c = search needs
 
 returns : tie.Need-returns
 unfolding counted
-returns c = rw (c .before .before .choose .ensures, c .choose3 .ensures, c .before .choose2 .ensures, c .before .before .before .before .before .before .before .before .iteration-stamp .ensures)
+returns c =
+    let c8 = c .before .before .before .before .before .before .before .before in
+    rw (c .before .before .choose .ensures, c .choose3 .ensures, c .before .choose2 .ensures, c8 .iteration-stamp .ensures)
 
 pub count-spec : {M : Type 1} → statement M
 count-spec =

@@ -101,7 +101,10 @@ same-length c = search needs
 
 returns : tie.Need-returns
 unfolding row-written
-returns c = rw (c .before .before .before .met-by .ensures, c .before .before .choose .ensures, c .choose2 .ensures, c .before .crossed .ensures, c .before .before .before .before .before .before .before .before .before .group-stamp .ensures)
+returns c =
+    let c3 = c .before .before .before in
+    let c9 = c3 .before .before .before .before .before .before in
+    rw (c3 .met-by .ensures, c .before .before .choose .ensures, c .choose2 .ensures, c .before .crossed .ensures, c9 .group-stamp .ensures)
 
 pub mark-row-spec : {M : Type 1} → statement M
 mark-row-spec =

@@ -12,8 +12,10 @@ count-requires c κs = search needs
 
 mark-updated-requires : tie.Need-mark-updated-requires
 mark-updated-requires c κs =
-    let a = c .before .before .before .before .before .before .args in
-    rw (c .before .before .before .count .ensures) (counted-placed (a .w .now) (a .row) (a .own) (a .iteration .0) (c .before .before .before .before .before .before .pre .0 .placed))
+    let c3 = c .before .before .before in
+    let c6 = c3 .before .before .before in
+    let a = c6 .args in
+    rw (c3 .count .ensures) (counted-placed (a .w .now) (a .row) (a .own) (a .iteration .0) (c6 .pre .0 .placed))
 
 same-length : tie.Need-same-length
 same-length c = search needs

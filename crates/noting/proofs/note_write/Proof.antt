@@ -26,8 +26,11 @@ same-length c = search needs
 returns : tie.Need-returns
 unfolding written
 returns c =
-    let e : toZ w32 (ofZ w32 (c .before .before .before .before .before .before .before .before .before .before .before .before .before .args .value)) ≡ c .before .before .before .before .before .before .before .before .before .before .before .before .before .args .value = search needs in
-    rw (e, c .before .before .before .before .before .before .mark-row .ensures, c .before .before .before .before .before .before .before .before .before .before .count .ensures) at (c .before .before .mark-own .ensures)
+    let c6 = c .before .before .before .before .before .before in
+    let c10 = c6 .before .before .before .before in
+    let c13 = c10 .before .before .before in
+    let e : toZ w32 (ofZ w32 (c13 .args .value)) ≡ c13 .args .value = search needs in
+    rw (e, c6 .mark-row .ensures, c10 .count .ensures) at (c .before .before .mark-own .ensures)
 
 pub note-write-spec : {M : Type 1} → statement M
 note-write-spec =

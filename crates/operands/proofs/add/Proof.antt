@@ -51,10 +51,14 @@ go-on-requires c κs = search needs
 returns-2 : tie.Need-returns-2
 unfolding perform
 returns-2 c =
-    let a = c .before .before .before .before .before .before .before .args in
-    let x : SFits w32 (getD (a .pending .now) (a .depth - 2) (pos 0)) = record { sfits = c .before .before .before .before .before .x .given } in
-    let y : SFits w32 (getD (a .pending .now) (a .depth - 2 + 1) (pos 0)) = record { sfits = c .before .before .before .before .y .given } in
-    λ v. computes Instr.add sum (λ on past s v. refl) _ _ _ _ _ _ v (c .before .before .before .before .before .before .before .pre) (omega arith) (c .before .put .ensures) (read2 sum x y (sum-fits _ _) (c .before .before .add .ensures)) (c .go-on .ensures)
+    let c4 = c .before .before .before .before in
+    let c5 = c4 .before in
+    let c7 = c5 .before .before in
+    let a = c7 .args in
+    let x : SFits w32 (getD (a .pending .now) (a .depth - 2) (pos 0)) = record { sfits = c5 .x .given } in
+    let y : SFits w32 (getD (a .pending .now) (a .depth - 2 + 1) (pos 0)) = record { sfits = c4 .y .given } in
+    λ v. computes Instr.add sum (λ on past s v. refl) _ _ _ _ _ _ v (c7 .pre) (omega arith) (c .before .put .ensures)
+    (read2 sum x y (sum-fits _ _) (c .before .before .add .ensures)) (c .go-on .ensures)
 
 pub add-spec : {M : Type 1} → statement M
 add-spec =

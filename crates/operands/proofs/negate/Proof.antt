@@ -45,11 +45,14 @@ go-on-requires c κs = search needs
 returns-2 : tie.Need-returns-2
 unfolding perform
 returns-2 c =
-    let a = c .before .before .before .before .before .before .args in
-    let p = c .before .before .before .before .before .before .pre in
-    let x : SFits w32 (getD (a .pending .now) (a .depth - 1) (pos 0)) = record { sfits = c .before .before .before .before .x .given } in
+    let c4 = c .before .before .before .before in
+    let c6 = c4 .before .before in
+    let a = c6 .args in
+    let p = c6 .pre in
+    let x : SFits w32 (getD (a .pending .now) (a .depth - 1) (pos 0)) = record { sfits = c4 .x .given } in
     let e = landed (c .before .before .negate .ensures ∙ ap negation (toZ-ofZ w32 _ x)) (negation-fits _) in
-    λ v. pushes _ _ _ _ (p .size) _ _ _ (omega (arith, p .most)) (c .before .put .ensures) (c .go-on .ensures) (λ go. with1-taken _ _ _ (omega arith) ∙ ap (λ (z : ℤ). go (a .place) (z ∷ pendings (a .pending .now) (a .depth - 1))) (sym e))
+    λ v. pushes _ _ _ _ (p .size) _ _ _ (omega (arith, p .most)) (c .before .put .ensures) (c .go-on .ensures)
+    (λ go. with1-taken _ _ _ (omega arith) ∙ ap (λ (z : ℤ). go (a .place) (z ∷ pendings (a .pending .now) (a .depth - 1))) (sym e))
 
 pub negate-spec : {M : Type 1} → statement M
 negate-spec =

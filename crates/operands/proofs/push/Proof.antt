@@ -24,9 +24,11 @@ go-on-requires c κs = search needs
 
 returns-2 : tie.Need-returns-2
 returns-2 c =
-    let a = c .before .before .before .before .args in
+    let c3 = c .before .before .before in
+    let c4 = c3 .before in
+    let a = c4 .args in
     let e : toZ w32 (ofZ w32 (a .x)) ≡ a .x = search needs in
-    pushes _ _ _ _ (c .before .before .before .before .pre .size) _ _ _ (c .before .before .before .if1 .left) (c .before .put .ensures) (c .go-on .ensures) (λ go. rw e (room-in _ _ _ (c .before .before .before .if1 .left)))
+    pushes _ _ _ _ (c4 .pre .size) _ _ _ (c3 .if1 .left) (c .before .put .ensures) (c .go-on .ensures) (λ go. rw e (room-in _ _ _ (c3 .if1 .left)))
 
 pub push-spec : {M : Type 1} → statement M
 push-spec = tie.close (tie.spec stop-requires returns put-requires go-on-requires returns-2)

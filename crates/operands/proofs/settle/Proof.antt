@@ -28,9 +28,11 @@ fault-requires c κs = search needs
 returns : tie.Need-returns
 unfolding with-quotient
 returns c =
-    let p = c .before .before .before .before .before .before .pre in
-    let e : c .before .before .before .before .before .before .args .quotient ≡ Value (c .before .before .before .before .quotient .given .0 .0) = cc in
-    let f : toZ w32 (ofZ w32 (c .before .before .before .before .quotient .given .0 .0)) ≡ c .before .before .before .before .quotient .given .0 .0 = search needs in
+    let c4 = c .before .before .before .before in
+    let c6 = c4 .before .before in
+    let p = c6 .pre in
+    let e : c6 .args .quotient ≡ Value (c4 .quotient .given .0 .0) = cc in
+    let f : toZ w32 (ofZ w32 (c4 .quotient .given .0 .0)) ≡ c4 .quotient .given .0 .0 = search needs in
     pushes _ _ _ _ (p .0) _ _ _ (p .1) (c .before .put .ensures) (c .go-on .ensures) (λ go. rw (e, f))
 
 returns-2 : tie.Need-returns-2

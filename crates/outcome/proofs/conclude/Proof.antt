@@ -39,7 +39,11 @@ same-length-3 : tie.Need-same-length-3
 same-length-3 c = search needs
 
 returns-2 : tie.Need-returns-2
-returns-2 c = let u : toZ w32 (ofZ w32 (c .before .before .before .before .before .before .before .before .before .s2 .given .0 .1 .1 .0)) ≡ c .before .before .before .before .before .before .before .before .before .s2 .given .0 .1 .1 .0 = search needs in concluded-faulted _ _ _ _ _ _ _ _ _ (c .before .before .before .before .before .before .before .before .before .s2 .given .1) u (c .before .before .before .before .before .restore .ensures) (c .before .before .clear2 .ensures)
+returns-2 c =
+    let c5 = c .before .before .before .before .before in
+    let c9 = c5 .before .before .before .before in
+    let u : toZ w32 (ofZ w32 (c9 .s2 .given .0 .1 .1 .0)) ≡ c9 .s2 .given .0 .1 .1 .0 = search needs in
+    concluded-faulted _ _ _ _ _ _ _ _ _ (c9 .s2 .given .1) u (c5 .restore .ensures) (c .before .before .clear2 .ensures)
 
 returns-3 : tie.Need-returns-3
 returns-3 c = concluded-refused _ _ _ [] _ _ (c .before .s3 .given .1)

@@ -29,7 +29,14 @@ array-copy-out-x : tie.Need-array-copy-out-x Inv-loop μ-loop
 array-copy-out-x c = search needs
 
 returns : tie.Need-returns Inv-loop μ-loop
-returns c = record { some = λ _. (c .before .before .before .before .before .loop .q, c .before .before .before .before .loop-test .taken, omega (arith, rw (c .before .before .before .index-of .ensures) at (c .if1 .taken))); none = λ (e : true ≡ false). let z : _≡_ {A = ℕ} 0 1 = cc in absurd (omega arith) }
+returns c =
+    let c3 = c .before .before .before in
+    let c4 = c3 .before in
+    let c5 = c4 .before in
+    record {
+      some = λ _. (c5 .loop .q, c4 .loop-test .taken, omega (arith, rw (c3 .index-of .ensures) at (c .if1 .taken)));
+      none = λ (e : true ≡ false). let z : _≡_ {A = ℕ} 0 1 = cc in absurd (omega arith);
+    }
 
 add-q : tie.Need-add-q Inv-loop μ-loop
 add-q c = search needs
@@ -38,10 +45,16 @@ loop-less : tie.Need-loop-less Inv-loop μ-loop
 loop-less c = search needs
 
 loop-again : tie.Need-loop-again Inv-loop μ-loop
-loop-again c = (omega arith, below-more _ _ (c .before .before .before .before .before .loop .inv .1) (rw (c .before .before .before .index-of .ensures) at (c .if1 .left)))
+loop-again c =
+    let c3 = c .before .before .before in
+    let c5 = c3 .before .before in
+    (omega arith, below-more _ _ (c5 .loop .inv .1) (rw (c3 .index-of .ensures) at (c .if1 .left)))
 
 returns-2 : tie.Need-returns-2 Inv-loop μ-loop
-returns-2 c = record { some = λ (e : false ≡ true). let z : _≡_ {A = ℕ} 0 1 = cc in absurd (omega arith); none = λ _ j b. c .before .loop .inv .1 j (omega (arith, b, c .loop-test .left)) }
+returns-2 c = record {
+  some = λ (e : false ≡ true). let z : _≡_ {A = ℕ} 0 1 = cc in absurd (omega arith);
+  none = λ _ j b. c .before .loop .inv .1 j (omega (arith, b, c .loop-test .left));
+}
 
 pub is-faulty-spec : {M : Type 1} → statement M
 is-faulty-spec =

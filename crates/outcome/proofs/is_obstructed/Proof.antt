@@ -6,7 +6,7 @@ use Prim.Native.Nat.{ℕ, _≤_, _<_, _-_}
 use native.Mathlib.Omega.{arith}
 use borrow.Author.Count.{below-more}
 use lib.ListN.{length}
-use Rattle.trial.proofs.StandingLaws.{standing-low, standing-room}
+use Rattle.trial.proofs.StandingLaws.{suits-low, standing-size, standing-room}
 use Rattle.outcome.proofs.ReadingOff.{blocked-at, standing-obstructed, standing-free}
 use Rattle.outcome.proofs.is_obstructed.Statement.{statement}
 use Rattle.outcome.proofs.is_obstructed.Tie as tie
@@ -24,20 +24,28 @@ row-of-requires : tie.Need-row-of-requires Inv-loop μ-loop
 row-of-requires c κs =
     let a = c .before .before .before .args in
     let (l, s, h) = c .before .before .before .pre in
-    standing-low (a .processors) l (a .cells .now) (a .w .now) s h (c .before .loop .c) (c .loop-test .taken)
+    suits-low (h .suits) (standing-size (a .processors) l (a .cells .now) (a .w .now) s h) (c .before .loop .c) (c .loop-test .taken)
 
 is-blocked-requires : tie.Need-is-blocked-requires Inv-loop μ-loop
 is-blocked-requires c κs =
     let a = c .before .before .before .before .args in
     let (l, s, h) = c .before .before .before .before .pre in
-    omega (arith, c .row-of .ensures, standing-room (a .processors) l (a .cells .now) (a .w .now) s h (c .before .before .loop .c) (c .before .loop-test .taken))
+    omega (
+      arith,
+      c .row-of .ensures,
+      standing-room (a .processors) l (a .cells .now) (a .w .now) s h (c .before .before .loop .c) (c .before .loop-test .taken),
+    )
 
 returns : tie.Need-returns Inv-loop μ-loop
 returns c =
-    let a = c .before .before .before .before .before .before .args in
-    let u = c .before .before .before .before .loop in
-    let e : blocked-at (a .w .now) (a .processors) (u .c) ≡ true = rw (c .before .before .row-of .ensures) at (sym (c .before .is-blocked .ensures) ∙ c .if1 .taken) in
-    λ l s h. (λ _. refl, λ _. standing-obstructed (a .processors) l (a .cells .now) (a .w .now) s h (u .c) (c .before .before .before .loop-test .taken) e)
+    let c3 = c .before .before .before in
+    let c4 = c3 .before in
+    let c6 = c4 .before .before in
+    let a = c6 .args in
+    let u = c4 .loop in
+    let e : blocked-at (a .w .now) (a .processors) (u .c) ≡ true = rw (c .before .before .row-of .ensures) at
+    (sym (c .before .is-blocked .ensures) ∙ c .if1 .taken) in
+    λ l s h. (λ _. refl, λ _. standing-obstructed (a .processors) l (a .cells .now) (a .w .now) s h (u .c) (c3 .loop-test .taken) e)
 
 add-c : tie.Need-add-c Inv-loop μ-loop
 add-c c = search needs
@@ -47,9 +55,12 @@ loop-less c = search needs
 
 loop-again : tie.Need-loop-again Inv-loop μ-loop
 loop-again c =
-    let a = c .before .before .before .before .before .before .args in
-    let u = c .before .before .before .before .loop in
-    let e : blocked-at (a .w .now) (a .processors) (u .c) ≡ false = rw (c .before .before .row-of .ensures) at (sym (c .before .is-blocked .ensures) ∙ c .if1 .left) in
+    let c4 = c .before .before .before .before in
+    let c6 = c4 .before .before in
+    let a = c6 .args in
+    let u = c4 .loop in
+    let e : blocked-at (a .w .now) (a .processors) (u .c) ≡ false = rw (c .before .before .row-of .ensures) at
+    (sym (c .before .is-blocked .ensures) ∙ c .if1 .left) in
     (omega arith, below-more _ _ (u .inv .1) e)
 
 returns-2 : tie.Need-returns-2 Inv-loop μ-loop

@@ -12,7 +12,7 @@ use Rattle.rules.specs.Cells.{cellOf, listed}
 use Rattle.rules.specs.Merge.{merged}
 use Rattle.tables.specs.Layout.{row-at}
 use Rattle.trial.specs.Standing.{dealt}
-use Rattle.trial.proofs.StandingLaws.{standing-size, standing-low, standing-room}
+use Rattle.trial.proofs.StandingLaws.{suits-low, standing-size, standing-room}
 use Rattle.outcome.proofs.ReadingOff.{Setting-to, set-none, set-more, set-all, standing-merged}
 use Rattle.tables.proofs.Held.{row-small}
 use Rattle.findings.specs.Findings as findings
@@ -20,7 +20,8 @@ use Rattle.outcome.proofs.merge.Statement.{statement}
 use Rattle.outcome.proofs.merge.Tie as tie
 
 abbrev Inv-loop : tie.InvT-loop
-Inv-loop processors cells₀ w c₀ cells c = (c ≤ length cells₀) × Setting-to (λ j. findings.merged w (row-at processors j) processors (cellOf cells₀ j)) cells₀ c cells
+Inv-loop processors cells₀ w c₀ cells c =
+    (c ≤ length cells₀) × Setting-to (λ j. findings.merged w (row-at processors j) processors (cellOf cells₀ j)) cells₀ c cells
 
 abbrev μ-loop : tie.MeasureT-loop
 μ-loop processors cells₀ w c₀ cells c = length cells₀ - c
@@ -34,7 +35,7 @@ row-of-requires : tie.Need-row-of-requires Inv-loop μ-loop
 row-of-requires c κs =
     let a = c .before .before .before .args in
     let (l, s, h) = c .before .before .before .pre in
-    standing-low (a .processors) l (a .cells .now) (a .w .now) s h (c .before .loop .c) (omega (arith, c .before .loop .inv .1 .size, c .loop-test .taken))
+    suits-low (h .suits) (standing-size (a .processors) l (a .cells .now) (a .w .now) s h) (c .before .loop .c) (omega (arith, c .before .loop .inv .1 .size, c .loop-test .taken))
 
 mul-merged-value : tie.Need-mul-merged-value Inv-loop μ-loop
 mul-merged-value c = search needs
@@ -46,8 +47,15 @@ merged-value-requires : tie.Need-merged-value-requires Inv-loop μ-loop
 merged-value-requires c κs =
     let a = c .before .before .before .before .before .args in
     let (l, s, h) = c .before .before .before .before .before .pre in
-    let y = standing-low (a .processors) l (a .cells .now) (a .w .now) s h (c .before .before .before .loop .c) (omega (arith, c .before .before .before .loop .inv .1 .size, c .before .before .loop-test .taken)) in
-    omega (arith, c .before .row-of .ensures, row-small (a .processors) (c .before .before .before .loop .c) (y .0) (y .1), standing-room (a .processors) l (a .cells .now) (a .w .now) s h (c .before .before .before .loop .c) (omega (arith, c .before .before .before .loop .inv .1 .size, c .before .before .loop-test .taken)))
+    let y = suits-low (h .suits) (standing-size (a .processors) l (a .cells .now) (a .w .now) s h) (c .before .before .before .loop .c)
+    (omega (arith, c .before .before .before .loop .inv .1 .size, c .before .before .loop-test .taken)) in
+    omega (
+      arith,
+      c .before .row-of .ensures,
+      row-small (a .processors) (c .before .before .before .loop .c) (y .0) (y .1),
+      standing-room (a .processors) l (a .cells .now) (a .w .now) s h (c .before .before .before .loop .c)
+          (omega (arith, c .before .before .before .loop .inv .1 .size, c .before .before .loop-test .taken)),
+    )
 
 mul-t11 : tie.Need-mul-t11 Inv-loop μ-loop
 mul-t11 c = search needs
@@ -64,14 +72,21 @@ loop-less c = omega (arith, c .before .before .before .before .loop .inv .1 .siz
 loop-again : tie.Need-loop-again Inv-loop μ-loop
 unfolding cellOf
 loop-again c =
-    let a = c .before .before .before .before .before .before .args in
-    let u = c .before .before .before .before .loop in
+    let c3 = c .before .before .before in
+    let c4 = c3 .before in
+    let c6 = c4 .before .before in
+    let a = c6 .args in
+    let u = c4 .loop in
     let e : toZ w32 (ofZ w32 (getD (u .cells) (u .c) (pos 0))) ≡ getD (u .cells) (u .c) (pos 0) = search needs in
     let f : toZ w32 (ofZ w32 (c .merged-value .result)) ≡ c .merged-value .result = search needs in
     let r : c .merged-value .result ≡ findings.merged (a .w .now) (row-at (a .processors) (u .c)) (a .processors) (cellOf (a .cells .now) (u .c)) =
-    c .merged-value .ensures ∙ rw (e, c .before .before .row-of .ensures) (ap (findings.merged (a .w .now) (row-at (a .processors) (u .c)) (a .processors)) (u .inv .1 .rest (u .c) (omega arith))) in (
-      omega (arith, u .inv .1 .size, c .before .before .before .loop-test .taken),
-      rw (add-one, f, r) (set-more (λ j. findings.merged (a .w .now) (row-at (a .processors) j) (a .processors) (cellOf (a .cells .now) j)) (a .cells .now) (u .c) (u .cells) (u .inv .1) (c .before .before .before .loop-test .taken)),
+    c .merged-value .ensures
+    ∙ rw (e, c .before .before .row-of .ensures)
+    (ap (findings.merged (a .w .now) (row-at (a .processors) (u .c)) (a .processors)) (u .inv .1 .rest (u .c) (omega arith))) in (
+      omega (arith, u .inv .1 .size, c3 .loop-test .taken),
+      rw (add-one, f, r)
+          (set-more (λ j. findings.merged (a .w .now) (row-at (a .processors) j) (a .processors) (cellOf (a .cells .now) j)) (a .cells .now) (u .c)
+          (u .cells) (u .inv .1) (c3 .loop-test .taken)),
     )
 
 same-length : tie.Need-same-length Inv-loop μ-loop
@@ -82,7 +97,8 @@ returns c =
     let a = c .before .before .before .args in
     let u = c .before .loop in
     λ l s h.
-    set-all (λ j. findings.merged (a .w .now) (row-at (a .processors) j) (a .processors) (cellOf (a .cells .now) j)) (a .cells .now) (u .c) (u .cells) (u .inv .1) (omega (arith, u .inv .0, u .inv .1 .size, c .loop-test .left)) (merged l (dealt l (a .processors)) s)
+    set-all (λ j. findings.merged (a .w .now) (row-at (a .processors) j) (a .processors) (cellOf (a .cells .now) j)) (a .cells .now) (u .c) (u .cells)
+    (u .inv .1) (omega (arith, u .inv .0, u .inv .1 .size, c .loop-test .left)) (merged l (dealt l (a .processors)) s)
     (λ j b. standing-merged (a .processors) l (a .cells .now) (a .w .now) s h j b)
     ∙ ap (λ (n : ℕ). listed n (merged l (dealt l (a .processors)) s)) (standing-size (a .processors) l (a .cells .now) (a .w .now) s h)
 

@@ -10,7 +10,8 @@ use lib.ListN.{length, getD}
 use Rattle.int32.specs.Integers.{value}
 use Rattle.rules.specs.Cells.{listed}
 use Rattle.tables.specs.Layout.{row-at}
-use Rattle.outcome.proofs.ReadingOff.{Setting-to, set-none, set-more, set-all, kept-low, kept-room, kept-entry}
+use Rattle.trial.proofs.StandingLaws.{suits-low}
+use Rattle.outcome.proofs.ReadingOff.{Setting-to, set-none, set-more, set-all, kept-room, kept-entry}
 use Rattle.outcome.proofs.restore.Statement.{statement}
 use Rattle.outcome.proofs.restore.Tie as tie
 
@@ -29,13 +30,18 @@ row-of-requires : tie.Need-row-of-requires Inv-loop μ-loop
 row-of-requires c κs =
     let a = c .before .before .before .args in
     let (l, h) = c .before .before .before .pre in
-    kept-low (a .processors) l (a .cells .now) (a .w .now) h (c .before .loop .c) (omega (arith, c .before .loop .inv .1 .size, c .loop-test .taken))
+    suits-low (h .suits) (h .size) (c .before .loop .c) (omega (arith, c .before .loop .inv .1 .size, c .loop-test .taken))
 
 entry-value-requires : tie.Need-entry-value-requires Inv-loop μ-loop
 entry-value-requires c κs =
     let a = c .before .before .before .before .args in
     let (l, h) = c .before .before .before .before .pre in
-    omega (arith, c .row-of .ensures, kept-room (a .processors) l (a .cells .now) (a .w .now) h (c .before .before .loop .c) (omega (arith, c .before .before .loop .inv .1 .size, c .before .loop-test .taken)))
+    omega (
+      arith,
+      c .row-of .ensures,
+      kept-room (a .processors) l (a .cells .now) (a .w .now) h (c .before .before .loop .c)
+          (omega (arith, c .before .before .loop .inv .1 .size, c .before .loop-test .taken)),
+    )
 
 mul-t6 : tie.Need-mul-t6 Inv-loop μ-loop
 mul-t6 c = search needs
@@ -51,11 +57,15 @@ loop-less c = omega (arith, c .before .before .before .loop .inv .1 .size, c .be
 
 loop-again : tie.Need-loop-again Inv-loop μ-loop
 loop-again c =
-    let a = c .before .before .before .before .before .args in
-    let u = c .before .before .before .loop in
+    let c3 = c .before .before .before in
+    let c5 = c3 .before .before in
+    let a = c5 .args in
+    let u = c3 .loop in
     let f : toZ w32 (ofZ w32 (c .entry-value .result)) ≡ c .entry-value .result = search needs in (
       omega (arith, u .inv .1 .size, c .before .before .loop-test .taken),
-      rw (add-one, f, c .entry-value .ensures, c .before .row-of .ensures) (set-more (λ j. value (getD (a .w .now) (row-at (a .processors) j) 0)) (a .cells .now) (u .c) (u .cells) (u .inv .1) (c .before .before .loop-test .taken)),
+      rw (add-one, f, c .entry-value .ensures, c .before .row-of .ensures)
+          (set-more (λ j. value (getD (a .w .now) (row-at (a .processors) j) 0)) (a .cells .now) (u .c) (u .cells) (u .inv .1)
+          (c .before .before .loop-test .taken)),
     )
 
 same-length : tie.Need-same-length Inv-loop μ-loop
@@ -66,7 +76,8 @@ returns c =
     let a = c .before .before .before .args in
     let u = c .before .loop in
     λ l h.
-    set-all (λ j. value (getD (a .w .now) (row-at (a .processors) j) 0)) (a .cells .now) (u .c) (u .cells) (u .inv .1) (omega (arith, u .inv .0, u .inv .1 .size, c .loop-test .left)) (l .entry)
+    set-all (λ j. value (getD (a .w .now) (row-at (a .processors) j) 0)) (a .cells .now) (u .c) (u .cells) (u .inv .1)
+    (omega (arith, u .inv .0, u .inv .1 .size, c .loop-test .left)) (l .entry)
     (λ j b. kept-entry (a .processors) l (a .cells .now) (a .w .now) h j b)
     ∙ ap (λ (n : ℕ). listed n (l .entry)) (h .size)
 

@@ -28,7 +28,14 @@ same-length : tie.Need-same-length
 same-length c = search needs
 
 returns : tie.Need-returns
-returns c = literal-pushes (c .before .before .before .before .before .before .before .token .ensures) (λ z. omega (arith, sym (c .before .before .before .before .before .before .before .token .ensures .kinds) ∙ c .before .before .before .before .before .before .before .before .before .before .pre .1)) _ _ _ _ _ _ _ (c .before .before .before .before .before .before .literal .ensures) (c .before .before .before .before .larger .ensures ∙ ap (max (c .before .before .before .before .before .before .before .before .before .before .args .rank)) (c .before .before .before .before .before .literal-rank .ensures)) (c .before .before .then-emit .ensures)
+returns c =
+    let c4 = c .before .before .before .before in
+    let c5 = c4 .before in
+    let c6 = c5 .before in
+    let c7 = c6 .before in
+    let c10 = c7 .before .before .before in
+    literal-pushes (c7 .token .ensures) (λ z. omega (arith, sym (c7 .token .ensures .kinds) ∙ c10 .pre .1)) _ _ _ _ _ _ _ (c6 .literal .ensures)
+    (c4 .larger .ensures ∙ ap (max (c10 .args .rank)) (c5 .literal-rank .ensures)) (c .before .before .then-emit .ensures)
 
 pub constant-spec : {M : Type 1} → statement M
 constant-spec =

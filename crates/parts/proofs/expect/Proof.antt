@@ -20,10 +20,18 @@ enum-told : tie.Need-enum-told
 enum-told c = search needs
 
 returns : tie.Need-returns
-returns c = sealed-closes (c .before .before .token .ensures) (c .before .before .before .before .g .given .1) _ (sign-seen (c .before .before .token .ensures) _ (c .before .before .before .before .before .before .before .pre .1) (c .before .is-sign .ensures) (c .if1 .taken))
+returns c =
+    let c4 = c .before .before .before .before in
+    let c7 = c4 .before .before .before in
+    sealed-closes (c .before .before .token .ensures) (c4 .g .given .1) _
+    (sign-seen (c .before .before .token .ensures) _ (c7 .pre .1) (c .before .is-sign .ensures) (c .if1 .taken))
 
 returns-2 : tie.Need-returns-2
-returns-2 c = sealed-other (c .before .before .token .ensures) (c .before .before .before .before .g .given .1) _ (sign-seen (c .before .before .token .ensures) _ (c .before .before .before .before .before .before .before .pre .1) (c .before .is-sign .ensures) (c .if1 .left))
+returns-2 c =
+    let c4 = c .before .before .before .before in
+    let c7 = c4 .before .before .before in
+    sealed-other (c .before .before .token .ensures) (c4 .g .given .1) _
+    (sign-seen (c .before .before .token .ensures) _ (c7 .pre .1) (c .before .is-sign .ensures) (c .if1 .left))
 
 returns-3 : tie.Need-returns-3
 returns-3 c = sealed-unread _ _ _ (c .enum-told .given .1)

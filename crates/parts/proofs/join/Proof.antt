@@ -11,16 +11,29 @@ is-sign-requires : tie.Need-is-sign-requires
 is-sign-requires c κs = search needs
 
 returns : tie.Need-returns
-returns c = joins-first (c .before .before .token .ensures) _ _ (sign-seen (c .before .before .token .ensures) _ (c .before .before .before .before .pre .1) (c .before .is-sign .ensures) (c .if1 .taken))
+returns c =
+    let c4 = c .before .before .before .before in
+    joins-first (c .before .before .token .ensures) _ _
+    (sign-seen (c .before .before .token .ensures) _ (c4 .pre .1) (c .before .is-sign .ensures) (c .if1 .taken))
 
 is-sign-requires-2 : tie.Need-is-sign-requires-2
 is-sign-requires-2 c κs = search needs
 
 returns-2 : tie.Need-returns-2
-returns-2 c = joins-second (c .before .before .before .before .token .ensures) _ _ (sign-seen (c .before .before .before .before .token .ensures) _ (c .before .before .before .before .before .before .pre .1) (c .before .before .before .is-sign .ensures) (c .before .before .if1 .left)) (sign-seen (c .before .before .before .before .token .ensures) _ (c .before .before .before .before .before .before .pre .2) (c .before .is-sign2 .ensures) (c .if2 .taken))
+returns-2 c =
+    let c3 = c .before .before .before in
+    let c4 = c3 .before in
+    let c6 = c4 .before .before in
+    joins-second (c4 .token .ensures) _ _ (sign-seen (c4 .token .ensures) _ (c6 .pre .1) (c3 .is-sign .ensures) (c .before .before .if1 .left))
+    (sign-seen (c4 .token .ensures) _ (c6 .pre .2) (c .before .is-sign2 .ensures) (c .if2 .taken))
 
 returns-3 : tie.Need-returns-3
-returns-3 c = joins-none _ _ (c .before .before .before .before .before .before .pre .0) (sign-seen (c .before .before .before .before .token .ensures) _ (c .before .before .before .before .before .before .pre .1) (c .before .before .before .is-sign .ensures) (c .before .before .if1 .left)) (sign-seen (c .before .before .before .before .token .ensures) _ (c .before .before .before .before .before .before .pre .2) (c .before .is-sign2 .ensures) (c .if2 .left))
+returns-3 c =
+    let c3 = c .before .before .before in
+    let c4 = c3 .before in
+    let c6 = c4 .before .before in
+    joins-none _ _ (c6 .pre .0) (sign-seen (c4 .token .ensures) _ (c6 .pre .1) (c3 .is-sign .ensures) (c .before .before .if1 .left))
+    (sign-seen (c4 .token .ensures) _ (c6 .pre .2) (c .before .is-sign2 .ensures) (c .if2 .left))
 
 pub join-spec : {M : Type 1} → statement M
 join-spec =

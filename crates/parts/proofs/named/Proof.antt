@@ -25,13 +25,24 @@ part-name-rank-end : tie.Need-part-name-rank-end
 part-name-rank-end c = search needs
 
 name-rank-requires : tie.Need-name-rank-requires
-name-rank-requires c κs = omega (arith, name-short (drop (c .before .before .before .args .at) (c .before .before .before .args .s .now)) (c .before .before .before .pre .1), ap length (c .before .token .ensures .bytes))
+name-rank-requires c κs = omega (
+  arith,
+  name-short (drop (c .before .before .before .args .at) (c .before .before .before .args .s .now)) (c .before .before .before .pre .1),
+  ap length (c .before .token .ensures .bytes),
+)
 
 larger-requires : tie.Need-larger-requires
 larger-requires c κs = search needs
 
 returns : tie.Need-returns
-returns c = λ t d. c .larger .ensures ∙ ap (max (c .before .before .before .before .before .args .rank)) (c .before .name-rank .ensures t d ∙ ap (λ (x : List ℕ). rank-of t (variableOf (c .before .before .before .before .before .args .table .now)) (refers x (c .before .before .before .before .before .args .subscript))) (sym (c .before .before .before .token .ensures .bytes)))
+returns c =
+    let c3 = c .before .before .before in
+    let c5 = c3 .before .before in
+    λ t d. c .larger .ensures
+    ∙ ap (max (c5 .args .rank))
+    (c .before .name-rank .ensures t d
+    ∙ ap (λ (x : List ℕ). rank-of t (variableOf (c5 .args .table .now)) (refers x (c5 .args .subscript)))
+    (sym (c3 .token .ensures .bytes)))
 
 pub named-spec : {M : Type 1} → statement M
 named-spec =

@@ -19,16 +19,29 @@ span-requires : tie.Need-span-requires
 span-requires c κs = search needs
 
 returns : tie.Need-returns
-returns c = λ t d. let e = reads-by t _ (c .before .before .before .before .args .line) _ _ refl (c .before .if1 .taken) in (ap operation e, c .span .ensures ∙ span-found _ t _ _ d (c .before .before .find .ensures .1 t d) ∙ ap argument e)
+returns c =
+    let c4 = c .before .before .before .before in
+    λ t d.
+    let e = reads-by t _ (c4 .args .line) _ _ refl (c .before .if1 .taken) in
+    (ap operation e, c .span .ensures ∙ span-found _ t _ _ d (c .before .before .find .ensures .1 t d) ∙ ap argument e)
 
 is-named-requires : tie.Need-is-named-requires
 is-named-requires c κs = search needs
 
 returns-2 : tie.Need-returns-2
-returns-2 c = λ t d. let e = reads-by t _ (c .before .before .before .before .before .args .line) _ _ (sym (c .before .is-named .ensures) ∙ c .if2 .taken) (c .before .before .if1 .left) in (ap operation e, ap argument e)
+returns-2 c =
+    let c5 = c .before .before .before .before .before in
+    λ t d.
+    let e = reads-by t _ (c5 .args .line) _ _ (sym (c .before .is-named .ensures) ∙ c .if2 .taken) (c .before .before .if1 .left) in
+    (ap operation e, ap argument e)
 
 returns-3 : tie.Need-returns-3
-returns-3 c = λ t d. let e = reads-by t _ (c .before .before .before .before .before .args .line) _ _ (sym (c .before .is-named .ensures) ∙ c .if2 .left) (c .before .before .if1 .left) in (ap operation e, c .before .before .before .find .ensures .1 t d .first ∙ ap argument e)
+returns-3 c =
+    let c3 = c .before .before .before in
+    let c5 = c3 .before .before in
+    λ t d.
+    let e = reads-by t _ (c5 .args .line) _ _ (sym (c .before .is-named .ensures) ∙ c .if2 .left) (c .before .before .if1 .left) in
+    (ap operation e, c3 .find .ensures .1 t d .first ∙ ap argument e)
 
 pub read-of-spec : {M : Type 1} → statement M
 read-of-spec =

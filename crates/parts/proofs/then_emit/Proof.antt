@@ -13,11 +13,16 @@ enum-known-g c = search needs
 
 emit-requires : tie.Need-emit-requires
 unfolding Room
-emit-requires c κs = subst (λ (g : Got). Room 1 g (c .before .before .before .before .before .args .code .now)) (c .before .before .g .given .1) (c .before .before .before .before .before .pre)
+emit-requires c κs =
+    let c5 = c .before .before .before .before .before in
+    subst (λ (g : Got). Room 1 g (c5 .args .code .now)) (c .before .before .g .given .1) (c5 .pre)
 
 add-t12 : tie.Need-add-t12
 unfolding Room
-add-t12 c = omega (arith, subst (λ (g : Got). Room 1 g (c .before .before .before .before .before .before .before .before .args .code .now)) (c .before .before .before .before .before .g .given .1) (c .before .before .before .before .before .before .before .before .pre))
+add-t12 c =
+    let c5 = c .before .before .before .before .before in
+    let c8 = c5 .before .before .before in
+    omega (arith, subst (λ (g : Got). Room 1 g (c8 .args .code .now)) (c5 .g .given .1) (c8 .pre))
 
 enum-told : tie.Need-enum-told
 enum-told c = search needs

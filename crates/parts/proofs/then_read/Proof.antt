@@ -23,7 +23,9 @@ part-read-of-end : tie.Need-part-read-of-end
 part-read-of-end c = search needs
 
 read-of-requires : tie.Need-read-of-requires
-read-of-requires c κs = (omega (arith, name-short (drop (c .before .before .before .before .args .at) (c .before .before .before .before .args .s .now)) (c .before .before .before .before .pre .1), ap length (c .before .token .ensures .bytes)), c .before .before .before .before .pre .2)
+read-of-requires c κs =
+    let c4 = c .before .before .before .before in
+    (omega (arith, name-short (drop (c4 .args .at) (c4 .args .s .now)) (c4 .pre .1), ap length (c .before .token .ensures .bytes)), c4 .pre .2)
 
 then-emit-requires : tie.Need-then-emit-requires
 then-emit-requires c κs = search needs
@@ -32,7 +34,16 @@ same-length : tie.Need-same-length
 same-length c = search needs
 
 returns : tie.Need-returns
-returns c = record { words = c .before .before .before .before .read-of .result; right = subst (λ (x : List ℕ). Worded (c .before .before .before .before .before .before .before .before .before .args .table .now) (c .before .before .before .before .before .before .before .before .before .args .line) x (c .before .before .before .before .before .before .before .before .before .args .subscript) (c .before .before .before .before .read-of .result)) (sym (c .before .before .before .before .before .before .token .ensures .bytes)) (c .before .before .before .before .read-of .ensures); emits = c .before .before .then-emit .ensures }
+returns c =
+    let c4 = c .before .before .before .before in
+    let c6 = c4 .before .before in
+    let c9 = c6 .before .before .before in
+    record {
+      words = c4 .read-of .result;
+      right = subst (λ (x : List ℕ). Worded (c9 .args .table .now) (c9 .args .line) x (c9 .args .subscript) (c4 .read-of .result))
+          (sym (c6 .token .ensures .bytes)) (c4 .read-of .ensures);
+      emits = c .before .before .then-emit .ensures;
+    }
 
 pub then-read-spec : {M : Type 1} → statement M
 then-read-spec =

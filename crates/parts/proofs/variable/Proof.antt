@@ -21,7 +21,12 @@ same-length : tie.Need-same-length
 same-length c = search needs
 
 returns : tie.Need-returns
-returns c = name-loads (c .before .before .before .before .before .token .ensures) (λ z. omega (arith, sym (c .before .before .before .before .before .token .ensures .kinds) ∙ c .before .before .before .before .before .before .before .before .pre .1)) _ _ _ _ _ _ _ _ (c .before .before .then-read .ensures) (c .before .before .before .before .named .ensures)
+returns c =
+    let c4 = c .before .before .before .before in
+    let c5 = c4 .before in
+    let c8 = c5 .before .before .before in
+    name-loads (c5 .token .ensures) (λ z. omega (arith, sym (c5 .token .ensures .kinds) ∙ c8 .pre .1)) _ _ _ _ _ _ _ _
+    (c .before .before .then-read .ensures) (c4 .named .ensures)
 
 pub variable-spec : {M : Type 1} → statement M
 variable-spec =

@@ -24,13 +24,23 @@ cast-classes : tie.Need-cast-classes
 cast-classes c = search needs
 
 classes-requires : tie.Need-classes-requires
-classes-requires c κs = (omega (arith, few-cells _ _ _ _ _ (c .before .before .before .before .before .before .before .before .before .read .ensures) (c .before .before .before .if1 .left), c .before .before .before .before .before .before .before .before .before .before .before .before .before .before .before .before .pre .1), omega (arith, c .before .before .before .before .before .before .before .before .before .before .before .before .before .before .before .before .pre .1))
+classes-requires c κs =
+    let c3 = c .before .before .before in
+    let c9 = c3 .before .before .before .before .before .before in
+    let c16 = c9 .before .before .before .before .before .before .before in
+    (omega (arith, few-cells _ _ _ _ _ (c9 .read .ensures) (c3 .if1 .left), c16 .pre .1), omega (arith, c16 .pre .1))
 
 cast-t20 : tie.Need-cast-t20
-cast-t20 c = omega (arith, few-iterations _ _ _ _ _ (c .before .before .before .before .before .before .before .before .before .before .before .before .before .read .ensures) (c .before .before .before .before .before .before .before .if1 .left))
+cast-t20 c =
+    let c7 = c .before .before .before .before .before .before .before in
+    let c13 = c7 .before .before .before .before .before .before in
+    omega (arith, few-iterations _ _ _ _ _ (c13 .read .ensures) (c7 .if1 .left))
 
 mul-t17 : tie.Need-mul-t17
-mul-t17 c = omega (arith, few-places _ _ _ _ _ (c .before .before .before .before .before .before .before .before .before .before .before .before .before .before .before .read .ensures) (c .before .before .before .before .before .before .before .before .before .if1 .left))
+mul-t17 c =
+    let c9 = c .before .before .before .before .before .before .before .before .before in
+    let c15 = c9 .before .before .before .before .before .before in
+    omega (arith, few-places _ _ _ _ _ (c15 .read .ensures) (c9 .if1 .left))
 
 same-length-2 : tie.Need-same-length-2
 same-length-2 c = search needs
@@ -39,7 +49,13 @@ same-length-3 : tie.Need-same-length-3
 same-length-3 c = search needs
 
 returns-2 : tie.Need-returns-2
-returns-2 c = let e : toZ w32 (ofZ w32 (c .before .before .before .before .before .before .before .before .before .before .before .before .before .before .before .read .result .progress .from)) ≡ c .before .before .before .before .before .before .before .before .before .before .before .before .before .before .before .read .result .progress .from = search needs in prepared-fine _ _ _ _ _ (c .before .before .before .before .before .before .before .before .before .before .before .before .before .before .before .read .ensures) (c .before .before .before .before .before .before .before .before .before .if1 .left) _ _ _ (c .before .before .before .before .before .before .before .before .before .before .before .before .before .before .before .before .before .before .before .before .before .before .pre .1) (c .before .before .before .before .before .classes .ensures) refl refl refl refl e refl
+returns-2 c =
+    let c15 = c .before .before .before .before .before .before .before .before .before .before .before .before .before .before .before in
+    let e : toZ w32 (ofZ w32 (c15 .read .result .progress .from)) ≡ c15 .read .result .progress .from = search needs in
+    let c5 = c .before .before .before .before .before in
+    let c9 = c5 .before .before .before .before in
+    let c22 = c15 .before .before .before .before .before .before .before in
+    prepared-fine _ _ _ _ _ (c15 .read .ensures) (c9 .if1 .left) _ _ _ (c22 .pre .1) (c5 .classes .ensures) refl refl refl refl e refl
 
 pub prepare-spec : {M : Type 1} → statement M
 prepare-spec =

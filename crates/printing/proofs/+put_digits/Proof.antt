@@ -102,7 +102,11 @@ put-digits-put-requires-2 : (t : ℕ) → put-digits-lts.Need-put-requires-2 (
   put-digits-below t,
   put-digits.Post,
 ) (put-digits-at t) put-digits.Post
-put-digits-put-requires-2 t c κs = omega (arith, c .before .put-digits .ensures .place, digits-few (c .before .before .before .before .before .args .k - 1) (c .before .before .before .before .before .args .n / 10))
+put-digits-put-requires-2 t c κs = omega (
+  arith,
+  c .before .put-digits .ensures .place,
+  digits-few (c .before .before .before .before .before .args .k - 1) (c .before .before .before .before .before .args .n / 10),
+)
 
 put-digits-returns-3 : (t : ℕ) → put-digits-lts.Need-returns-3 (
   put-reads.Asked,
@@ -110,7 +114,8 @@ put-digits-returns-3 : (t : ℕ) → put-digits-lts.Need-returns-3 (
   put-digits-below t,
   put-digits.Post,
 ) (put-digits-at t) put-digits.Post
-put-digits-returns-3 t c = digits-more _ _ (c .before .before .before .before .before .if1 .left) (c .before .before .before .before .if2 .left) (c .before .before .put-digits .ensures) (c .put2 .ensures)
+put-digits-returns-3 t c = digits-more _ _ (c .before .before .before .before .before .if1 .left) (c .before .before .before .before .if2 .left)
+    (c .before .before .put-digits .ensures) (c .put2 .ensures)
 
 pub +put-digits-spec : {M : Type 1} → statement M
 +put-digits-spec = close μ-put-digits λ t. put-digits-lts.spec (

@@ -48,7 +48,13 @@ returns-2 c = writes-as (ap comment (sym (c .before .before .before .before .ans
 
 returns-3 : tie.Need-returns-3
 unfolding comment
-returns-3 c = let z = c .before .before .before .answer3 .given .0 .1 .1 .0 in let e : toZ w32 (ofZ w32 z) ≡ z = search needs in writes-as (ap (refusal (c .before .before .before .answer3 .given .0 .0) (c .before .before .before .answer3 .given .0 .1 .0)) e ∙ ap comment (sym (c .before .before .before .answer3 .given .1))) (c .put-refusal .ensures)
+returns-3 c =
+    let z = c .before .before .before .answer3 .given .0 .1 .1 .0 in
+    let e : toZ w32 (ofZ w32 z) ≡ z = search needs in
+    writes-as
+    (ap (refusal (c .before .before .before .answer3 .given .0 .0) (c .before .before .before .answer3 .given .0 .1 .0)) e
+    ∙ ap comment (sym (c .before .before .before .answer3 .given .1)))
+    (c .put-refusal .ensures)
 
 returns-4 : tie.Need-returns-4
 unfolding comment

@@ -28,12 +28,24 @@ put-digits-requires-2 c κs =
 
 put-requires-2 : tie.Need-put-requires-2
 put-requires-2 c κs =
-    let args = c .before .before .before .before .before .before .before .before .before .before .args in
-    let put-bytes = c .before .before .before .before .before .before .before .put-bytes in
-    let put-digits = c .before .before .before .before .before .put-digits in
-    let put = c .before .before .before .put in
+    let c3 = c .before .before .before in
+    let c5 = c3 .before .before in
+    let c7 = c5 .before .before in
+    let c10 = c7 .before .before .before in
+    let args = c10 .args in
+    let put-bytes = c7 .put-bytes in
+    let put-digits = c5 .put-digits in
+    let put = c3 .put in
     let put-digits2 = c .before .put-digits2 in
-    omega (arith, put-bytes .ensures .place, put-digits .ensures .place, digits-few 10 (args .pairs), put .ensures .place, put-digits2 .ensures .place, digits-few 10 (args .cells))
+    omega (
+      arith,
+      put-bytes .ensures .place,
+      put-digits .ensures .place,
+      digits-few 10 (args .pairs),
+      put .ensures .place,
+      put-digits2 .ensures .place,
+      digits-few 10 (args .cells),
+    )
 
 returns : tie.Need-returns
 returns c =

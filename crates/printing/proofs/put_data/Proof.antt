@@ -1,7 +1,8 @@
 -- `printing::put_data` meets its contract.
 use mathlib.Core.Path.{refl}
 use Prim.Native.Nat.{_-_}
-use Rattle.printing.proofs.Lines.{line-written, name-length}
+use Rattle.names.proofs.Rows.{name-length}
+use Rattle.printing.proofs.Lines.{line-written}
 use Rattle.printing.proofs.Writing.{values-few}
 use lib.ListN.{take, drop}
 use native.Mathlib.Omega.{arith}
@@ -71,7 +72,16 @@ put-values-requires c κs =
     let put-bytes = c .before .before .before .before .before .before .before .put-bytes in
     let put-name = c .before .before .before .before .before .put-name in
     let put-bytes2 = c .before .before .put-bytes2 in
-    omega (arith, put-bytes .ensures .place, put-name .ensures .place, name-length (args .table .now) (args .i), pre .0 .short, put-bytes2 .ensures .place, end-of .ensures, pre .2)
+    omega (
+      arith,
+      put-bytes .ensures .place,
+      put-name .ensures .place,
+      name-length (args .table .now) (args .i),
+      pre .0 .short,
+      put-bytes2 .ensures .place,
+      end-of .ensures,
+      pre .2,
+    )
 
 slice-aggregate-put-bytes-3 : tie.Need-slice-aggregate-put-bytes-3
 slice-aggregate-put-bytes-3 c = search needs
@@ -86,7 +96,18 @@ put-bytes-requires-3 c κs =
     let put-name = c .before .before .before .before .before .before .before .before .put-name in
     let put-bytes2 = c .before .before .before .before .before .put-bytes2 in
     let put-values = c .before .before .put-values in
-    omega (arith, put-bytes .ensures .place, put-name .ensures .place, name-length (args .table .now) (args .i), pre .0 .short, put-bytes2 .ensures .place, put-values .ensures .place, values-few (take (end-of .result - first-of .result) (drop (first-of .result) (args .cells .now))), end-of .ensures, pre .2)
+    omega (
+      arith,
+      put-bytes .ensures .place,
+      put-name .ensures .place,
+      name-length (args .table .now) (args .i),
+      pre .0 .short,
+      put-bytes2 .ensures .place,
+      put-values .ensures .place,
+      values-few (take (end-of .result - first-of .result) (drop (first-of .result) (args .cells .now))),
+      end-of .ensures,
+      pre .2,
+    )
 
 returns : tie.Need-returns
 returns c =
@@ -98,7 +119,9 @@ returns c =
     let put-bytes2 = c .before .before .before .before .before .before .put-bytes2 in
     let put-values = c .before .before .before .put-values in
     let put-bytes3 = c .put-bytes3 in
-    line-written (args .table .now) (args .cells .now) _ (args .i) (first-of .result) (end-of .result) (first-of .ensures) (omega (arith, first-of .ensures, end-of .ensures)) refl (put-bytes .ensures) (put-name .ensures) (put-bytes2 .ensures) (put-values .ensures) (put-bytes3 .ensures)
+    line-written (args .table .now) (args .cells .now) _ (args .i) (first-of .result) (end-of .result) (first-of .ensures)
+    (omega (arith, first-of .ensures, end-of .ensures)) refl (put-bytes .ensures) (put-name .ensures) (put-bytes2 .ensures) (put-values .ensures)
+    (put-bytes3 .ensures)
 
 pub put-data-spec : {M : Type 1} → statement M
 put-data-spec =

@@ -41,39 +41,49 @@ enum-told-4 c = search needs
 
 returns : tie.Need-returns
 returns c =
-    let args = c .before .before .before .before .before .before .args in
-    let pre = c .before .before .before .before .before .before .pre in
-    let put-comment = c .before .before .before .before .put-comment in
+    let c4 = c .before .before .before .before in
+    let c6 = c4 .before .before in
+    let args = c6 .args in
+    let pre = c6 .pre in
+    let put-comment = c4 .put-comment in
     let enum-told = c .before .before .enum-told in
     let put-data-lines = c .put-data-lines in
     let k = pre .1 (subst Completes (sym (enum-told .given .1)) tt) in
-    reports-lines (args .answer) (args .table .now) (args .cells .now) _ (pre .0) (subst Completes (sym (enum-told .given .1)) tt) (k .0) (k .1) (put-comment .ensures) (put-data-lines .ensures)
+    reports-lines (args .answer) (args .table .now) (args .cells .now) _ (pre .0) (subst Completes (sym (enum-told .given .1)) tt) (k .0) (k .1)
+    (put-comment .ensures) (put-data-lines .ensures)
 
 returns-2 : tie.Need-returns-2
 returns-2 c =
-    let args = c .before .before .before .before .before .before .args in
-    let pre = c .before .before .before .before .before .before .pre in
-    let put-comment = c .before .before .before .before .put-comment in
+    let c4 = c .before .before .before .before in
+    let c6 = c4 .before .before in
+    let args = c6 .args in
+    let pre = c6 .pre in
+    let put-comment = c4 .put-comment in
     let enum-told2 = c .before .before .enum-told2 in
     let put-data-lines2 = c .put-data-lines2 in
     let k = pre .1 (subst Completes (sym (enum-told2 .given .1)) tt) in
-    reports-lines (args .answer) (args .table .now) (args .cells .now) _ (pre .0) (subst Completes (sym (enum-told2 .given .1)) tt) (k .0) (k .1) (put-comment .ensures) (put-data-lines2 .ensures)
+    reports-lines (args .answer) (args .table .now) (args .cells .now) _ (pre .0) (subst Completes (sym (enum-told2 .given .1)) tt) (k .0) (k .1)
+    (put-comment .ensures) (put-data-lines2 .ensures)
 
 returns-3 : tie.Need-returns-3
 returns-3 c =
-    let args = c .before .before .before .before .args in
-    let pre = c .before .before .before .before .pre in
+    let c4 = c .before .before .before .before in
+    let args = c4 .args in
+    let pre = c4 .pre in
     let put-comment = c .before .before .put-comment in
     let enum-told3 = c .enum-told3 in
-    reports-refusal (args .answer) (args .table .now) (args .cells .now) _ (pre .0) (λ (z : Completes (args .answer)). subst Completes (enum-told3 .given .1) z) (put-comment .ensures)
+    reports-refusal (args .answer) (args .table .now) (args .cells .now) _ (pre .0)
+    (λ (z : Completes (args .answer)). subst Completes (enum-told3 .given .1) z) (put-comment .ensures)
 
 returns-4 : tie.Need-returns-4
 returns-4 c =
-    let args = c .before .before .before .before .args in
-    let pre = c .before .before .before .before .pre in
+    let c4 = c .before .before .before .before in
+    let args = c4 .args in
+    let pre = c4 .pre in
     let put-comment = c .before .before .put-comment in
     let enum-told4 = c .enum-told4 in
-    reports-refusal (args .answer) (args .table .now) (args .cells .now) _ (pre .0) (λ (z : Completes (args .answer)). subst Completes (enum-told4 .given .1) z) (put-comment .ensures)
+    reports-refusal (args .answer) (args .table .now) (args .cells .now) _ (pre .0)
+    (λ (z : Completes (args .answer)). subst Completes (enum-told4 .given .1) z) (put-comment .ensures)
 
 pub report-spec : {M : Type 1} → statement M
 report-spec =

@@ -16,13 +16,34 @@ broken-line-requires : tie.Need-broken-line-requires
 broken-line-requires c κs = search needs
 
 returns : tie.Need-returns
-returns c = λ st rp sane. skipped-early _ _ _ _ _ _ _ st _ (sym (sym (c .before .before .before .before .before .before .before .is-sound .ensures) ∙ c .before .before .before .before .before .before .if1 .taken)) (sym (sym (c .before .before .before .before .before .is-skipped .ensures) ∙ c .before .before .before .before .if2 .taken)) (c .before .before .before .if3 .taken) (omega (arith, c .before .if4 .taken, rp .stage)) (c .broken-line .ensures)
+returns c =
+    let c3 = c .before .before .before in
+    let c4 = c3 .before in
+    let c5 = c4 .before in
+    let c6 = c5 .before in
+    let c7 = c6 .before in
+    λ st rp sane. skipped-early _ _ _ st _ (sym (sym (c7 .is-sound .ensures) ∙ c6 .if1 .taken))
+    (sym (sym (c5 .is-skipped .ensures) ∙ c4 .if2 .taken)) (c3 .if3 .taken) (omega (arith, c .before .if4 .taken, rp .stage))
+    (c .broken-line .ensures)
 
 returns-2 : tie.Need-returns-2
-returns-2 c = λ st rp sane. skipped-good _ _ _ _ _ _ _ st _ (sym (sym (c .before .before .before .before .before .before .is-sound .ensures) ∙ c .before .before .before .before .before .if1 .taken)) (sym (sym (c .before .before .before .before .is-skipped .ensures) ∙ c .before .before .before .if2 .taken)) (ends-late (c .before .before .before .before .before .before .before .before .before .args .last) _ (st .stage) (rp .stage) (c .if4 .left)) (c .before .before .before .before .before .before .before .before .before .pre .fine) rp
+returns-2 c =
+    let c3 = c .before .before .before in
+    let c4 = c3 .before in
+    let c5 = c4 .before in
+    let c6 = c5 .before in
+    let c9 = c6 .before .before .before in
+    λ st rp sane. skipped-good _ _ _ st _ (sym (sym (c6 .is-sound .ensures) ∙ c5 .if1 .taken)) (sym (sym (c4 .is-skipped .ensures) ∙ c3 .if2 .taken))
+    (ends-late (c9 .args .last) _ (st .stage) (rp .stage) (c .if4 .left)) (c9 .pre .fine) rp
 
 returns-3 : tie.Need-returns-3
-returns-3 c = λ st rp sane. skipped-good _ _ _ _ _ _ _ st _ (sym (sym (c .before .before .before .before .is-sound .ensures) ∙ c .before .before .before .if1 .taken)) (sym (sym (c .before .before .is-skipped .ensures) ∙ c .before .if2 .taken)) (ends-open (c .before .before .before .before .before .before .before .args .last) (st .stage) (c .if3 .left)) (c .before .before .before .before .before .before .before .pre .fine) rp
+returns-3 c =
+    let c3 = c .before .before .before in
+    let c4 = c3 .before in
+    let c7 = c4 .before .before .before in
+    λ st rp sane. skipped-good _ _ _ st _ (sym (sym (c4 .is-sound .ensures) ∙ c3 .if1 .taken))
+    (sym (sym (c .before .before .is-skipped .ensures) ∙ c .before .if2 .taken)) (ends-open (c7 .args .last) (st .stage) (c .if3 .left))
+    (c7 .pre .fine) rp
 
 spoken-line-requires : tie.Need-spoken-line-requires
 spoken-line-requires c κs = search needs
@@ -34,13 +55,20 @@ same-length-2 : tie.Need-same-length-2
 same-length-2 c = search needs
 
 returns-4 : tie.Need-returns-4
-returns-4 c = λ st rp sane. c .before .before .before .spoken-line .ensures (sym (sym (c .before .before .before .before .before .before .before .before .before .before .before .is-sound .ensures) ∙ c .before .before .before .before .before .before .before .before .before .before .if1 .taken)) (sym (sym (c .before .before .before .before .before .before .before .before .before .is-skipped .ensures) ∙ c .before .before .before .before .before .before .before .before .if2 .left)) st rp sane
+returns-4 c =
+    let c3 = c .before .before .before in
+    let c8 = c3 .before .before .before .before .before in
+    let c9 = c8 .before in
+    let c10 = c9 .before in
+    let c11 = c10 .before in
+    λ st rp sane. c3 .spoken-line .ensures (sym (sym (c11 .is-sound .ensures) ∙ c10 .if1 .taken))
+    (sym (sym (c9 .is-skipped .ensures) ∙ c8 .if2 .left)) st rp sane
 
 broken-line-requires-2 : tie.Need-broken-line-requires-2
 broken-line-requires-2 c κs = search needs
 
 returns-5 : tie.Need-returns-5
-returns-5 c = λ st rp sane. bad-bytes _ _ _ _ _ _ _ st _ (sym (sym (c .before .before .is-sound .ensures) ∙ c .before .if1 .left)) (c .broken-line2 .ensures)
+returns-5 c = λ st rp sane. bad-bytes _ _ _ st _ (sym (sym (c .before .before .is-sound .ensures) ∙ c .before .if1 .left)) (c .broken-line2 .ensures)
 
 pub judge-line-spec : {M : Type 1} → statement M
 judge-line-spec =

@@ -38,7 +38,13 @@ same-length-2 : tie.Need-same-length-2
 same-length-2 c = search needs
 
 returns-2 : tie.Need-returns-2
-returns-2 c = in-lower (c .before .before .before .before .before .before .before .before .before .before .before .before .before .before .before .args .text .now) _ _ _ _ (λ h. omega (arith, h, c .before .before .before .before .before .before .before .before .before .before .before .before .if1 .left)) _ (lowered-at (c .before .before .before .before .before .before .before .before .before .before .before .before .before .before .before .args .text .now) (replicate 2048 0) _ _ (c .before .before .before .before .before .before .before .before .before .before .lowered .ensures) refl (omega (arith, c .before .before .before .before .before .before .before .before .before .before .before .before .if1 .left))) (c .before .before .before .read-lines .ensures)
+returns-2 c =
+    let c3 = c .before .before .before in
+    let c10 = c3 .before .before .before .before .before .before .before in
+    let c12 = c10 .before .before in
+    let c15 = c12 .before .before .before in
+    in-lower (c15 .args .text .now) _ _ _ _ (λ h. omega (arith, h, c12 .if1 .left)) _
+    (lowered-at (c15 .args .text .now) (replicate 2048 0) _ _ (c10 .lowered .ensures) refl (omega (arith, c12 .if1 .left))) (c3 .read-lines .ensures)
 
 pub read-spec : {M : Type 1} → statement M
 read-spec =

@@ -18,7 +18,8 @@ carry-on-requires c κs =
     let (l, h) = c .before .before .before .before .before .before .before .before .before .before .before .before .pre in
     let f : toZ w32 (ofZ w32 (a .setting .from)) ≡ a .setting .from = search needs in
     can-serve (a .code .now) (a .setting .from) l _ (rw (f, h .iterations)) _
-    (serial-start (a .code .now) (a .setting) l (a .cells .now) (a .classes .now) (length (a .w .now)) h _ (c .before .before .before .before .before .before .enter .ensures l (h .entry)) _ (record { size = search needs; most = omega arith }))
+    (serial-start (a .code .now) (a .setting) l (a .cells .now) (a .classes .now) (length (a .w .now)) h _
+    (c .before .before .before .before .before .before .enter .ensures l (h .entry)) _ (record { size = search needs; most = omega arith }))
 
 same-length : tie.Need-same-length
 same-length c = search needs
@@ -31,7 +32,9 @@ returns c = λ l h.
     let a = c .before .before .before .before .before .before .before .before .before .before .before .before .before .before .before .before .args in
     let f : toZ w32 (ofZ w32 (a .setting .from)) ≡ a .setting .from = search needs in
     let (s, o) = served (a .code .now) (a .setting .from) l _ (rw (f, h .iterations)) _ _
-    (serial-start (a .code .now) (a .setting) l (a .cells .now) (a .classes .now) (length (a .w .now)) h _ (c .before .before .before .before .before .before .before .before .before .before .enter .ensures l (h .entry)) _ (record { size = search needs; most = omega arith }))
+    (serial-start (a .code .now) (a .setting) l (a .cells .now) (a .classes .now) (length (a .w .now)) h _
+    (c .before .before .before .before .before .before .before .before .before .before .enter .ensures l (h .entry)) _
+    (record { size = search needs; most = omega arith }))
     (c .before .before .before .carry-on .ensures) in
     serial-end (a .code .now) (a .setting .from) l _ s o
 

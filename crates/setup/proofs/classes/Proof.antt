@@ -31,7 +31,9 @@ loop-less : tie.Need-loop-less Inv-loop μ-loop
 loop-less c = search needs
 
 loop-again : tie.Need-loop-again Inv-loop μ-loop
-loop-again c = let l = c .before .before .before .before .before .loop in classing-more _ _ _ _ _ (l .i - 1) (l .i) (omega arith) (l .inv) (c .before .before .mark .ensures)
+loop-again c =
+    let c5 = c .before .before .before .before .before in
+    let l = c5 .loop in classing-more _ _ _ _ _ (l .i - 1) (l .i) (omega arith) (l .inv) (c .before .before .mark .ensures)
 
 same-length : tie.Need-same-length Inv-loop μ-loop
 same-length c = search needs

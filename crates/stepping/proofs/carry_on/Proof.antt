@@ -30,8 +30,12 @@ is-open-requires c κs = search needs
 
 go-on-requires : tie.Need-go-on-requires Inv-loop μ-loop
 go-on-requires c κs =
-    let u = c .before .before .before .before .before .loop in
-    c .before .before .before .before .before .before .before .before .before .pre _ (u .inv .2) (sym (c .before .before .before .before .is-open .ensures) ∙ c .before .before .before .if1 .taken)
+    let c3 = c .before .before .before in
+    let c4 = c3 .before in
+    let c5 = c4 .before in
+    let c9 = c5 .before .before .before .before in
+    let u = c5 .loop in
+    c9 .pre _ (u .inv .2) (sym (c4 .is-open .ensures) ∙ c3 .if1 .taken)
 
 enum-told : tie.Need-enum-told Inv-loop μ-loop
 enum-told c = search needs
@@ -44,26 +48,42 @@ same-length-2 c = search needs
 
 returns : tie.Need-returns Inv-loop μ-loop
 returns c =
-    let u = c .before .before .before .before .before .before .before .before .before .before .before .loop in
-    let q : c .before .before .before .before .before .before .before .before .before .before .before .before .before .before .before .args .extent ≡ Once = c .enum-told .given .1 in
-    carried-once (c .before .before .before .before .before .before .before .before .before .before .before .before .before .before .before .args .role) (c .before .before .before .before .before .before .before .before .before .before .before .before .before .before .before .args .code .now) _ _ (c .before .before .before .before .before .before .before .before .before .before .before .before .before .before .before .args .extent) q (u .inv .3 q) (sym (c .before .before .before .before .before .before .before .before .before .before .is-open .ensures) ∙ c .before .before .before .before .before .before .before .before .before .if1 .taken) _ (c .before .before .before .before .before .go-on .ensures)
+    let c5 = c .before .before .before .before .before in
+    let c9 = c5 .before .before .before .before in
+    let c10 = c9 .before in
+    let c11 = c10 .before in
+    let c15 = c11 .before .before .before .before in
+    let u = c11 .loop in
+    let q : c15 .args .extent ≡ Once = c .enum-told .given .1 in
+    carried-once (c15 .args .role) (c15 .args .code .now) _ _ (c15 .args .extent) q (u .inv .3 q) (sym (c10 .is-open .ensures) ∙ c9 .if1 .taken) _
+    (c5 .go-on .ensures)
 
 enum-told-2 : tie.Need-enum-told-2 Inv-loop μ-loop
 enum-told-2 c = search needs
 
 loop-less : tie.Need-loop-less Inv-loop μ-loop
 loop-less c =
-    let u = c .before .before .before .before .before .before .before .before .before .before .before .loop in
-    let o = opened-yes (u .t) (c .before .before .before .before .before .before .before .before .before .before .before .before .before .before .before .args .role .end .0) (sym (c .before .before .before .before .before .before .before .before .before .before .is-open .ensures) ∙ c .before .before .before .before .before .before .before .before .before .if1 .taken) in
-    goes-nearer (c .before .before .before .before .before .before .before .before .before .before .before .before .before .before .before .args .role) (c .before .before .before .before .before .before .before .before .before .before .before .before .before .before .before .args .code .now) _ _ (c .before .before .before .before .before .go-on .ensures) (c .before .before .before .before .before .before .before .before .before .before .before .before .before .before .before .args .role .end .0) (o .0) (o .1)
+    let c5 = c .before .before .before .before .before in
+    let c9 = c5 .before .before .before .before in
+    let c10 = c9 .before in
+    let c11 = c10 .before in
+    let c15 = c11 .before .before .before .before in
+    let u = c11 .loop in
+    let o = opened-yes (u .t) (c15 .args .role .end .0) (sym (c10 .is-open .ensures) ∙ c9 .if1 .taken) in
+    goes-nearer (c15 .args .role) (c15 .args .code .now) _ _ (c5 .go-on .ensures) (c15 .args .role .end .0) (o .0) (o .1)
 
 loop-again : tie.Need-loop-again Inv-loop μ-loop
 loop-again c =
-    let u = c .before .before .before .before .before .before .before .before .before .before .before .loop in
-    let q : c .before .before .before .before .before .before .before .before .before .before .before .before .before .before .before .args .extent ≡ ToTheEnd = c .enum-told2 .given .1 in (
+    let c5 = c .before .before .before .before .before in
+    let c9 = c5 .before .before .before .before in
+    let c10 = c9 .before in
+    let c11 = c10 .before in
+    let c15 = c11 .before .before .before .before in
+    let u = c11 .loop in
+    let q : c15 .args .extent ≡ ToTheEnd = c .enum-told2 .given .1 in (
       search needs,
       search needs,
-      on (u .inv .2) (sym (c .before .before .before .before .before .before .before .before .before .before .is-open .ensures) ∙ c .before .before .before .before .before .before .before .before .before .if1 .taken) (c .before .before .before .before .before .go-on .ensures),
+      on (u .inv .2) (sym (c10 .is-open .ensures) ∙ c9 .if1 .taken) (c5 .go-on .ensures),
       λ e. absurd (never e q),
     )
 
@@ -75,8 +95,9 @@ same-length-4 c = search needs
 
 returns-2 : tie.Need-returns-2 Inv-loop μ-loop
 returns-2 c =
+    let c6 = c .before .before .before .before .before .before in
     let u = c .before .before .loop in
-    carried-over (c .before .before .before .before .before .before .args .role) (c .before .before .before .before .before .before .args .code .now) _ _ (c .before .before .before .before .before .before .args .extent) (u .inv .3) (u .inv .2) (sym (c .before .is-open .ensures) ∙ c .if1 .left)
+    carried-over (c6 .args .role) (c6 .args .code .now) _ _ (c6 .args .extent) (u .inv .3) (u .inv .2) (sym (c .before .is-open .ensures) ∙ c .if1 .left)
 
 pub carry-on-spec : {M : Type 1} → statement M
 carry-on-spec =

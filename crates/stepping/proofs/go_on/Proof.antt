@@ -16,13 +16,17 @@ advance-requires c κs = search needs
 
 make-requires : tie.Need-make-requires
 make-requires c κs =
+    let c5 = c .before .before .before .before .before in
+    let c6 = c5 .before in
     let a = c .before .before .before .before .before .before .before .before .before .before .args in
     let z = scene (a .cells .now) (a .w .now) (a .pending .now) (a .t) in
-    let e : toZ w32 (ofZ w32 (a .role .from)) ≡ a .role .from = search (needs, c .before .before .before .before .before .before .struct-told) in
-    let f : toZ w32 (ofZ w32 (c .before .before .before .before .before .value-at .result)) ≡ c .before .before .before .before .before .value-at .result = search needs in
-    let v : toZ w32 (ofZ w32 (c .before .before .before .before .before .value-at .result)) ≡ variable (a .role) z = f ∙ c .before .before .before .before .before .value-at .ensures ∙ ap (λ (y : ℤ). y +ℤ pos (a .t .iteration .0)) e in
-    let h = rw v at (c .before .before .before .advance .ensures) in
-    record { low = c .before .before .before .before .before .before .before .before .before .before .pre .low; can = c .before .before .before .before .before .before .before .before .before .before .pre .reach _ _ h; size = h .size; room = h .room }
+    let e : toZ w32 (ofZ w32 (a .role .from)) ≡ a .role .from = search (needs, c6 .struct-told) in
+    let f : toZ w32 (ofZ w32 (c5 .value-at .result)) ≡ c5 .value-at .result = search needs in
+    let c3 = c .before .before .before in
+    let c10 = c6 .before .before .before .before in
+    let v : toZ w32 (ofZ w32 (c5 .value-at .result)) ≡ variable (a .role) z = f ∙ c5 .value-at .ensures ∙ ap (λ (y : ℤ). y +ℤ pos (a .t .iteration .0)) e in
+    let h = rw v at (c3 .advance .ensures) in
+    record { low = c10 .pre .low; can = c10 .pre .reach _ _ h; size = h .size; room = h .room }
 
 same-length : tie.Need-same-length
 same-length c = search needs
@@ -32,13 +36,17 @@ same-length-2 c = search needs
 
 returns : tie.Need-returns
 returns c =
+    let c9 = c .before .before .before .before .before .before .before .before .before in
+    let c10 = c9 .before in
     let a = c .before .before .before .before .before .before .before .before .before .before .before .before .before .before .args in
     let z = scene (a .cells .now) (a .w .now) (a .pending .now) (a .t) in
-    let e : toZ w32 (ofZ w32 (a .role .from)) ≡ a .role .from = search (needs, c .before .before .before .before .before .before .before .before .before .before .struct-told) in
-    let f : toZ w32 (ofZ w32 (c .before .before .before .before .before .before .before .before .before .value-at .result)) ≡ c .before .before .before .before .before .before .before .before .before .value-at .result = search needs in
-    let v : toZ w32 (ofZ w32 (c .before .before .before .before .before .before .before .before .before .value-at .result)) ≡ variable (a .role) z = f ∙ c .before .before .before .before .before .before .before .before .before .value-at .ensures ∙ ap (λ (y : ℤ). y +ℤ pos (a .t .iteration .0)) e in
-    let h = rw v at (c .before .before .before .before .before .before .before .advance .ensures) in
-    record { pending = _; reached = c .before .before .before .before .before .before .before .advance .result; comes = h; makes = c .before .before .before .make .ensures }
+    let e : toZ w32 (ofZ w32 (a .role .from)) ≡ a .role .from = search (needs, c10 .struct-told) in
+    let f : toZ w32 (ofZ w32 (c9 .value-at .result)) ≡ c9 .value-at .result = search needs in
+    let c3 = c .before .before .before in
+    let c7 = c3 .before .before .before .before in
+    let v : toZ w32 (ofZ w32 (c9 .value-at .result)) ≡ variable (a .role) z = f ∙ c9 .value-at .ensures ∙ ap (λ (y : ℤ). y +ℤ pos (a .t .iteration .0)) e in
+    let h = rw v at (c7 .advance .ensures) in
+    record { pending = _; reached = c7 .advance .result; comes = h; makes = c3 .make .ensures }
 
 pub go-on-spec : {M : Type 1} → statement M
 go-on-spec =

@@ -32,8 +32,11 @@ loop-less c = omega arith
 
 loop-again : tie.Need-loop-again Inv-loop μ-loop
 loop-again c =
-    let i = c .before .loop .inv in
-    (omega arith, simp length-set (i .1), ap (λ (l : List ℕ). set l (c .before .loop .i) 0) (i .2) ∙ fill-more (c .before .loop .i) 0 (c .before .before .args .w .now) (omega arith))
+    let i = c .before .loop .inv in (
+      omega arith,
+      simp length-set (i .1),
+      ap (λ (l : List ℕ). set l (c .before .loop .i) 0) (i .2) ∙ fill-more (c .before .loop .i) 0 (c .before .before .args .w .now) (omega arith),
+    )
 
 same-length : tie.Need-same-length Inv-loop μ-loop
 same-length c = c .before .loop .inv .1

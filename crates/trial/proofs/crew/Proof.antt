@@ -49,10 +49,17 @@ loop-less c = search needs
 
 loop-again : tie.Need-loop-again Inv-loop μ-loop
 loop-again c =
-    let a = c .before .before .before .before .before .before .before .args in
-    let u = c .before .before .before .before .before .loop in
-    let e : c .record-at2 .result ≡ waiting (blockStart (a .setting .iterations) (a .setting .processors) (u .q)) = c .record-at2 .ensures ∙ ap waiting (c .before .block-start .ensures) in
-    (omega arith, simp length-set (u .inv .1), rw (add-one, e, c .before .before .index-of .ensures) (crew-more (u .ws) (u .q) (λ j. waiting (blockStart (a .setting .iterations) (a .setting .processors) j)) (omega arith) (u .inv .2)))
+    let c5 = c .before .before .before .before .before in
+    let c7 = c5 .before .before in
+    let a = c7 .args in
+    let u = c5 .loop in
+    let e : c .record-at2 .result ≡ waiting (blockStart (a .setting .iterations) (a .setting .processors) (u .q)) =
+    c .record-at2 .ensures ∙ ap waiting (c .before .block-start .ensures) in (
+      omega arith,
+      simp length-set (u .inv .1),
+      rw (add-one, e, c .before .before .index-of .ensures)
+          (crew-more (u .ws) (u .q) (λ j. waiting (blockStart (a .setting .iterations) (a .setting .processors) j)) (omega arith) (u .inv .2)),
+    )
 
 returns : tie.Need-returns Inv-loop μ-loop
 returns c =

@@ -12,7 +12,8 @@ use Rattle.rules.specs.Cells.{cellOf}
 use Rattle.rules.specs.Loop.{Loop}
 use Rattle.tables.proofs.Start.{Begun}
 use Rattle.trial.specs.Start.{Entry}
-use Rattle.trial.proofs.Starting.{entry-low, entry-class, entry-room, entry-clear, entry-more, entry-all}
+use Rattle.trial.proofs.StandingLaws.{suits-low}
+use Rattle.trial.proofs.Starting.{entry-size, entry-class, entry-room, entry-clear, entry-more, entry-all}
 use Rattle.trial.proofs.enter.Statement.{statement}
 use Rattle.trial.proofs.enter.Tie as tie
 
@@ -39,7 +40,7 @@ row-of-requires : tie.Need-row-of-requires Inv-loop μ-loop
 row-of-requires c κs =
     let a = c .before .before .before .before .before .before .before .before .args in
     let (l, h) = c .before .before .before .before .before .before .before .before .pre in
-    entry-low (a .processors) l (a .cells .now) (a .classes .now) (length (a .w .now)) h (c .before .loop .c) (c .loop-test .taken)
+    suits-low (h .suits) (entry-size (a .processors) l (a .cells .now) (a .classes .now) (length (a .w .now)) h) (c .before .loop .c) (c .loop-test .taken)
 
 mul-set-entry : tie.Need-mul-set-entry Inv-loop μ-loop
 mul-set-entry c = search needs
@@ -54,15 +55,23 @@ shared-slice-read-set-entry : tie.Need-shared-slice-read-set-entry Inv-loop μ-l
 shared-slice-read-set-entry c =
     let a = c .before .before .before .before .before .before .before .before .before .before .before .before .args in
     let (l, h) = c .before .before .before .before .before .before .before .before .before .before .before .before .pre in
-    entry-class (a .processors) l (a .cells .now) (a .classes .now) (length (a .w .now)) h (c .before .before .before .before .before .loop .c) (c .before .before .before .before .loop-test .taken) .0
+    entry-class (a .processors) l (a .cells .now) (a .classes .now) (length (a .w .now)) h (c .before .before .before .before .before .loop .c)
+    (c .before .before .before .before .loop-test .taken) .0
 
 set-entry-requires : tie.Need-set-entry-requires Inv-loop μ-loop
 set-entry-requires c κs =
     let a = c .before .before .before .before .before .before .before .before .before .before .before .before .args in
     let (l, h) = c .before .before .before .before .before .before .before .before .before .before .before .before .pre in
     let n : length (c .before .before .before .before .before .before .before .before .clear .last .0) ≡ length (a .w .now) = search needs in (
-      omega (arith, c .before .before .before .row-of .ensures, c .before .before .before .before .before .loop .inv .1, entry-room (a .processors) l (a .cells .now) (a .classes .now) (length (a .w .now)) h (c .before .before .before .before .before .loop .c) (c .before .before .before .before .loop-test .taken)),
-      entry-class (a .processors) l (a .cells .now) (a .classes .now) (length (a .w .now)) h (c .before .before .before .before .before .loop .c) (c .before .before .before .before .loop-test .taken) .1,
+      omega (
+        arith,
+        c .before .before .before .row-of .ensures,
+        c .before .before .before .before .before .loop .inv .1,
+        entry-room (a .processors) l (a .cells .now) (a .classes .now) (length (a .w .now)) h (c .before .before .before .before .before .loop .c)
+            (c .before .before .before .before .loop-test .taken),
+      ),
+      entry-class (a .processors) l (a .cells .now) (a .classes .now) (length (a .w .now)) h (c .before .before .before .before .before .loop .c)
+          (c .before .before .before .before .loop-test .taken) .1,
     )
 
 add-c : tie.Need-add-c Inv-loop μ-loop
@@ -74,13 +83,21 @@ loop-less c = search needs
 loop-again : tie.Need-loop-again Inv-loop μ-loop
 unfolding cellOf
 loop-again c =
-    let a = c .before .before .before .before .before .before .before .before .before .before .before .before .before .before .before .args in
-    let u = c .before .before .before .before .before .before .before .before .loop in
-    let n : length (c .before .before .before .before .before .before .before .before .before .before .before .clear .last .0) ≡ length (a .w .now) = search needs in
+    let c4 = c .before .before .before .before in
+    let c6 = c4 .before .before in
+    let c7 = c6 .before in
+    let c8 = c7 .before in
+    let c11 = c8 .before .before .before in
+    let c15 = c11 .before .before .before .before in
+    let a = c15 .args in
+    let u = c8 .loop in
+    let n : length (c11 .clear .last .0) ≡ length (a .w .now) = search needs in
     let e : toZ w32 (ofZ w32 (getD (a .cells .now) (u .c) (pos 0))) ≡ getD (a .cells .now) (u .c) (pos 0) = search needs in (
       omega arith,
       search needs,
-      λ l h. rw (add-one, c .before .before .set-entry .ensures, c .before .before .before .before .before .before .row-of .ensures, e) (entry-more (a .processors) l (a .cells .now) (a .classes .now) _ h (u .c) (u .w) (c .before .before .before .before .before .before .before .loop-test .taken) (record { sfits = c .before .before .before .before .set-entry-arg2 .given }) (u .inv .2 l h)),
+      λ l h. rw (add-one, c .before .before .set-entry .ensures, c6 .row-of .ensures, e)
+          (entry-more (a .processors) l (a .cells .now) (a .classes .now) _ h (u .c) (u .w) (c7 .loop-test .taken)
+          (record { sfits = c4 .set-entry-arg2 .given }) (u .inv .2 l h)),
     )
 
 same-length : tie.Need-same-length Inv-loop μ-loop
@@ -88,10 +105,13 @@ same-length c = search needs
 
 returns : tie.Need-returns Inv-loop μ-loop
 returns c =
-    let a = c .before .before .before .before .before .before .before .before .args in
+    let c4 = c .before .before .before .before in
+    let c8 = c4 .before .before .before .before in
+    let a = c8 .args in
     let u = c .before .loop in
-    let n : length (c .before .before .before .before .clear .last .0) ≡ length (a .w .now) = search needs in
-    λ l h. entry-all (a .processors) l (a .cells .now) (a .classes .now) (length (a .w .now)) h (u .c) (u .w) (omega (arith, u .inv .0, c .loop-test .left)) (u .inv .2 l (rw n h))
+    let n : length (c4 .clear .last .0) ≡ length (a .w .now) = search needs in
+    λ l h. entry-all (a .processors) l (a .cells .now) (a .classes .now) (length (a .w .now)) h (u .c) (u .w)
+    (omega (arith, u .inv .0, c .loop-test .left)) (u .inv .2 l (rw n h))
 
 pub enter-spec : {M : Type 1} → statement M
 enter-spec =

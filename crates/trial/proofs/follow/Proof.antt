@@ -20,7 +20,8 @@ Inv-loop code setting schedule cells₀ w₀ ws₀ j₀ cells w ws j =
     × (length cells ≡ length cells₀)
     × (length w ≡ length w₀)
     × (length ws ≡ 8)
-    × ((l : Loop) (s : State) → Run code setting l cells₀ w₀ ws₀ s → Run code setting l cells w ws (steps l (dealt l (setting .processors)) (take j schedule) s))
+    × ((l : Loop) (s : State) → Run code setting l cells₀ w₀ ws₀ s
+    → Run code setting l cells w ws (steps l (dealt l (setting .processors)) (take j schedule) s))
 
 abbrev μ-loop : tie.MeasureT-loop
 μ-loop code setting schedule cells₀ w₀ ws₀ j₀ cells w ws j = length schedule - j
@@ -55,17 +56,34 @@ turn-requires c κs =
     let a = c .before .before .before .before .before .before .before .before .before .before .args in
     let (l, s, r, n) = c .before .before .before .before .before .before .before .before .before .before .pre in
     let u = c .before .before .before .before .before .before .loop in
-    rw (c .before .before .before .index-of .ensures) (l, steps l (dealt l (a .setting .processors)) (take (u .j) (a .schedule .now)) s, run-turn (a .code .now) (a .setting) l (u .cells) (u .w) (u .ws) _ (getD (a .schedule .now) (u .j) 0) (u .inv .4 l s r) (n (u .j) (c .before .before .before .before .before .loop-test .taken)))
+    rw (c .before .before .before .index-of .ensures) (
+      l,
+      steps l (dealt l (a .setting .processors)) (take (u .j) (a .schedule .now)) s,
+      run-turn (a .code .now) (a .setting) l (u .cells) (u .w) (u .ws) _ (getD (a .schedule .now) (u .j) 0) (u .inv .4 l s r)
+          (n (u .j) (c .before .before .before .before .before .loop-test .taken)),
+    )
 
 mul-ws : tie.Need-mul-ws Inv-loop μ-loop
 mul-ws c =
     let (l, s, r, n) = c .before .before .before .before .before .before .before .before .before .before .before .before .before .before .pre in
-    omega (arith, n (c .before .before .before .before .before .before .before .before .before .before .loop .j) (c .before .before .before .before .before .before .before .before .before .loop-test .taken), r .running .standing .suits .most, c .before .before .before .before .before .before .before .index-of .ensures)
+    omega (
+      arith,
+      n (c .before .before .before .before .before .before .before .before .before .before .loop .j)
+          (c .before .before .before .before .before .before .before .before .before .loop-test .taken),
+      r .running .standing .suits .most,
+      c .before .before .before .before .before .before .before .index-of .ensures,
+    )
 
 array-set-from-ws : tie.Need-array-set-from-ws Inv-loop μ-loop
 array-set-from-ws c =
     let (l, s, r, n) = c .before .before .before .before .before .before .before .before .before .before .before .before .before .before .pre in
-    omega (arith, n (c .before .before .before .before .before .before .before .before .before .before .loop .j) (c .before .before .before .before .before .before .before .before .before .loop-test .taken), r .running .standing .suits .most, c .before .before .before .before .before .before .before .index-of .ensures)
+    omega (
+      arith,
+      n (c .before .before .before .before .before .before .before .before .before .before .loop .j)
+          (c .before .before .before .before .before .before .before .before .before .loop-test .taken),
+      r .running .standing .suits .most,
+      c .before .before .before .before .before .before .before .index-of .ensures,
+    )
 
 add-j : tie.Need-add-j Inv-loop μ-loop
 add-j c = search needs
@@ -86,9 +104,14 @@ loop-again c =
       search needs,
       simp length-set (u .inv .3),
       λ l s r.
-          rw (add-one, c .before .before .before .before .before .before .before .index-of .ensures, steps-more (a .code .now) (a .setting) l (a .schedule .now) (u .j) s lt)
+          rw (
+            add-one,
+            c .before .before .before .before .before .before .before .index-of .ensures,
+            steps-more (a .code .now) (a .setting) l (a .schedule .now) (u .j) s lt,
+          )
           (run-stepped (a .code .now) (a .setting) l (u .cells) (u .w) (u .ws) _ (getD (a .schedule .now) (u .j) 0) (u .inv .4 l s r) h _ _ _
-          (rw (c .before .before .before .before .before .before .before .index-of .ensures) at (c .before .before .before .turn .ensures) l _ (run-turn (a .code .now) (a .setting) l (u .cells) (u .w) (u .ws) _ (getD (a .schedule .now) (u .j) 0) (u .inv .4 l s r) b))),
+          (rw (c .before .before .before .before .before .before .before .index-of .ensures) at (c .before .before .before .turn .ensures) l _
+          (run-turn (a .code .now) (a .setting) l (u .cells) (u .w) (u .ws) _ (getD (a .schedule .now) (u .j) 0) (u .inv .4 l s r) b))),
     )
 
 same-length : tie.Need-same-length Inv-loop μ-loop

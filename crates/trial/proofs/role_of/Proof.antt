@@ -19,7 +19,9 @@ returns : tie.Need-returns
 returns c =
     let g = c .before .before .before .args .setting in
     let e : toZ w32 (ofZ w32 (g .from)) ≡ g .from = search needs in
-    rw e (ap (roleTo g (c .before .before .before .args .p .0)) (c .before .block-start .ensures ∙ ap (blockStart (g .iterations) (g .processors)) (add-one (c .before .before .before .args .p .0))))
+    rw e
+    (ap (roleTo g (c .before .before .before .args .p .0))
+    (c .before .block-start .ensures ∙ ap (blockStart (g .iterations) (g .processors)) (add-one (c .before .before .before .args .p .0))))
 
 pub role-of-spec : {M : Type 1} → statement M
 role-of-spec = tie.close (tie.spec add-t5 block-start-requires returns)

@@ -48,17 +48,32 @@ run-out-requires c κs =
     let a = c .before .before .before .before .before .before .before .before .before .args in
     let (l, s, r) = c .before .before .before .before .before .before .before .before .before .pre in
     let u = c .before .before .before .before .before .before .loop in
-    rw (c .before .before .before .index-of .ensures) (l, run-on l (dealt l (a .setting .processors)) (u .q) s, run-turn (a .code .now) (a .setting) l (u .cells) (u .w) (u .ws) (run-on l (dealt l (a .setting .processors)) (u .q) s) (u .q) (u .inv .4 l s r) (c .before .before .before .before .if1 .taken))
+    rw (c .before .before .before .index-of .ensures) (
+      l,
+      run-on l (dealt l (a .setting .processors)) (u .q) s,
+      run-turn (a .code .now) (a .setting) l (u .cells) (u .w) (u .ws) (run-on l (dealt l (a .setting .processors)) (u .q) s) (u .q)
+          (u .inv .4 l s r) (c .before .before .before .before .if1 .taken),
+    )
 
 mul-ws : tie.Need-mul-ws Inv-loop μ-loop
 mul-ws c =
     let (l, s, r) = c .before .before .before .before .before .before .before .before .before .before .before .before .before .pre in
-    omega (arith, c .before .before .before .before .before .before .before .before .if1 .taken, r .running .standing .suits .most, c .before .before .before .before .before .before .before .index-of .ensures)
+    omega (
+      arith,
+      c .before .before .before .before .before .before .before .before .if1 .taken,
+      r .running .standing .suits .most,
+      c .before .before .before .before .before .before .before .index-of .ensures,
+    )
 
 array-set-from-ws : tie.Need-array-set-from-ws Inv-loop μ-loop
 array-set-from-ws c =
     let (l, s, r) = c .before .before .before .before .before .before .before .before .before .before .before .before .before .pre in
-    omega (arith, c .before .before .before .before .before .before .before .before .if1 .taken, r .running .standing .suits .most, c .before .before .before .before .before .before .before .index-of .ensures)
+    omega (
+      arith,
+      c .before .before .before .before .before .before .before .before .if1 .taken,
+      r .running .standing .suits .most,
+      c .before .before .before .before .before .before .before .index-of .ensures,
+    )
 
 add-q : tie.Need-add-q Inv-loop μ-loop
 add-q c = search needs
@@ -81,9 +96,12 @@ loop-again c =
       λ l s r.
           let v = run-on l (dealt l (a .setting .processors)) (u .q) s in
           rw (add-one, c .before .before .before .before .before .before .before .index-of .ensures)
-          (run-moved (a .code .now) (a .setting) l (u .cells) (u .w) (u .ws) v (run-out l (dealt l (a .setting .processors)) (u .q) v) (u .q) (u .inv .4 l s r) h (λ j n. run-out-other l (dealt l (a .setting .processors)) (u .q) j n v) _ _ _
-          (rw (c .before .before .before .before .before .before .before .index-of .ensures) at (c .before .before .before .run-out .ensures .0) l v (run-turn (a .code .now) (a .setting) l (u .cells) (u .w) (u .ws) v (u .q) (u .inv .4 l s r) lt))),
-      rw (add-one, c .before .before .before .before .before .before .before .index-of .ensures) (over-more (a .setting) (u .ws) (u .q) _ h (u .inv .5) (c .before .before .before .run-out .ensures .1)),
+          (run-moved (a .code .now) (a .setting) l (u .cells) (u .w) (u .ws) v (run-out l (dealt l (a .setting .processors)) (u .q) v) (u .q)
+          (u .inv .4 l s r) h (λ j n. run-out-other l (dealt l (a .setting .processors)) (u .q) j n v) _ _ _
+          (rw (c .before .before .before .before .before .before .before .index-of .ensures) at (c .before .before .before .run-out .ensures .0) l v
+          (run-turn (a .code .now) (a .setting) l (u .cells) (u .w) (u .ws) v (u .q) (u .inv .4 l s r) lt))),
+      rw (add-one, c .before .before .before .before .before .before .before .index-of .ensures)
+          (over-more (a .setting) (u .ws) (u .q) _ h (u .inv .5) (c .before .before .before .run-out .ensures .1)),
     )
 
 same-length : tie.Need-same-length Inv-loop μ-loop

@@ -18,7 +18,11 @@ same-length-2 c = search needs
 
 returns : tie.Need-returns
 unfolding along
-returns c = c .before .before .before .carry .ensures (c .before .before .before .before .before .before .before .before .before .args .setting) (c .before .before .before .before .before .before .before .before .before .args .p .0) (c .before .before .before .before .before .before .role-of .ensures) .turns
+returns c =
+    let c3 = c .before .before .before in
+    let c6 = c3 .before .before .before in
+    let c9 = c6 .before .before .before in
+    c3 .carry .ensures (c9 .args .setting) (c9 .args .p .0) (c6 .role-of .ensures) .turns
 
 pub step-spec : {M : Type 1} → statement M
 step-spec = tie.close (tie.spec role-of-requires carry-requires same-length same-length-2 returns)

@@ -1,4 +1,5 @@
--- `trial::step_record` meets its contract: a walk of its MIR, by hand. The record's borrow is opened, the record is copied out and passed by value to `step` beside the other parameters, the record that it returns is stored whole, and the borrow is closed at it.
+-- `trial::step_record` meets its contract: a walk of its MIR, by hand. The record's borrow is opened, the record is copied out and passed by value to
+-- `step` beside the other parameters, the record that it returns is stored whole, and the borrow is closed at it.
 -- All that the proof knows of `step` is that it meets its contract. A `&mut` slice is given up to it for good; of what is shared a copy is kept.
 -- Assumes nothing.
 use mathlib.Core.Path.{_≡_, refl}
@@ -63,13 +64,27 @@ use Rattle.trial.proofs.step_record.Statement as stated
 use Rattle.trial.proofs.step_record.Code as code
 
 abbrev stayed : Stays (me.ended .signature .params) (me.ended .kept)
-stayed = (stay-ref (0 ∷ []) tt (plain (λ _. T.the-row)), (stay-none-slice (1 ∷ []) tt (plain (λ _. u32)) yes, (stay-none (λ _. Setting-T.the-row) yes, (stay-none (λ _. Processor-T.the-row) yes, (gave-slice (2 ∷ []) tt (plain (λ _. i32)), (gave-slice (3 ∷ []) tt (plain (λ _. u32)), tt))))))
+stayed = (
+  stay-ref (0 ∷ []) tt (plain (λ _. T.the-row)),
+  (
+    stay-none-slice (1 ∷ []) tt (plain (λ _. u32)) yes,
+    (
+      stay-none (λ _. Setting-T.the-row) yes,
+      (
+        stay-none (λ _. Processor-T.the-row) yes,
+        (gave-slice (2 ∷ []) tt (plain (λ _. i32)), (gave-slice (3 ∷ []) tt (plain (λ _. u32)), tt)),
+      ),
+    ),
+  ),
+)
 
 -- the contract that the proof cites
 abbrev Callee : {M : Type 1} (𝓤 : URA M) (H : Heap 𝓤) (A : Atoms 𝓤) (mem : Memory → SProp 𝓤) (run : Routine → Fun 𝓤) → Contract 𝓤
 Callee 𝓤 H A mem run = tripleOf 𝓤 H A callee.signature (callee.spec 𝓤 H A mem run)
 
-module _ {M : Type 1} (𝓤 : URA M) (H : Heap 𝓤) (A : Atoms 𝓤) (W : Given 𝓤 H A) (at-mem : Memory → SProp 𝓤) (run : Routine → Fun 𝓤) (κ κ1 κ4 κ5 : Lft) (q q1 q4 q5 : Share) (b o : ℕ) (γ : GName) (h : Worker) (p1 : RefT (List ℕ)) (p2 : Setting) (p3 : Processor) (p4 : RefT (List ℤ)) (p5 : RefT (List ℕ)) where
+module _ {M : Type 1} (𝓤 : URA M) (H : Heap 𝓤) (A : Atoms 𝓤) (W : Given 𝓤 H A) (at-mem : Memory → SProp 𝓤) (run : Routine → Fun 𝓤) (κ κ1 κ4 κ5 : Lft)
+    (q q1 q4 q5 : Share) (b o : ℕ) (γ : GName) (h : Worker) (p1 : RefT (List ℕ)) (p2 : Setting) (p3 : Processor) (p4 : RefT (List ℤ))
+    (p5 : RefT (List ℕ)) where
   abbrev κs : Lfts 4
   κs = (κ, (κ1, (κ4, (κ5, tt))))
 
@@ -123,66 +138,199 @@ module _ {M : Type 1} (𝓤 : URA M) (H : Heap 𝓤) (A : Atoms 𝓤) (W : Given
   abbrev to : Callee 𝓤 H A at-mem run .Ghost
   to = ((κs′, (q1, (q4, (q5, tt))), tt, args, passed), tt)
 
-  goes : HasTurn (p1 .now) p2 (p4 .now) (p5 .now) (p3 .0) h → ent 𝓤 (⋆ 𝓤 H A ((‵ (flft κ1 q1) ⊛ ‵ (flft κ4 q4) ⊛ ‵ (flft κ5 q5) ⊛ ‵ ftrue) ∷ ‵ (owns (T.the-row ∷ ShrSlice (named 0) κ1 u32 ∷ Setting-T.the-row ∷ Processor-T.the-row ∷ MutSlice (named 1) κ4 i32 ∷ MutSlice (named 2) κ5 u32 ∷ []) args passed) ∷ [])) (Callee 𝓤 H A at-mem run .pre to)
-  goes ok = qed W ((‵ (flft κ1 q1) ⊛ ‵ (flft κ4 q4) ⊛ ‵ (flft κ5 q5) ⊛ ‵ ftrue) ∷ ‵ (owns (T.the-row ∷ ShrSlice (named 0) κ1 u32 ∷ Setting-T.the-row ∷ Processor-T.the-row ∷ MutSlice (named 1) κ4 i32 ∷ MutSlice (named 2) κ5 u32 ∷ []) args passed) ∷ []) ∵ says ! ok $ frame ! $ done !
+  goes : HasTurn (p1 .now) p2 (p4 .now) (p5 .now) (p3 .0) h
+      → ent 𝓤
+      (⋆ 𝓤 H A
+      ((‵ (flft κ1 q1) ⊛ ‵ (flft κ4 q4) ⊛ ‵ (flft κ5 q5) ⊛ ‵ ftrue)
+      ∷ ‵ (owns
+      (T.the-row ∷ ShrSlice (named 0) κ1 u32 ∷ Setting-T.the-row ∷ Processor-T.the-row ∷ MutSlice (named 1) κ4 i32
+      ∷ MutSlice (named 2) κ5 u32 ∷ [])
+      args passed)
+      ∷ []))
+      (Callee 𝓤 H A at-mem run .pre to)
+  goes ok =
+      qed W
+      ((‵ (flft κ1 q1) ⊛ ‵ (flft κ4 q4) ⊛ ‵ (flft κ5 q5) ⊛ ‵ ftrue)
+      ∷ ‵ (owns
+      (T.the-row ∷ ShrSlice (named 0) κ1 u32 ∷ Setting-T.the-row ∷ Processor-T.the-row ∷ MutSlice (named 1) κ4 i32
+      ∷ MutSlice (named 2) κ5 u32 ∷ [])
+      args passed)
+      ∷ [])
+      ∵
+      says ! ok $ frame ! $ done !
 
   -- what the callee says of its result and of the last lists
   abbrev Said : Worker → List ℤ → List ℕ → Type 0
   Said r z4 z5 = TakesTurn (p1 .now) p2 (p4 .now) (p5 .now) (p3 .0) h z4 z5 r
 
-  module _ (p1-is : Is (ShrSlice (named 1) κ1 u32) p1 (p1-val ∷ [])) (p2-is : Is (Setting-T.the-row) p2 (p2-val ∷ [])) (p3-is : Is (Processor-T.the-row) p3 (p3-val ∷ [])) (p4-is : Is (MutSlice (named 2) κ4 i32) p4 (p4-val ∷ [])) (p5-is : Is (MutSlice (named 3) κ5 u32) p5 (p5-val ∷ [])) where
+  module _ (p1-is : Is (ShrSlice (named 1) κ1 u32) p1 (p1-val ∷ [])) (p2-is : Is (Setting-T.the-row) p2 (p2-val ∷ []))
+      (p3-is : Is (Processor-T.the-row) p3 (p3-val ∷ [])) (p4-is : Is (MutSlice (named 2) κ4 i32) p4 (p4-val ∷ []))
+      (p5-is : Is (MutSlice (named 3) κ5 u32) p5 (p5-val ∷ [])) where
     exits : (r : Worker) (z4 : List ℤ) (z5 : List ℕ) → Said r z4 z5 → length z4 ≡ length (p4 .now) → length z5 ≡ length (p5 .now)
-        → ent 𝓤 (⋆ 𝓤 H A (‵ (fobs γ (T.the-row .coded .code r)) ∷ ‵ (fbor κ (Body (mem T.the-row) b o γ)) ∷ ‵ (flft κ q) ∷ (‵ (flft κ1 q1) ⊛ ‵ (flft κ4 q4) ⊛ ‵ (flft κ5 q5) ⊛ ‵ ftrue) ∷ ‵ (finally i32 (p4 .name) z4) ∷ ‵ (finally u32 (p5 .name) z5) ∷ ‵ p1-own ∷ [])) (Post (vunit))
+        → ent 𝓤
+        (⋆ 𝓤 H A
+        (‵ (fobs γ (T.the-row .coded .code r)) ∷ ‵ (fbor κ (Body (mem T.the-row) b o γ)) ∷ ‵ (flft κ q)
+        ∷ (‵ (flft κ1 q1) ⊛ ‵ (flft κ4 q4) ⊛ ‵ (flft κ5 q5) ⊛ ‵ ftrue) ∷ ‵ (finally i32 (p4 .name) z4) ∷ ‵ (finally u32 (p5 .name) z5)
+        ∷ ‵ p1-own ∷ []))
+        (Post (vunit))
     exits r z4 z5 e l4 l5 =
-        qed W (‵ (fobs γ (T.the-row .coded .code r)) ∷ ‵ (fbor κ (Body (mem T.the-row) b o γ)) ∷ ‵ (flft κ q) ∷ (‵ (flft κ1 q1) ⊛ ‵ (flft κ4 q4) ⊛ ‵ (flft κ5 q5) ⊛ ‵ ftrue) ∷ ‵ (finally i32 (p4 .name) z4) ∷ ‵ (finally u32 (p5 .name) z5) ∷ ‵ p1-own ∷ []) ∵
-        suffices ! _ (ends-at 𝓤 H A me.ended stayed (me.clauses 𝓤 H A at-mem run) W ((κs, qs, tt, x, at), tt) (vunit) tt (r, (tt, (tt, (tt, (z4, (z5, tt)))))) (tt, (tt, (tt, (tt, (l4, (l5, tt))))))) $ says ! e $
-        move ! (2 ∷ 3 ∷ []) $ join ! $ frame ! $ feqI ! (List Val) (vptr b o ∷ []) (vptr b o ∷ []) refl $ fjoin3 ! $ nothing ! $ move ! (3 ∷ 0 ∷ []) $ fjoin ! $ move ! (2 ∷ 0 ∷ []) $ fjoin ! $ owned ! Processor-T.the-row (Is Processor-T.the-row) (LL.makes Processor-T.the-type Processor-L.the-plain 𝓤 H A) p3 _ p3-is $ fjoin ! $ owned ! Setting-T.the-row (Is Setting-T.the-row) (LL.makes Setting-T.the-type Setting-L.the-plain 𝓤 H A) p2 _ p2-is $ fjoin ! $ move ! (2 ∷ 0 ∷ []) $ fjoin ! $ move ! (1 ∷ 0 ∷ []) $ fjoin ! $ feqI ! (List Val) (vunit ∷ []) (vunit ∷ []) refl $ move ! (1 ∷ 0 ∷ []) $ done !
+        qed W
+        (‵ (fobs γ (T.the-row .coded .code r)) ∷ ‵ (fbor κ (Body (mem T.the-row) b o γ)) ∷ ‵ (flft κ q)
+        ∷ (‵ (flft κ1 q1) ⊛ ‵ (flft κ4 q4) ⊛ ‵ (flft κ5 q5) ⊛ ‵ ftrue) ∷ ‵ (finally i32 (p4 .name) z4) ∷ ‵ (finally u32 (p5 .name) z5)
+        ∷ ‵ p1-own ∷ [])
+        ∵
+        suffices ! _
+        (ends-at 𝓤 H A me.ended stayed (me.clauses 𝓤 H A at-mem run) W ((κs, qs, tt, x, at), tt) (vunit) tt (r, (tt, (tt, (tt, (z4, (z5, tt))))))
+        (tt, (tt, (tt, (tt, (l4, (l5, tt)))))))
+        $
+        says ! e $
+        move ! (2 ∷ 3 ∷ []) $ join ! $ frame ! $ feqI ! (List Val) (vptr b o ∷ []) (vptr b o ∷ []) refl $ fjoin3 ! $ nothing ! $ move ! (3 ∷ 0 ∷ []) $
+        fjoin ! $ move ! (2 ∷ 0 ∷ []) $ fjoin ! $
+        owned ! Processor-T.the-row (Is Processor-T.the-row) (LL.makes Processor-T.the-type Processor-L.the-plain 𝓤 H A) p3 _ p3-is $ fjoin ! $
+        owned ! Setting-T.the-row (Is Setting-T.the-row) (LL.makes Setting-T.the-type Setting-L.the-plain 𝓤 H A) p2 _ p2-is $ fjoin ! $
+        move ! (2 ∷ 0 ∷ []) $ fjoin ! $ move ! (1 ∷ 0 ∷ []) $ fjoin ! $ feqI ! (List Val) (vunit ∷ []) (vunit ∷ []) refl $ move ! (1 ∷ 0 ∷ []) $
+        done !
 
     module _ (C : Calls 𝓤 H) (Λ : Loops 𝓤 H) (fm : FmC 𝓤 H (W .laws) C) (known : Triple 𝓤 (C #callee) (Callee 𝓤 H A at-mem run)) where
-      walk : HasTurn (p1 .now) p2 (p4 .now) (p5 .now) (p3 .0) h → ent 𝓤 (onEntry 𝓤 H A me.signature κs qs x at) (WpFn 𝓤 H C Λ code.function (vptr b o ∷ p1-val ∷ p2-val ∷ p3-val ∷ p4-val ∷ p5-val ∷ []) Post)
+      walk : HasTurn (p1 .now) p2 (p4 .now) (p5 .now) (p3 .0) h
+          → ent 𝓤 (onEntry 𝓤 H A me.signature κs qs x at)
+          (WpFn 𝓤 H C Λ code.function (vptr b o ∷ p1-val ∷ p2-val ∷ p3-val ∷ p4-val ∷ p5-val ∷ []) Post)
       walk ok =
-          qed W ((‵ (flft κ q) ⊛ ‵ (flft κ1 q1) ⊛ ‵ (flft κ4 q4) ⊛ ‵ (flft κ5 q5) ⊛ ‵ ftrue) ∷ ‵ (owns (MutRef (named 0) κ T.the-row ∷ ShrSlice (named 1) κ1 u32 ∷ Setting-T.the-row ∷ Processor-T.the-row ∷ MutSlice (named 2) κ4 i32 ∷ MutSlice (named 3) κ5 u32 ∷ []) x at) ∷ []) ∵ enter ! C Λ code.function (vptr b o ∷ p1-val ∷ p2-val ∷ p3-val ∷ p4-val ∷ p5-val ∷ []) _ $
-          alloc1 ! (λ l0ₗ. alloc1 ! (λ l1ₗ. alloc1 ! (λ l2ₗ. alloc1 ! (λ l3ₗ. alloc1 ! (λ l4ₗ. alloc1 ! (λ l5ₗ. alloc1 ! (λ l6ₗ. alloc1 ! (λ l7ₗ. alloc1 ! (λ l8ₗ. alloc1 ! (λ l9ₗ. alloc1 ! (λ l10ₗ. alloc1 ! (λ l11ₗ. alloc1 ! (λ l12ₗ. alloc0 ! $ params1 ! $
-          pass1 ! (init ! 22 refl (tt, tt)) $ pass1 ! (init ! 20 refl (shr-slice-lawful 𝓤 H A W (named 1) κ1 u32 .typed p1 (p1-val ∷ []) p1-is .0)) $ pass1 ! (init ! 18 refl (LL.lawful Setting-T.the-type Setting-L.the-laws 𝓤 H A W .typed p2 _ p2-is .0)) $ pass1 ! (init ! 16 refl (LL.lawful Processor-T.the-type Processor-L.the-laws 𝓤 H A W .typed p3 _ p3-is .0)) $ pass1 ! (init ! 14 refl ((tt, (tt, (record { fits = p4-is .0 .1 .0 }, tt))))) $ pass1 ! (init ! 12 refl ((tt, (tt, (record { fits = p5-is .0 .1 .0 }, tt))))) $ pass0 ! $
+          qed W
+          ((‵ (flft κ q) ⊛ ‵ (flft κ1 q1) ⊛ ‵ (flft κ4 q4) ⊛ ‵ (flft κ5 q5) ⊛ ‵ ftrue)
+          ∷ ‵ (owns
+          (MutRef (named 0) κ T.the-row ∷ ShrSlice (named 1) κ1 u32 ∷ Setting-T.the-row ∷ Processor-T.the-row ∷ MutSlice (named 2) κ4 i32
+          ∷ MutSlice (named 3) κ5 u32 ∷ [])
+          x at)
+          ∷ [])
+          ∵
+          enter ! C Λ code.function (vptr b o ∷ p1-val ∷ p2-val ∷ p3-val ∷ p4-val ∷ p5-val ∷ []) _ $
+          alloc1 ! (λ l0ₗ. alloc1 ! (λ l1ₗ. alloc1 ! (λ l2ₗ. alloc1 ! (λ l3ₗ. alloc1 ! (λ l4ₗ. alloc1 !
+          (λ l5ₗ. alloc1 ! (λ l6ₗ. alloc1 ! (λ l7ₗ. alloc1 ! (λ l8ₗ. alloc1 ! (λ l9ₗ. alloc1 ! (λ l10ₗ. alloc1 !
+          (λ l11ₗ. alloc1 ! (λ l12ₗ. alloc0 ! $ params1 ! $
+          pass1 ! (init ! 22 refl (tt, tt)) $ pass1 ! (init ! 20 refl (shr-slice-lawful 𝓤 H A W (named 1) κ1 u32 .typed p1 (p1-val ∷ []) p1-is .0)) $
+          pass1 ! (init ! 18 refl (LL.lawful Setting-T.the-type Setting-L.the-laws 𝓤 H A W .typed p2 _ p2-is .0)) $
+          pass1 ! (init ! 16 refl (LL.lawful Processor-T.the-type Processor-L.the-laws 𝓤 H A W .typed p3 _ p3-is .0)) $
+          pass1 ! (init ! 14 refl ((tt, (tt, (record { fits = p4-is .0 .1 .0 }, tt))))) $
+          pass1 ! (init ! 12 refl ((tt, (tt, (record { fits = p5-is .0 .1 .0 }, tt))))) $ pass0 ! $
           -- what the parameters own is taken apart, and what is shared is had twice
-          move ! (27 ∷ []) $ fsplit ! $ fsplit3 ! $ drop ! $ move ! (2 ∷ []) $ fsplit ! $ use1 W (‵ p1-own ⊛ ‵ p1-own) (shr-slice-copy 𝓤 H A W (named 1) κ1 u32 .twice p1 (p1-val ∷ [])) $ split ! $ move ! (2 ∷ []) $ fsplit ! $ drop ! $ fsplit ! $ drop ! $ fsplit ! $ move ! (1 ∷ []) $ fsplit ! $ move ! (1 ∷ []) $ drop ! $ move ! (32 ∷ []) $ split ! $ move ! (6 ∷ 7 ∷ 0 ∷ []) $
+          move ! (27 ∷ []) $ fsplit ! $ fsplit3 ! $ drop ! $ move ! (2 ∷ []) $ fsplit ! $
+          use1 W (‵ p1-own ⊛ ‵ p1-own) (shr-slice-copy 𝓤 H A W (named 1) κ1 u32 .twice p1 (p1-val ∷ [])) $ split ! $ move ! (2 ∷ []) $ fsplit ! $
+          drop ! $ fsplit ! $ drop ! $ fsplit ! $ move ! (1 ∷ []) $ fsplit ! $ move ! (1 ∷ []) $ drop ! $ move ! (32 ∷ []) $ split ! $
+          move ! (6 ∷ 7 ∷ 0 ∷ []) $
           -- the record's borrow is opened
-          opens ! tt T.the-row {h = h} b o (λ vs. spelt ! T.the-row (Is T.the-row) (shows 𝓤 H A T.the-row) (LL.vals T.the-type T′.the-laws) (LL.tells T.the-type T′.the-laws) fullShare h vs b o $
+          opens ! tt T.the-row {h = h} b o (λ vs. spelt ! T.the-row (Is T.the-row) (shows 𝓤 H A T.the-row) (LL.vals T.the-type T′.the-laws)
+          (LL.tells T.the-type T′.the-laws) fullShare h vs b o $
           move ! (1 ∷ []) $ peeks ! T.the-row (Is T.the-row) (shows 𝓤 H A T.the-row) h (mach h ∷ []) (λ is. drop ! $
           -- [cell; obor; obs; auth; toks; o5; o4; o1; k1; _12; …; _11; …; _10; …; _9; …; _8; …; _7; …; _6; …; _5; …; _4; …; _3; …; _2; …; _1; …; _0; …]
-          assigns ! (of-opd ! (load ! (from ! (hop ! (look ! 31 refl) (stop !))) (look-raw ! 0 refl))) (from ! (stop !)) (init ! 17 refl (LL.lawful T.the-type T′.the-laws 𝓤 H A W .typed h _ is .0)) $
+          assigns ! (of-opd ! (load ! (from ! (hop ! (look ! 31 refl) (stop !))) (look-raw ! 0 refl))) (from ! (stop !))
+          (init ! 17 refl (LL.lawful T.the-type T′.the-laws 𝓤 H A W .typed h _ is .0)) $
           assigns ! (addr ! (from ! (fld ! refl (hop ! (look-in ! 23 (sub ! 0 refl (whole !))) (stop !))))) (from ! (stop !)) (init ! 15 refl (tt, tt)) $
-          assigns ! (agg ! (and-then ! (load ! (from ! (stop !)) (look ! 15 refl)) (and-then ! (load ! (from ! (fld ! refl (stop !))) (look-in ! 23 (sub ! 1 refl (whole !)))) (no-more !)))) (from ! (stop !)) (init ! 13 refl (tt, (tt, (record { fits = p4-is .0 .1 .0 }, tt)))) $
+          assigns !
+          (agg !
+          (and-then ! (load ! (from ! (stop !)) (look ! 15 refl))
+          (and-then ! (load ! (from ! (fld ! refl (stop !))) (look-in ! 23 (sub ! 1 refl (whole !)))) (no-more !))))
+          (from ! (stop !)) (init ! 13 refl (tt, (tt, (record { fits = p4-is .0 .1 .0 }, tt)))) $
           assigns ! (addr ! (from ! (fld ! refl (hop ! (look-in ! 21 (sub ! 0 refl (whole !))) (stop !))))) (from ! (stop !)) (init ! 11 refl (tt, tt)) $
-          assigns ! (agg ! (and-then ! (load ! (from ! (stop !)) (look ! 11 refl)) (and-then ! (load ! (from ! (fld ! refl (stop !))) (look-in ! 21 (sub ! 1 refl (whole !)))) (no-more !)))) (from ! (stop !)) (init ! 9 refl (tt, (tt, (record { fits = p5-is .0 .1 .0 }, tt)))) $
+          assigns !
+          (agg !
+          (and-then ! (load ! (from ! (stop !)) (look ! 11 refl))
+          (and-then ! (load ! (from ! (fld ! refl (stop !))) (look-in ! 21 (sub ! 1 refl (whole !)))) (no-more !))))
+          (from ! (stop !)) (init ! 9 refl (tt, (tt, (record { fits = p5-is .0 .1 .0 }, tt)))) $
           -- the call
-          nothing ! $ move ! (6 ∷ 0 ∷ []) $ fjoin ! $ move ! (6 ∷ 0 ∷ []) $ fjoin ! $ owned ! Processor-T.the-row (Is Processor-T.the-row) (LL.makes Processor-T.the-type Processor-L.the-plain 𝓤 H A) p3 _ p3-is $ fjoin ! $ owned ! Setting-T.the-row (Is Setting-T.the-row) (LL.makes Setting-T.the-type Setting-L.the-plain 𝓤 H A) p2 _ p2-is $ fjoin ! $ move ! (6 ∷ 0 ∷ []) $ fjoin ! $ owned ! T.the-row (Is T.the-row) (LL.makes T.the-type T′.the-plain 𝓤 H A) h _ is $ fjoin ! $ move ! (5 ∷ 0 ∷ []) $ use2 W (raw (Callee 𝓤 H A at-mem run .pre to)) (goes ok) $
-          calls-at ! fm (Callee 𝓤 H A at-mem run) known to (and-then ! (load ! (from ! (stop !)) (look ! 14 refl)) (and-then ! (load ! (from ! (stop !)) (look ! 26 refl)) (and-then ! (load ! (from ! (stop !)) (look ! 24 refl)) (and-then ! (load ! (from ! (stop !)) (look ! 22 refl)) (and-then ! (load ! (from ! (stop !)) (look ! 10 refl)) (and-then ! (load ! (from ! (stop !)) (look ! 6 refl)) (no-more !))))))) (λ u.
-          use1 W (later (some (λ (r : Worker). ((‵ (flft κ1 q1) ⊛ ‵ (flft κ4 q4) ⊛ ‵ (flft κ5 q5) ⊛ ‵ ftrue) ⊛ ‵ (T.the-row .own r (u ∷ []))) ⊛ raw (ensured 𝓤 H A callee.ended (callee.clauses 𝓤 H A at-mem run) κs′ args tt r)))) (id⊢ 𝓤 _) $ await ! tt $ pick ! (λ r.
-          split ! $ move ! (1 ∷ []) $ use1 W (some (λ (zs : Lasts callee.ended κs′ args). ‵ (lasts callee.ended κs′ args zs) ⊛ raw (fact 𝓤 (Said r (zs .1 .1 .1 .1 .0) (zs .1 .1 .1 .1 .1 .0))))) (id⊢ 𝓤 _) $ pick ! (λ zs.
-          split ! $ move ! (1 ∷ []) $ heard ! (Said r (zs .1 .1 .1 .1 .0) (zs .1 .1 .1 .1 .1 .0)) (λ e. fsplit ! $ drop ! $ fsplit ! $ drop ! $ fsplit ! $ drop ! $ fsplit ! $ drop ! $ fsplit ! $ fsplit ! $ move ! (1 ∷ []) $ feqL ! (λ l4. move ! (1 ∷ []) $ fsplit ! $ fsplit ! $ move ! (1 ∷ []) $ feqL ! (λ l5. move ! (1 ∷ []) $ drop ! $
+          nothing ! $ move ! (6 ∷ 0 ∷ []) $ fjoin ! $ move ! (6 ∷ 0 ∷ []) $ fjoin ! $
+          owned ! Processor-T.the-row (Is Processor-T.the-row) (LL.makes Processor-T.the-type Processor-L.the-plain 𝓤 H A) p3 _ p3-is $ fjoin ! $
+          owned ! Setting-T.the-row (Is Setting-T.the-row) (LL.makes Setting-T.the-type Setting-L.the-plain 𝓤 H A) p2 _ p2-is $ fjoin ! $
+          move ! (6 ∷ 0 ∷ []) $ fjoin ! $ owned ! T.the-row (Is T.the-row) (LL.makes T.the-type T′.the-plain 𝓤 H A) h _ is $ fjoin ! $
+          move ! (5 ∷ 0 ∷ []) $ use2 W (raw (Callee 𝓤 H A at-mem run .pre to)) (goes ok) $
+          calls-at ! fm (Callee 𝓤 H A at-mem run) known to
+          (and-then ! (load ! (from ! (stop !)) (look ! 14 refl))
+          (and-then ! (load ! (from ! (stop !)) (look ! 26 refl))
+          (and-then ! (load ! (from ! (stop !)) (look ! 24 refl))
+          (and-then ! (load ! (from ! (stop !)) (look ! 22 refl))
+          (and-then ! (load ! (from ! (stop !)) (look ! 10 refl))
+          (and-then ! (load ! (from ! (stop !)) (look ! 6 refl)) (no-more !)))))))
+          (λ u.
+          use1 W
+          (later (some (λ (r : Worker). ((‵ (flft κ1 q1) ⊛ ‵ (flft κ4 q4) ⊛ ‵ (flft κ5 q5) ⊛ ‵ ftrue) ⊛ ‵ (T.the-row .own r (u ∷ [])))
+          ⊛ raw (ensured 𝓤 H A callee.ended (callee.clauses 𝓤 H A at-mem run) κs′ args tt r))))
+          (id⊢ 𝓤 _) $
+          await ! tt $ pick ! (λ r.
+          split ! $ move ! (1 ∷ []) $
+          use1 W
+          (some (λ (zs : Lasts callee.ended κs′ args). ‵ (lasts callee.ended κs′ args zs)
+          ⊛ raw (fact 𝓤 (Said r (zs .1 .1 .1 .1 .0) (zs .1 .1 .1 .1 .1 .0)))))
+          (id⊢ 𝓤 _) $
+          pick ! (λ zs.
+          split ! $ move ! (1 ∷ []) $
+          heard ! (Said r (zs .1 .1 .1 .1 .0) (zs .1 .1 .1 .1 .1 .0))
+          (λ e. fsplit ! $ drop ! $ fsplit ! $ drop ! $ fsplit ! $ drop ! $ fsplit ! $ drop ! $ fsplit ! $ fsplit ! $ move ! (1 ∷ []) $
+          feqL ! (λ l4. move ! (1 ∷ []) $ fsplit ! $ fsplit ! $ move ! (1 ∷ []) $ feqL ! (λ l5. move ! (1 ∷ []) $ drop ! $
           move ! (2 ∷ []) $ split ! $ move ! (1 ∷ []) $ peeks ! T.the-row (Is T.the-row) (shows 𝓤 H A T.the-row) r (u ∷ []) (λ is′.
           land ! (from ! (stop !)) (init ! 19 refl (LL.lawful T.the-type T′.the-laws 𝓤 H A W .typed r _ is′ .0)) $
           -- [r; toks; f5; f4; cell; obor; obs; auth; k1; _12; …; _11; …; _10; …; _9; …; _8; …; _7; …; _6; …; _5; …; _4; …; _3; …; _2; …; _1; …; _0; …]
-          assigns ! (of-opd ! (load ! (from ! (stop !)) (look ! 19 refl))) (from ! (hop ! (look ! 31 refl) (stop !))) (store-raw ! 4 refl (LL.lawful T.the-type T′.the-laws 𝓤 H A W .typed r _ is′ .0)) $
+          assigns ! (of-opd ! (load ! (from ! (stop !)) (look ! 19 refl))) (from ! (hop ! (look ! 31 refl) (stop !)))
+          (store-raw ! 4 refl (LL.lawful T.the-type T′.the-laws 𝓤 H A W .typed r _ is′ .0)) $
           assigns ! (of-opd ! (unit-lit !)) (from ! (stop !)) (init ! 33 refl (tt, tt)) $
           -- the borrow is closed at the new record
           move ! (4 ∷ 0 ∷ 5 ∷ 6 ∷ 7 ∷ []) $ closes ! tt T.the-row r (u ∷ []) b o $
-          returns ! (look ! 31 refl) $ forget ! 7 refl $ forget ! 9 refl $ forget ! 11 refl $ forget ! 13 refl $ forget ! 15 refl $ forget ! 17 refl $ forget ! 19 refl $ forget ! 21 refl $ forget ! 23 refl $ forget ! 25 refl $ forget ! 27 refl $ forget ! 29 refl $ forget ! 31 refl $
-          move ! (31 ∷ 32 ∷ []) $ free1 ! $ move ! (29 ∷ 30 ∷ []) $ free1 ! $ move ! (27 ∷ 28 ∷ []) $ free1 ! $ move ! (25 ∷ 26 ∷ []) $ free1 ! $ move ! (23 ∷ 24 ∷ []) $ free1 ! $ move ! (21 ∷ 22 ∷ []) $ free1 ! $ move ! (19 ∷ 20 ∷ []) $ free1 ! $ move ! (17 ∷ 18 ∷ []) $ free1 ! $ move ! (15 ∷ 16 ∷ []) $ free1 ! $ move ! (13 ∷ 14 ∷ []) $ free1 ! $ move ! (11 ∷ 12 ∷ []) $ free1 ! $ move ! (9 ∷ 10 ∷ []) $ free1 ! $ move ! (7 ∷ 8 ∷ []) $ free1 ! $ free0 ! $
+          returns ! (look ! 31 refl) $ forget ! 7 refl $ forget ! 9 refl $ forget ! 11 refl $ forget ! 13 refl $ forget ! 15 refl $ forget ! 17 refl $
+          forget ! 19 refl $ forget ! 21 refl $ forget ! 23 refl $ forget ! 25 refl $ forget ! 27 refl $ forget ! 29 refl $ forget ! 31 refl $
+          move ! (31 ∷ 32 ∷ []) $ free1 ! $ move ! (29 ∷ 30 ∷ []) $ free1 ! $ move ! (27 ∷ 28 ∷ []) $ free1 ! $ move ! (25 ∷ 26 ∷ []) $ free1 ! $
+          move ! (23 ∷ 24 ∷ []) $ free1 ! $ move ! (21 ∷ 22 ∷ []) $ free1 ! $ move ! (19 ∷ 20 ∷ []) $ free1 ! $ move ! (17 ∷ 18 ∷ []) $ free1 ! $
+          move ! (15 ∷ 16 ∷ []) $ free1 ! $ move ! (13 ∷ 14 ∷ []) $ free1 ! $ move ! (11 ∷ 12 ∷ []) $ free1 ! $ move ! (9 ∷ 10 ∷ []) $ free1 ! $
+          move ! (7 ∷ 8 ∷ []) $ free1 ! $ free0 ! $
           keep ! (0 ∷ 1 ∷ 2 ∷ 3 ∷ 5 ∷ 4 ∷ 6 ∷ []) $ by ! (exits r (zs .1 .1 .1 .1 .0) (zs .1 .1 .1 .1 .1 .0) e l4 l5)))))))))))))))))))))))
 
 module _ {M : Type 1} (𝓤 : URA M) (H : Heap 𝓤) (A : Atoms 𝓤) (W : Given 𝓤 H A) (mem : Memory → SProp 𝓤) (run : Routine → Fun 𝓤) where
-  step-record-walks : (C : Calls 𝓤 H) (Λ : Loops 𝓤 H) → FmC 𝓤 H (W .laws) C → Triple 𝓤 (C #callee) (Callee 𝓤 H A mem run) → Walks 𝓤 H A me.ended stayed (WpFn 𝓤 H C Λ code.function) (me.clauses 𝓤 H A mem run)
+  step-record-walks : (C : Calls 𝓤 H) (Λ : Loops 𝓤 H) → FmC 𝓤 H (W .laws) C → Triple 𝓤 (C #callee) (Callee 𝓤 H A mem run)
+      → Walks 𝓤 H A me.ended stayed (WpFn 𝓤 H C Λ code.function) (me.clauses 𝓤 H A mem run)
   step-record-walks C Λ fm known = walked 𝓤 H A me.ended stayed (me.clauses 𝓤 H A mem run) (WpFn 𝓤 H C Λ code.function)
-      (λ κs. (ptr-vals, (slice-vals, (LL.vals Setting-T.the-type Setting-L.the-laws, (LL.vals Processor-T.the-type Processor-L.the-laws, (slice-vals, (slice-vals, tt))))))) (λ κs. (mut-tells (named 0) (κs .0) T.the-row, (shr-slice-tells (named 1) (κs .1 .0) u32, (LL.tells Setting-T.the-type Setting-L.the-laws, (LL.tells Processor-T.the-type Processor-L.the-laws, (mut-slice-tells (named 2) (κs .1 .1 .0) i32, (mut-slice-tells (named 3) (κs .1 .1 .1 .0) u32, tt)))))))
-      (λ κs qs bounds a _ are. needs 𝓤 _ _ (walk 𝓤 H A W mem run (κs .0) (κs .1 .0) (κs .1 .1 .0) (κs .1 .1 .1 .0) (qs .0) (qs .1 .0) (qs .1 .1 .0) (qs .1 .1 .1 .0) (a .0 .ptr .0) (a .0 .ptr .1) (a .0 .name) (a .0 .now) (a .1 .0) (a .1 .1 .0) (a .1 .1 .1 .0) (a .1 .1 .1 .1 .0) (a .1 .1 .1 .1 .1 .0) (are .1 .0) (are .1 .1 .0) (are .1 .1 .1 .0) (are .1 .1 .1 .1 .0) (are .1 .1 .1 .1 .1 .0) C Λ fm known))
+      (λ κs. (
+        ptr-vals,
+        (
+          slice-vals,
+          (LL.vals Setting-T.the-type Setting-L.the-laws, (LL.vals Processor-T.the-type Processor-L.the-laws, (slice-vals, (slice-vals, tt)))),
+        ),
+      ))
+      (λ κs. (
+        mut-tells (named 0) (κs .0) T.the-row,
+        (
+          shr-slice-tells (named 1) (κs .1 .0) u32,
+          (
+            LL.tells Setting-T.the-type Setting-L.the-laws,
+            (
+              LL.tells Processor-T.the-type Processor-L.the-laws,
+              (mut-slice-tells (named 2) (κs .1 .1 .0) i32, (mut-slice-tells (named 3) (κs .1 .1 .1 .0) u32, tt)),
+            ),
+          ),
+        ),
+      ))
+      (λ κs qs bounds a _ are. needs 𝓤 _ _
+      (walk 𝓤 H A W mem run (κs .0) (κs .1 .0) (κs .1 .1 .0) (κs .1 .1 .1 .0) (qs .0) (qs .1 .0) (qs .1 .1 .0) (qs .1 .1 .1 .0) (a .0 .ptr .0)
+      (a .0 .ptr .1) (a .0 .name) (a .0 .now) (a .1 .0) (a .1 .1 .0) (a .1 .1 .1 .0) (a .1 .1 .1 .1 .0) (a .1 .1 .1 .1 .1 .0) (are .1 .0)
+      (are .1 .1 .0) (are .1 .1 .1 .0) (are .1 .1 .1 .1 .0) (are .1 .1 .1 .1 .1 .0) C Λ fm known))
 
-step-record-meets : {M : Type 1} (𝓤 : URA M) (H : Heap 𝓤) (A : Atoms 𝓤) → Given 𝓤 H A → (mem : Memory → SProp 𝓤) (run : Routine → Fun 𝓤) (𝓣 : Tables 𝓤 H) → Triple 𝓤 (𝓣 .C #callee) (Callee 𝓤 H A mem run)
+step-record-meets : {M : Type 1} (𝓤 : URA M) (H : Heap 𝓤) (A : Atoms 𝓤) → Given 𝓤 H A
+    → (mem : Memory → SProp 𝓤) (run : Routine → Fun 𝓤) (𝓣 : Tables 𝓤 H) → Triple 𝓤 (𝓣 .C #callee) (Callee 𝓤 H A mem run)
     → Meets 𝓤 H A me.signature (WpFn 𝓤 H (𝓣 .C) (𝓣 .Λ) code.function) (me.spec 𝓤 H A mem run)
 step-record-meets 𝓤 H A W mem run 𝓣 known =
-    walk-meets 𝓤 H A me.ended stayed W (goes-ref 𝓤 H A W 4 0 tt (plain (λ _. T.the-row)), (goes-none-slice 𝓤 H A W 4 (1 ∷ []) tt (plain (λ _. u32)) yes, (goes-none 𝓤 H A W 4 (λ _. Setting-T.the-row) yes (λ κs x f. refl), (goes-none 𝓤 H A W 4 (λ _. Processor-T.the-row) yes (λ κs x f. refl), (goes-gave-slice 𝓤 H A W 4 2 tt (plain (λ _. i32)), (goes-gave-slice 𝓤 H A W 4 3 tt (plain (λ _. u32)), tt)))))) (me.clauses 𝓤 H A mem run)
-    (WpFn 𝓤 H (𝓣 .C) (𝓣 .Λ) code.function) (WpFn-mono 𝓤 H (W .laws) 𝓣 code.function) (step-record-walks 𝓤 H A W mem run (𝓣 .C) (𝓣 .Λ) (fmOf 𝓤 H (W .laws) 𝓣) known)
+    walk-meets 𝓤 H A me.ended stayed W (
+      goes-ref 𝓤 H A W 4 0 tt (plain (λ _. T.the-row)),
+      (
+        goes-none-slice 𝓤 H A W 4 (1 ∷ []) tt (plain (λ _. u32)) yes,
+        (
+          goes-none 𝓤 H A W 4 (λ _. Setting-T.the-row) yes (λ κs x f. refl),
+          (
+            goes-none 𝓤 H A W 4 (λ _. Processor-T.the-row) yes (λ κs x f. refl),
+            (goes-gave-slice 𝓤 H A W 4 2 tt (plain (λ _. i32)), (goes-gave-slice 𝓤 H A W 4 3 tt (plain (λ _. u32)), tt)),
+          ),
+        ),
+      ),
+    )
+    (me.clauses 𝓤 H A mem run)
+    (WpFn 𝓤 H (𝓣 .C) (𝓣 .Λ) code.function) (WpFn-mono 𝓤 H (W .laws) 𝓣 code.function)
+    (step-record-walks 𝓤 H A W mem run (𝓣 .C) (𝓣 .Λ) (fmOf 𝓤 H (W .laws) 𝓣) known)
 
 pub step-record-spec : {M : Type 1} → stated.statement M
 unfolding code.routine tablesOf

@@ -18,8 +18,13 @@ follow-requires c κs =
 run-on-requires : tie.Need-run-on-requires
 run-on-requires c κs =
     let a = c .before .before .before .before .before .before .before .before .before .before .before .before .before .before .before .before .before .args in
-    let (l, h, n) = c .before .before .before .before .before .before .before .before .before .before .before .before .before .before .before .before .before .pre in
-    (l, steps l (dealt l (a .setting .processors)) (a .schedule .now) (start l (dealt l (a .setting .processors))), c .before .before .before .before .before .follow .ensures l (start l (dealt l (a .setting .processors))) (c .before .before .before .before .before .before .before .before .before .before .begin .ensures (a .code .now) l h))
+    let (l, h, n) =
+    c .before .before .before .before .before .before .before .before .before .before .before .before .before .before .before .before .before .pre in (
+      l,
+      steps l (dealt l (a .setting .processors)) (a .schedule .now) (start l (dealt l (a .setting .processors))),
+      c .before .before .before .before .before .follow .ensures l (start l (dealt l (a .setting .processors)))
+          (c .before .before .before .before .before .before .before .before .before .before .begin .ensures (a .code .now) l h),
+    )
 
 same-length : tie.Need-same-length
 same-length c = search needs
@@ -30,11 +35,16 @@ same-length-2 c = search needs
 returns : tie.Need-returns
 unfolding trial singles
 returns c =
-    let a = c .before .before .before .before .before .before .before .before .before .before .before .before .before .before .before .before .before .before .before .before .before .args in
-    let u = c .before .before .before .run-on in
-    let f = c .before .before .before .before .before .before .before .before .before .follow in
-    let b = c .before .before .before .before .before .before .before .before .before .before .before .before .before .before .begin in (
-      λ l h. u .ensures .0 l (steps l (dealt l (a .setting .processors)) (a .schedule .now) (start l (dealt l (a .setting .processors)))) (f .ensures l (start l (dealt l (a .setting .processors))) (b .ensures (a .code .now) l h)),
+    let c3 = c .before .before .before in
+    let c9 = c3 .before .before .before .before .before .before in
+    let c14 = c9 .before .before .before .before .before in
+    let c21 = c14 .before .before .before .before .before .before .before in
+    let a = c21 .args in
+    let u = c3 .run-on in
+    let f = c9 .follow in
+    let b = c14 .begin in (
+      λ l h. u .ensures .0 l (steps l (dealt l (a .setting .processors)) (a .schedule .now) (start l (dealt l (a .setting .processors))))
+          (f .ensures l (start l (dealt l (a .setting .processors))) (b .ensures (a .code .now) l h)),
       u .ensures .1,
     )
 

@@ -1,4 +1,5 @@
--- `trial::turn` meets its contract: a walk of its MIR, by hand. The record is copied into a local, which is lent to `step_record` for a lifetime that is made for the call, and comes back at the last value that `step_record` says (`Local.antt`, `denote.Lend`).
+-- `trial::turn` meets its contract: a walk of its MIR, by hand. The record is copied into a local, which is lent to `step_record` for a lifetime that
+-- is made for the call, and comes back at the last value that `step_record` says (`Local.antt`, `denote.Lend`).
 -- All that the proof knows of `step_record` is that it meets its contract. A `&mut` slice is given up to it for good; of what is shared a copy is kept.
 -- Assumes nothing.
 use mathlib.Core.Path.{_≡_, refl}
@@ -65,13 +66,26 @@ use Rattle.trial.proofs.turn.Statement as stated
 use Rattle.trial.proofs.turn.Code as code
 
 abbrev stayed : Stays (me.ended .signature .params) (me.ended .kept)
-stayed = (stay-none (λ _. T.the-row) yes, (stay-none-slice (0 ∷ []) tt (plain (λ _. u32)) yes, (stay-none (λ _. Setting-T.the-row) yes, (stay-none (λ _. Processor-T.the-row) yes, (gave-slice (1 ∷ []) tt (plain (λ _. i32)), (gave-slice (2 ∷ []) tt (plain (λ _. u32)), tt))))))
+stayed = (
+  stay-none (λ _. T.the-row) yes,
+  (
+    stay-none-slice (0 ∷ []) tt (plain (λ _. u32)) yes,
+    (
+      stay-none (λ _. Setting-T.the-row) yes,
+      (
+        stay-none (λ _. Processor-T.the-row) yes,
+        (gave-slice (1 ∷ []) tt (plain (λ _. i32)), (gave-slice (2 ∷ []) tt (plain (λ _. u32)), tt)),
+      ),
+    ),
+  ),
+)
 
 -- the contract that the proof cites
 abbrev Callee : {M : Type 1} (𝓤 : URA M) (H : Heap 𝓤) (A : Atoms 𝓤) (mem : Memory → SProp 𝓤) (run : Routine → Fun 𝓤) → Contract 𝓤
 Callee 𝓤 H A mem run = tripleOf 𝓤 H A callee.signature (callee.spec 𝓤 H A mem run)
 
-module _ {M : Type 1} (𝓤 : URA M) (H : Heap 𝓤) (A : Atoms 𝓤) (W : Given 𝓤 H A) (at-mem : Memory → SProp 𝓤) (run : Routine → Fun 𝓤) (κ1 κ4 κ5 : Lft) (q1 q4 q5 : Share) (h : Worker) (p1 : RefT (List ℕ)) (p2 : Setting) (p3 : Processor) (p4 : RefT (List ℤ)) (p5 : RefT (List ℕ)) where
+module _ {M : Type 1} (𝓤 : URA M) (H : Heap 𝓤) (A : Atoms 𝓤) (W : Given 𝓤 H A) (at-mem : Memory → SProp 𝓤) (run : Routine → Fun 𝓤) (κ1 κ4 κ5 : Lft)
+    (q1 q4 q5 : Share) (h : Worker) (p1 : RefT (List ℕ)) (p2 : Setting) (p3 : Processor) (p4 : RefT (List ℤ)) (p5 : RefT (List ℕ)) where
   abbrev κs : Lfts 3
   κs = (κ1, (κ4, (κ5, tt)))
 
@@ -128,67 +142,199 @@ module _ {M : Type 1} (𝓤 : URA M) (H : Heap 𝓤) (A : Atoms 𝓤) (W : Given
   abbrev to : ℕ → ℕ → GName → Callee 𝓤 H A at-mem run .Ghost
   to ν l δ = ((κs′ ν, (fullShare, (q1, (q4, (q5, tt)))), tt, args ν l δ, passed ν l), tt)
 
-  goes : (ν l : ℕ) (δ : GName) → HasTurn (p1 .now) p2 (p4 .now) (p5 .now) (p3 .0) h → ent 𝓤 (⋆ 𝓤 H A ((‵ (flft (ν ∷ []) fullShare) ⊛ ‵ (flft κ1 q1) ⊛ ‵ (flft κ4 q4) ⊛ ‵ (flft κ5 q5) ⊛ ‵ ftrue) ∷ ‵ (owns (MutRef (named 0) (ν ∷ []) T.the-row ∷ ShrSlice (named 1) κ1 u32 ∷ Setting-T.the-row ∷ Processor-T.the-row ∷ MutSlice (named 2) κ4 i32 ∷ MutSlice (named 3) κ5 u32 ∷ []) (args ν l δ) (passed ν l)) ∷ [])) (Callee 𝓤 H A at-mem run .pre (to ν l δ))
-  goes ν l δ ok = qed W ((‵ (flft (ν ∷ []) fullShare) ⊛ ‵ (flft κ1 q1) ⊛ ‵ (flft κ4 q4) ⊛ ‵ (flft κ5 q5) ⊛ ‵ ftrue) ∷ ‵ (owns (MutRef (named 0) (ν ∷ []) T.the-row ∷ ShrSlice (named 1) κ1 u32 ∷ Setting-T.the-row ∷ Processor-T.the-row ∷ MutSlice (named 2) κ4 i32 ∷ MutSlice (named 3) κ5 u32 ∷ []) (args ν l δ) (passed ν l)) ∷ []) ∵ says ! ok $ frame ! $ done !
+  goes : (ν l : ℕ) (δ : GName) → HasTurn (p1 .now) p2 (p4 .now) (p5 .now) (p3 .0) h
+      → ent 𝓤
+      (⋆ 𝓤 H A
+      ((‵ (flft (ν ∷ []) fullShare) ⊛ ‵ (flft κ1 q1) ⊛ ‵ (flft κ4 q4) ⊛ ‵ (flft κ5 q5) ⊛ ‵ ftrue)
+      ∷ ‵ (owns
+      (MutRef (named 0) (ν ∷ []) T.the-row ∷ ShrSlice (named 1) κ1 u32 ∷ Setting-T.the-row ∷ Processor-T.the-row
+      ∷ MutSlice (named 2) κ4 i32 ∷ MutSlice (named 3) κ5 u32 ∷ [])
+      (args ν l δ) (passed ν l))
+      ∷ []))
+      (Callee 𝓤 H A at-mem run .pre (to ν l δ))
+  goes ν l δ ok =
+      qed W
+      ((‵ (flft (ν ∷ []) fullShare) ⊛ ‵ (flft κ1 q1) ⊛ ‵ (flft κ4 q4) ⊛ ‵ (flft κ5 q5) ⊛ ‵ ftrue)
+      ∷ ‵ (owns
+      (MutRef (named 0) (ν ∷ []) T.the-row ∷ ShrSlice (named 1) κ1 u32 ∷ Setting-T.the-row ∷ Processor-T.the-row
+      ∷ MutSlice (named 2) κ4 i32 ∷ MutSlice (named 3) κ5 u32 ∷ [])
+      (args ν l δ) (passed ν l))
+      ∷ [])
+      ∵
+      says ! ok $ frame ! $ done !
 
   -- what the callee says of its result and of the last lists
   abbrev Said : Worker → List ℤ → List ℕ → Type 0
   Said r z4 z5 = TakesTurn (p1 .now) p2 (p4 .now) (p5 .now) (p3 .0) h z4 z5 r
 
-  module _ (h-is : Is T.the-row h (mach h ∷ [])) (p1-is : Is (ShrSlice (named 0) κ1 u32) p1 (p1-val ∷ [])) (p2-is : Is (Setting-T.the-row) p2 (p2-val ∷ [])) (p3-is : Is (Processor-T.the-row) p3 (p3-val ∷ [])) (p4-is : Is (MutSlice (named 1) κ4 i32) p4 (p4-val ∷ [])) (p5-is : Is (MutSlice (named 2) κ5 u32) p5 (p5-val ∷ [])) where
+  module _ (h-is : Is T.the-row h (mach h ∷ [])) (p1-is : Is (ShrSlice (named 0) κ1 u32) p1 (p1-val ∷ []))
+      (p2-is : Is (Setting-T.the-row) p2 (p2-val ∷ [])) (p3-is : Is (Processor-T.the-row) p3 (p3-val ∷ []))
+      (p4-is : Is (MutSlice (named 1) κ4 i32) p4 (p4-val ∷ [])) (p5-is : Is (MutSlice (named 2) κ5 u32) p5 (p5-val ∷ [])) where
     exits : (w : Worker) (z4 : List ℤ) (z5 : List ℕ) → Said w z4 z5 → length z4 ≡ length (p4 .now) → length z5 ≡ length (p5 .now) → Is T.the-row w (mach w ∷ [])
-        → ent 𝓤 (⋆ 𝓤 H A ((‵ (flft κ1 q1) ⊛ ‵ (flft κ4 q4) ⊛ ‵ (flft κ5 q5) ⊛ ‵ ftrue) ∷ ‵ (finally i32 (p4 .name) z4) ∷ ‵ (finally u32 (p5 .name) z5) ∷ ‵ p1-own ∷ [])) (Post (mach w))
+        → ent 𝓤
+        (⋆ 𝓤 H A
+        ((‵ (flft κ1 q1) ⊛ ‵ (flft κ4 q4) ⊛ ‵ (flft κ5 q5) ⊛ ‵ ftrue) ∷ ‵ (finally i32 (p4 .name) z4) ∷ ‵ (finally u32 (p5 .name) z5)
+        ∷ ‵ p1-own ∷ []))
+        (Post (mach w))
     exits w z4 z5 e l4 l5 is =
         qed W ((‵ (flft κ1 q1) ⊛ ‵ (flft κ4 q4) ⊛ ‵ (flft κ5 q5) ⊛ ‵ ftrue) ∷ ‵ (finally i32 (p4 .name) z4) ∷ ‵ (finally u32 (p5 .name) z5) ∷ ‵ p1-own ∷ []) ∵
-        suffices ! _ (ends-at 𝓤 H A me.ended stayed (me.clauses 𝓤 H A at-mem run) W ((κs, qs, tt, x, at), tt) (mach w) w (tt, (tt, (tt, (tt, (z4, (z5, tt)))))) (tt, (tt, (tt, (tt, (l4, (l5, tt))))))) $ says ! e $ frame ! $
-        nothing ! $ move ! (2 ∷ 0 ∷ []) $ fjoin ! $ move ! (1 ∷ 0 ∷ []) $ fjoin ! $ owned ! Processor-T.the-row (Is Processor-T.the-row) (LL.makes Processor-T.the-type Processor-L.the-plain 𝓤 H A) p3 _ p3-is $ fjoin ! $ owned ! Setting-T.the-row (Is Setting-T.the-row) (LL.makes Setting-T.the-type Setting-L.the-plain 𝓤 H A) p2 _ p2-is $ fjoin ! $ move ! (1 ∷ 0 ∷ []) $ fjoin ! $ owned ! T.the-row (Is T.the-row) (LL.makes T.the-type T′.the-plain 𝓤 H A) h _ h-is $ fjoin ! $ owned ! T.the-row (Is T.the-row) (LL.makes T.the-type T′.the-plain 𝓤 H A) w _ is $ move ! (1 ∷ 0 ∷ []) $ done !
+        suffices ! _
+        (ends-at 𝓤 H A me.ended stayed (me.clauses 𝓤 H A at-mem run) W ((κs, qs, tt, x, at), tt) (mach w) w (tt, (tt, (tt, (tt, (z4, (z5, tt))))))
+        (tt, (tt, (tt, (tt, (l4, (l5, tt)))))))
+        $
+        says ! e $ frame ! $
+        nothing ! $ move ! (2 ∷ 0 ∷ []) $ fjoin ! $ move ! (1 ∷ 0 ∷ []) $ fjoin ! $
+        owned ! Processor-T.the-row (Is Processor-T.the-row) (LL.makes Processor-T.the-type Processor-L.the-plain 𝓤 H A) p3 _ p3-is $ fjoin ! $
+        owned ! Setting-T.the-row (Is Setting-T.the-row) (LL.makes Setting-T.the-type Setting-L.the-plain 𝓤 H A) p2 _ p2-is $ fjoin ! $
+        move ! (1 ∷ 0 ∷ []) $ fjoin ! $ owned ! T.the-row (Is T.the-row) (LL.makes T.the-type T′.the-plain 𝓤 H A) h _ h-is $ fjoin ! $
+        owned ! T.the-row (Is T.the-row) (LL.makes T.the-type T′.the-plain 𝓤 H A) w _ is $ move ! (1 ∷ 0 ∷ []) $ done !
 
     module _ (C : Calls 𝓤 H) (Λ : Loops 𝓤 H) (fm : FmC 𝓤 H (W .laws) C) (known : Triple 𝓤 (C #callee) (Callee 𝓤 H A at-mem run)) where
-      walk : HasTurn (p1 .now) p2 (p4 .now) (p5 .now) (p3 .0) h → ent 𝓤 (onEntry 𝓤 H A me.signature κs qs x at) (WpFn 𝓤 H C Λ code.function (mach h ∷ p1-val ∷ p2-val ∷ p3-val ∷ p4-val ∷ p5-val ∷ []) Post)
+      walk : HasTurn (p1 .now) p2 (p4 .now) (p5 .now) (p3 .0) h
+          → ent 𝓤 (onEntry 𝓤 H A me.signature κs qs x at) (WpFn 𝓤 H C Λ code.function (mach h ∷ p1-val ∷ p2-val ∷ p3-val ∷ p4-val ∷ p5-val ∷ []) Post)
       walk ok =
-          qed W ((‵ (flft κ1 q1) ⊛ ‵ (flft κ4 q4) ⊛ ‵ (flft κ5 q5) ⊛ ‵ ftrue) ∷ ‵ (owns (T.the-row ∷ ShrSlice (named 0) κ1 u32 ∷ Setting-T.the-row ∷ Processor-T.the-row ∷ MutSlice (named 1) κ4 i32 ∷ MutSlice (named 2) κ5 u32 ∷ []) x at) ∷ []) ∵ enter ! C Λ code.function (mach h ∷ p1-val ∷ p2-val ∷ p3-val ∷ p4-val ∷ p5-val ∷ []) _ $
-          alloc1 ! (λ l0ₗ. alloc1 ! (λ l1ₗ. alloc1 ! (λ l2ₗ. alloc1 ! (λ l3ₗ. alloc1 ! (λ l4ₗ. alloc1 ! (λ l5ₗ. alloc1 ! (λ l6ₗ. alloc1 ! (λ l7ₗ. alloc1 ! (λ l8ₗ. alloc1 ! (λ l9ₗ. alloc1 ! (λ l10ₗ. alloc1 ! (λ l11ₗ. alloc1 ! (λ l12ₗ. alloc1 ! (λ l13ₗ. alloc0 ! $ params1 ! $
-          pass1 ! (init ! 24 refl (LL.lawful T.the-type T′.the-laws 𝓤 H A W .typed h _ h-is .0)) $ pass1 ! (init ! 22 refl (shr-slice-lawful 𝓤 H A W (named 0) κ1 u32 .typed p1 (p1-val ∷ []) p1-is .0)) $ pass1 ! (init ! 20 refl (LL.lawful Setting-T.the-type Setting-L.the-laws 𝓤 H A W .typed p2 _ p2-is .0)) $ pass1 ! (init ! 18 refl (LL.lawful Processor-T.the-type Processor-L.the-laws 𝓤 H A W .typed p3 _ p3-is .0)) $ pass1 ! (init ! 16 refl ((tt, (tt, (record { fits = p4-is .0 .1 .0 }, tt))))) $ pass1 ! (init ! 14 refl ((tt, (tt, (record { fits = p5-is .0 .1 .0 }, tt))))) $ pass0 ! $
+          qed W
+          ((‵ (flft κ1 q1) ⊛ ‵ (flft κ4 q4) ⊛ ‵ (flft κ5 q5) ⊛ ‵ ftrue)
+          ∷ ‵ (owns
+          (T.the-row ∷ ShrSlice (named 0) κ1 u32 ∷ Setting-T.the-row ∷ Processor-T.the-row ∷ MutSlice (named 1) κ4 i32
+          ∷ MutSlice (named 2) κ5 u32 ∷ [])
+          x at)
+          ∷ [])
+          ∵
+          enter ! C Λ code.function (mach h ∷ p1-val ∷ p2-val ∷ p3-val ∷ p4-val ∷ p5-val ∷ []) _ $
+          alloc1 ! (λ l0ₗ. alloc1 ! (λ l1ₗ. alloc1 ! (λ l2ₗ. alloc1 ! (λ l3ₗ. alloc1 ! (λ l4ₗ. alloc1 !
+          (λ l5ₗ. alloc1 ! (λ l6ₗ. alloc1 ! (λ l7ₗ. alloc1 ! (λ l8ₗ. alloc1 ! (λ l9ₗ. alloc1 ! (λ l10ₗ. alloc1 !
+          (λ l11ₗ. alloc1 ! (λ l12ₗ. alloc1 ! (λ l13ₗ. alloc0 ! $ params1 ! $
+          pass1 ! (init ! 24 refl (LL.lawful T.the-type T′.the-laws 𝓤 H A W .typed h _ h-is .0)) $
+          pass1 ! (init ! 22 refl (shr-slice-lawful 𝓤 H A W (named 0) κ1 u32 .typed p1 (p1-val ∷ []) p1-is .0)) $
+          pass1 ! (init ! 20 refl (LL.lawful Setting-T.the-type Setting-L.the-laws 𝓤 H A W .typed p2 _ p2-is .0)) $
+          pass1 ! (init ! 18 refl (LL.lawful Processor-T.the-type Processor-L.the-laws 𝓤 H A W .typed p3 _ p3-is .0)) $
+          pass1 ! (init ! 16 refl ((tt, (tt, (record { fits = p4-is .0 .1 .0 }, tt))))) $
+          pass1 ! (init ! 14 refl ((tt, (tt, (record { fits = p5-is .0 .1 .0 }, tt))))) $ pass0 ! $
           -- [_13; …; _12; …; _11; …; _10; …; _9; …; _8; …; _7; …; _6; …; _5; …; _4; …; _3; …; _2; …; _1; …; _0; …; toks; owns]
-          assigns ! (of-opd ! (load ! (from ! (stop !)) (look ! 24 refl))) (from ! (stop !)) (init ! 12 refl (LL.lawful T.the-type T′.the-laws 𝓤 H A W .typed h _ h-is .0)) $
+          assigns ! (of-opd ! (load ! (from ! (stop !)) (look ! 24 refl))) (from ! (stop !))
+          (init ! 12 refl (LL.lawful T.the-type T′.the-laws 𝓤 H A W .typed h _ h-is .0)) $
           assigns ! (addr ! (from ! (stop !))) (from ! (stop !)) (init ! 8 refl (tt, tt)) $
           assigns ! (addr ! (from ! (fld ! refl (hop ! (look-in ! 16 (sub ! 0 refl (whole !))) (stop !))))) (from ! (stop !)) (init ! 6 refl (tt, tt)) $
-          assigns ! (agg ! (and-then ! (load ! (from ! (stop !)) (look ! 6 refl)) (and-then ! (load ! (from ! (fld ! refl (stop !))) (look-in ! 16 (sub ! 1 refl (whole !)))) (no-more !)))) (from ! (stop !)) (init ! 4 refl (tt, (tt, (record { fits = p4-is .0 .1 .0 }, tt)))) $
+          assigns !
+          (agg !
+          (and-then ! (load ! (from ! (stop !)) (look ! 6 refl))
+          (and-then ! (load ! (from ! (fld ! refl (stop !))) (look-in ! 16 (sub ! 1 refl (whole !)))) (no-more !))))
+          (from ! (stop !)) (init ! 4 refl (tt, (tt, (record { fits = p4-is .0 .1 .0 }, tt)))) $
           assigns ! (addr ! (from ! (fld ! refl (hop ! (look-in ! 14 (sub ! 0 refl (whole !))) (stop !))))) (from ! (stop !)) (init ! 2 refl (tt, tt)) $
-          assigns ! (agg ! (and-then ! (load ! (from ! (stop !)) (look ! 2 refl)) (and-then ! (load ! (from ! (fld ! refl (stop !))) (look-in ! 14 (sub ! 1 refl (whole !)))) (no-more !)))) (from ! (stop !)) (init ! 0 refl (tt, (tt, (record { fits = p5-is .0 .1 .0 }, tt)))) $
+          assigns !
+          (agg !
+          (and-then ! (load ! (from ! (stop !)) (look ! 2 refl))
+          (and-then ! (load ! (from ! (fld ! refl (stop !))) (look-in ! 14 (sub ! 1 refl (whole !)))) (no-more !))))
+          (from ! (stop !)) (init ! 0 refl (tt, (tt, (record { fits = p5-is .0 .1 .0 }, tt)))) $
           -- what the parameters own is taken apart, and what is shared is had twice
-          move ! (29 ∷ []) $ fsplit ! $ drop ! $ fsplit ! $ use1 W (‵ p1-own ⊛ ‵ p1-own) (shr-slice-copy 𝓤 H A W (named 0) κ1 u32 .twice p1 (p1-val ∷ [])) $ split ! $ move ! (2 ∷ []) $ fsplit ! $ drop ! $ fsplit ! $ drop ! $ fsplit ! $ move ! (1 ∷ []) $ fsplit ! $ move ! (1 ∷ []) $ drop ! $
+          move ! (29 ∷ []) $ fsplit ! $ drop ! $ fsplit ! $
+          use1 W (‵ p1-own ⊛ ‵ p1-own) (shr-slice-copy 𝓤 H A W (named 0) κ1 u32 .twice p1 (p1-val ∷ [])) $ split ! $ move ! (2 ∷ []) $ fsplit ! $
+          drop ! $ fsplit ! $ drop ! $ fsplit ! $ move ! (1 ∷ []) $ fsplit ! $ move ! (1 ∷ []) $ drop ! $
           -- the local is lent for a lifetime ν of the call
           move ! (16 ∷ []) $ use1 W (‵ (mem T.the-row .lies h l7ₗ 0)) (lies-in 𝓤 H A W h l7ₗ 0 h-is) $ lft-new ! tt (λ ν. move ! (1 ∷ []) $
-          use1 W (later (some (λ (δ : GName). ‵ (MutRef (named 0) (ν ∷ []) T.the-row .own (ref l7ₗ δ) (vptr l7ₗ 0 ∷ [])) ⊛ ‵ (flent (ν ∷ []) (Body (mem T.the-row) l7ₗ 0 δ))))) (lends-ref 𝓤 H A W T.the-row (named 0) (ν ∷ []) h l7ₗ 0) $ await ! tt $ pick ! (λ δ. split ! $
+          use1 W
+          (later (some (λ (δ : GName). ‵ (MutRef (named 0) (ν ∷ []) T.the-row .own (ref l7ₗ δ) (vptr l7ₗ 0 ∷ []))
+          ⊛ ‵ (flent (ν ∷ []) (Body (mem T.the-row) l7ₗ 0 δ)))))
+          (lends-ref 𝓤 H A W T.the-row (named 0) (ν ∷ []) h l7ₗ 0) $
+          await ! tt $ pick ! (λ δ. split ! $
           -- [mref; lent; tokν; o5; o4; o1; k1; _13; …; _12; …; _11; …; _10; …; _9; …; _8; …; …; _6; …; _5; …; _4; …; _3; …; _2; …; _1; …; _0; …; toks]
           -- the call
-          nothing ! $ move ! (4 ∷ 0 ∷ []) $ fjoin ! $ move ! (4 ∷ 0 ∷ []) $ fjoin ! $ owned ! Processor-T.the-row (Is Processor-T.the-row) (LL.makes Processor-T.the-type Processor-L.the-plain 𝓤 H A) p3 _ p3-is $ fjoin ! $ owned ! Setting-T.the-row (Is Setting-T.the-row) (LL.makes Setting-T.the-type Setting-L.the-plain 𝓤 H A) p2 _ p2-is $ fjoin ! $ move ! (4 ∷ 0 ∷ []) $ fjoin ! $ move ! (1 ∷ 0 ∷ []) $ fjoin ! $ move ! (2 ∷ 31 ∷ []) $ join ! $ move ! (0 ∷ 1 ∷ []) $ use2 W (raw (Callee 𝓤 H A at-mem run .pre (to ν l7ₗ δ))) (goes ν l7ₗ δ ok) $
-          calls-at ! fm (Callee 𝓤 H A at-mem run) known (to ν l7ₗ δ) (and-then ! (load ! (from ! (stop !)) (look ! 11 refl)) (and-then ! (load ! (from ! (stop !)) (look ! 24 refl)) (and-then ! (load ! (from ! (stop !)) (look ! 22 refl)) (and-then ! (load ! (from ! (stop !)) (look ! 20 refl)) (and-then ! (load ! (from ! (stop !)) (look ! 7 refl)) (and-then ! (load ! (from ! (stop !)) (look ! 3 refl)) (no-more !))))))) (λ u.
-          use1 W (later (some (λ (r : Unit {0}). ((‵ (flft (ν ∷ []) fullShare) ⊛ ‵ (flft κ1 q1) ⊛ ‵ (flft κ4 q4) ⊛ ‵ (flft κ5 q5) ⊛ ‵ ftrue) ⊛ ‵ (unit .own r (u ∷ []))) ⊛ raw (ensured 𝓤 H A callee.ended (callee.clauses 𝓤 H A at-mem run) (κs′ ν) (args ν l7ₗ δ) tt r)))) (id⊢ 𝓤 _) $ await ! tt $ pick ! (λ r.
-          split ! $ move ! (1 ∷ []) $ use1 W (some (λ (zs : Lasts callee.ended (κs′ ν) (args ν l7ₗ δ)). ‵ (lasts callee.ended (κs′ ν) (args ν l7ₗ δ) zs) ⊛ raw (fact 𝓤 (Said (zs .0) (zs .1 .1 .1 .1 .0) (zs .1 .1 .1 .1 .1 .0))))) (id⊢ 𝓤 _) $ pick ! (λ zs.
-          split ! $ move ! (1 ∷ []) $ heard ! (Said (zs .0) (zs .1 .1 .1 .1 .0) (zs .1 .1 .1 .1 .1 .0)) (λ e. fsplit ! $ move ! (1 ∷ []) $ fsplit ! $ drop ! $ fsplit ! $ drop ! $ fsplit ! $ drop ! $ fsplit ! $ fsplit ! $ move ! (1 ∷ []) $ feqL ! (λ l4. move ! (1 ∷ []) $ fsplit ! $ fsplit ! $ move ! (1 ∷ []) $ feqL ! (λ l5. move ! (1 ∷ []) $ drop ! $
+          nothing ! $ move ! (4 ∷ 0 ∷ []) $ fjoin ! $ move ! (4 ∷ 0 ∷ []) $ fjoin ! $
+          owned ! Processor-T.the-row (Is Processor-T.the-row) (LL.makes Processor-T.the-type Processor-L.the-plain 𝓤 H A) p3 _ p3-is $ fjoin ! $
+          owned ! Setting-T.the-row (Is Setting-T.the-row) (LL.makes Setting-T.the-type Setting-L.the-plain 𝓤 H A) p2 _ p2-is $ fjoin ! $
+          move ! (4 ∷ 0 ∷ []) $ fjoin ! $ move ! (1 ∷ 0 ∷ []) $ fjoin ! $ move ! (2 ∷ 31 ∷ []) $ join ! $ move ! (0 ∷ 1 ∷ []) $
+          use2 W (raw (Callee 𝓤 H A at-mem run .pre (to ν l7ₗ δ))) (goes ν l7ₗ δ ok) $
+          calls-at ! fm (Callee 𝓤 H A at-mem run) known (to ν l7ₗ δ)
+          (and-then ! (load ! (from ! (stop !)) (look ! 11 refl))
+          (and-then ! (load ! (from ! (stop !)) (look ! 24 refl))
+          (and-then ! (load ! (from ! (stop !)) (look ! 22 refl))
+          (and-then ! (load ! (from ! (stop !)) (look ! 20 refl))
+          (and-then ! (load ! (from ! (stop !)) (look ! 7 refl))
+          (and-then ! (load ! (from ! (stop !)) (look ! 3 refl)) (no-more !)))))))
+          (λ u.
+          use1 W
+          (later (some (λ (r : Unit {0}). ((‵ (flft (ν ∷ []) fullShare) ⊛ ‵ (flft κ1 q1) ⊛ ‵ (flft κ4 q4) ⊛ ‵ (flft κ5 q5) ⊛ ‵ ftrue)
+          ⊛ ‵ (unit .own r (u ∷ [])))
+          ⊛ raw (ensured 𝓤 H A callee.ended (callee.clauses 𝓤 H A at-mem run) (κs′ ν) (args ν l7ₗ δ) tt r))))
+          (id⊢ 𝓤 _) $
+          await ! tt $ pick ! (λ r.
+          split ! $ move ! (1 ∷ []) $
+          use1 W
+          (some (λ (zs : Lasts callee.ended (κs′ ν) (args ν l7ₗ δ)). ‵ (lasts callee.ended (κs′ ν) (args ν l7ₗ δ) zs)
+          ⊛ raw (fact 𝓤 (Said (zs .0) (zs .1 .1 .1 .1 .0) (zs .1 .1 .1 .1 .1 .0)))))
+          (id⊢ 𝓤 _) $
+          pick ! (λ zs.
+          split ! $ move ! (1 ∷ []) $
+          heard ! (Said (zs .0) (zs .1 .1 .1 .1 .0) (zs .1 .1 .1 .1 .1 .0))
+          (λ e. fsplit ! $ move ! (1 ∷ []) $ fsplit ! $ drop ! $ fsplit ! $ drop ! $ fsplit ! $ drop ! $ fsplit ! $ fsplit ! $ move ! (1 ∷ []) $
+          feqL ! (λ l4. move ! (1 ∷ []) $ fsplit ! $ fsplit ! $ move ! (1 ∷ []) $ feqL ! (λ l5. move ! (1 ∷ []) $ drop ! $
           move ! (3 ∷ []) $ split ! $ move ! (1 ∷ []) $ peeks ! unit (Is unit) (shows 𝓤 H A unit) r (u ∷ []) (λ is-a.
           land ! (from ! (stop !)) (init ! 17 refl (nothing-lawful 𝓤 H A W .typed r _ is-a .0)) $
           -- the lifetime is ended, and the local comes back at the last record
-          move ! (1 ∷ []) $ split ! $ lft-end ! tt $ move ! (0 ∷ 6 ∷ 5 ∷ []) $ use3 W (later (‵ (mem T.the-row .lies (zs .0) l7ₗ 0))) (ref-back 𝓤 H A W T.the-row (ν ∷ []) δ (zs .0) l7ₗ 0) $ await ! tt $
-          use1 W (given (Is T.the-row (zs .0) (mach (zs .0) ∷ [])) (‵ (fat fullShare T′.mir l7ₗ 0 (mach (zs .0))))) (lies-out 𝓤 H A W (zs .0) l7ₗ 0) $ learn ! (λ is-w.
+          move ! (1 ∷ []) $ split ! $ lft-end ! tt $ move ! (0 ∷ 6 ∷ 5 ∷ []) $
+          use3 W (later (‵ (mem T.the-row .lies (zs .0) l7ₗ 0))) (ref-back 𝓤 H A W T.the-row (ν ∷ []) δ (zs .0) l7ₗ 0) $ await ! tt $
+          use1 W (given (Is T.the-row (zs .0) (mach (zs .0) ∷ [])) (‵ (fat fullShare T′.mir l7ₗ 0 (mach (zs .0))))) (lies-out 𝓤 H A W (zs .0) l7ₗ 0) $
+          learn ! (λ is-w.
           -- [_7; toks; r; f5; f4; k1; _13; …; _12; …; _11; …; _10; …; _9; …; _8; …; …; _6; …; _5; …; _4; …; _3; …; _2; …; _1; …; _0; …]
-          assigns ! (of-opd ! (load ! (from ! (stop !)) (look ! 0 refl))) (from ! (stop !)) (init ! 31 refl (LL.lawful T.the-type T′.the-laws 𝓤 H A W .typed (zs .0) _ is-w .0)) $
-          returns ! (look ! 31 refl) $ forget ! 6 refl $ forget ! 8 refl $ forget ! 10 refl $ forget ! 12 refl $ forget ! 14 refl $ forget ! 16 refl $ forget ! 0 refl $ forget ! 19 refl $ forget ! 21 refl $ forget ! 23 refl $ forget ! 25 refl $ forget ! 27 refl $ forget ! 29 refl $ forget ! 31 refl $
-          move ! (31 ∷ 32 ∷ []) $ free1 ! $ move ! (29 ∷ 30 ∷ []) $ free1 ! $ move ! (27 ∷ 28 ∷ []) $ free1 ! $ move ! (25 ∷ 26 ∷ []) $ free1 ! $ move ! (23 ∷ 24 ∷ []) $ free1 ! $ move ! (21 ∷ 22 ∷ []) $ free1 ! $ move ! (19 ∷ 20 ∷ []) $ free1 ! $ move ! (0 ∷ 18 ∷ []) $ free1 ! $ move ! (15 ∷ 16 ∷ []) $ free1 ! $ move ! (13 ∷ 14 ∷ []) $ free1 ! $ move ! (11 ∷ 12 ∷ []) $ free1 ! $ move ! (9 ∷ 10 ∷ []) $ free1 ! $ move ! (7 ∷ 8 ∷ []) $ free1 ! $ move ! (5 ∷ 6 ∷ []) $ free1 ! $ free0 ! $
+          assigns ! (of-opd ! (load ! (from ! (stop !)) (look ! 0 refl))) (from ! (stop !))
+          (init ! 31 refl (LL.lawful T.the-type T′.the-laws 𝓤 H A W .typed (zs .0) _ is-w .0)) $
+          returns ! (look ! 31 refl) $ forget ! 6 refl $ forget ! 8 refl $ forget ! 10 refl $ forget ! 12 refl $ forget ! 14 refl $ forget ! 16 refl $
+          forget ! 0 refl $ forget ! 19 refl $ forget ! 21 refl $ forget ! 23 refl $ forget ! 25 refl $ forget ! 27 refl $ forget ! 29 refl $
+          forget ! 31 refl $
+          move ! (31 ∷ 32 ∷ []) $ free1 ! $ move ! (29 ∷ 30 ∷ []) $ free1 ! $ move ! (27 ∷ 28 ∷ []) $ free1 ! $ move ! (25 ∷ 26 ∷ []) $ free1 ! $
+          move ! (23 ∷ 24 ∷ []) $ free1 ! $ move ! (21 ∷ 22 ∷ []) $ free1 ! $ move ! (19 ∷ 20 ∷ []) $ free1 ! $ move ! (0 ∷ 18 ∷ []) $ free1 ! $
+          move ! (15 ∷ 16 ∷ []) $ free1 ! $ move ! (13 ∷ 14 ∷ []) $ free1 ! $ move ! (11 ∷ 12 ∷ []) $ free1 ! $ move ! (9 ∷ 10 ∷ []) $ free1 ! $
+          move ! (7 ∷ 8 ∷ []) $ free1 ! $ move ! (5 ∷ 6 ∷ []) $ free1 ! $ free0 ! $
           keep ! (0 ∷ 3 ∷ 2 ∷ 4 ∷ []) $ by ! (exits (zs .0) (zs .1 .1 .1 .1 .0) (zs .1 .1 .1 .1 .1 .0) e l4 l5 is-w)))))))))))))))))))))))))
 
 module _ {M : Type 1} (𝓤 : URA M) (H : Heap 𝓤) (A : Atoms 𝓤) (W : Given 𝓤 H A) (mem : Memory → SProp 𝓤) (run : Routine → Fun 𝓤) where
-  turn-walks : (C : Calls 𝓤 H) (Λ : Loops 𝓤 H) → FmC 𝓤 H (W .laws) C → Triple 𝓤 (C #callee) (Callee 𝓤 H A mem run) → Walks 𝓤 H A me.ended stayed (WpFn 𝓤 H C Λ code.function) (me.clauses 𝓤 H A mem run)
+  turn-walks : (C : Calls 𝓤 H) (Λ : Loops 𝓤 H) → FmC 𝓤 H (W .laws) C → Triple 𝓤 (C #callee) (Callee 𝓤 H A mem run)
+      → Walks 𝓤 H A me.ended stayed (WpFn 𝓤 H C Λ code.function) (me.clauses 𝓤 H A mem run)
   turn-walks C Λ fm known = walked 𝓤 H A me.ended stayed (me.clauses 𝓤 H A mem run) (WpFn 𝓤 H C Λ code.function)
-      (λ κs. (LL.vals T.the-type T′.the-laws, (slice-vals, (LL.vals Setting-T.the-type Setting-L.the-laws, (LL.vals Processor-T.the-type Processor-L.the-laws, (slice-vals, (slice-vals, tt))))))) (λ κs. (LL.tells T.the-type T′.the-laws, (shr-slice-tells (named 0) (κs .0) u32, (LL.tells Setting-T.the-type Setting-L.the-laws, (LL.tells Processor-T.the-type Processor-L.the-laws, (mut-slice-tells (named 1) (κs .1 .0) i32, (mut-slice-tells (named 2) (κs .1 .1 .0) u32, tt)))))))
-      (λ κs qs bounds a _ are. needs 𝓤 _ _ (walk 𝓤 H A W mem run (κs .0) (κs .1 .0) (κs .1 .1 .0) (qs .0) (qs .1 .0) (qs .1 .1 .0) (a .0) (a .1 .0) (a .1 .1 .0) (a .1 .1 .1 .0) (a .1 .1 .1 .1 .0) (a .1 .1 .1 .1 .1 .0) (are .0) (are .1 .0) (are .1 .1 .0) (are .1 .1 .1 .0) (are .1 .1 .1 .1 .0) (are .1 .1 .1 .1 .1 .0) C Λ fm known))
+      (λ κs. (
+        LL.vals T.the-type T′.the-laws,
+        (
+          slice-vals,
+          (LL.vals Setting-T.the-type Setting-L.the-laws, (LL.vals Processor-T.the-type Processor-L.the-laws, (slice-vals, (slice-vals, tt)))),
+        ),
+      ))
+      (λ κs. (
+        LL.tells T.the-type T′.the-laws,
+        (
+          shr-slice-tells (named 0) (κs .0) u32,
+          (
+            LL.tells Setting-T.the-type Setting-L.the-laws,
+            (
+              LL.tells Processor-T.the-type Processor-L.the-laws,
+              (mut-slice-tells (named 1) (κs .1 .0) i32, (mut-slice-tells (named 2) (κs .1 .1 .0) u32, tt)),
+            ),
+          ),
+        ),
+      ))
+      (λ κs qs bounds a _ are. needs 𝓤 _ _
+      (walk 𝓤 H A W mem run (κs .0) (κs .1 .0) (κs .1 .1 .0) (qs .0) (qs .1 .0) (qs .1 .1 .0) (a .0) (a .1 .0) (a .1 .1 .0) (a .1 .1 .1 .0)
+      (a .1 .1 .1 .1 .0) (a .1 .1 .1 .1 .1 .0) (are .0) (are .1 .0) (are .1 .1 .0) (are .1 .1 .1 .0) (are .1 .1 .1 .1 .0)
+      (are .1 .1 .1 .1 .1 .0) C Λ fm known))
 
-turn-meets : {M : Type 1} (𝓤 : URA M) (H : Heap 𝓤) (A : Atoms 𝓤) → Given 𝓤 H A → (mem : Memory → SProp 𝓤) (run : Routine → Fun 𝓤) (𝓣 : Tables 𝓤 H) → Triple 𝓤 (𝓣 .C #callee) (Callee 𝓤 H A mem run)
+turn-meets : {M : Type 1} (𝓤 : URA M) (H : Heap 𝓤) (A : Atoms 𝓤) → Given 𝓤 H A → (mem : Memory → SProp 𝓤) (run : Routine → Fun 𝓤) (𝓣 : Tables 𝓤 H)
+    → Triple 𝓤 (𝓣 .C #callee) (Callee 𝓤 H A mem run)
     → Meets 𝓤 H A me.signature (WpFn 𝓤 H (𝓣 .C) (𝓣 .Λ) code.function) (me.spec 𝓤 H A mem run)
 turn-meets 𝓤 H A W mem run 𝓣 known =
-    walk-meets 𝓤 H A me.ended stayed W (goes-none 𝓤 H A W 3 (λ _. T.the-row) yes (λ κs x f. refl), (goes-none-slice 𝓤 H A W 3 (0 ∷ []) tt (plain (λ _. u32)) yes, (goes-none 𝓤 H A W 3 (λ _. Setting-T.the-row) yes (λ κs x f. refl), (goes-none 𝓤 H A W 3 (λ _. Processor-T.the-row) yes (λ κs x f. refl), (goes-gave-slice 𝓤 H A W 3 1 tt (plain (λ _. i32)), (goes-gave-slice 𝓤 H A W 3 2 tt (plain (λ _. u32)), tt)))))) (me.clauses 𝓤 H A mem run)
+    walk-meets 𝓤 H A me.ended stayed W (
+      goes-none 𝓤 H A W 3 (λ _. T.the-row) yes (λ κs x f. refl),
+      (
+        goes-none-slice 𝓤 H A W 3 (0 ∷ []) tt (plain (λ _. u32)) yes,
+        (
+          goes-none 𝓤 H A W 3 (λ _. Setting-T.the-row) yes (λ κs x f. refl),
+          (
+            goes-none 𝓤 H A W 3 (λ _. Processor-T.the-row) yes (λ κs x f. refl),
+            (goes-gave-slice 𝓤 H A W 3 1 tt (plain (λ _. i32)), (goes-gave-slice 𝓤 H A W 3 2 tt (plain (λ _. u32)), tt)),
+          ),
+        ),
+      ),
+    )
+    (me.clauses 𝓤 H A mem run)
     (WpFn 𝓤 H (𝓣 .C) (𝓣 .Λ) code.function) (WpFn-mono 𝓤 H (W .laws) 𝓣 code.function) (turn-walks 𝓤 H A W mem run (𝓣 .C) (𝓣 .Λ) (fmOf 𝓤 H (W .laws) 𝓣) known)
 
 pub turn-spec : {M : Type 1} → stated.statement M

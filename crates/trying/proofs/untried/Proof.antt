@@ -13,7 +13,8 @@ record-at-requires c κs = search needs
 returns : tie.Need-returns
 returns c =
     let a = c .before .args in
-    ap (λ (w : Worker). record { number = a .number; line = a .line; processors = 0; faulty = false; obstructed = false; workers = replicate 8 w }) (c .record-at .ensures)
+    ap (λ (w : Worker). record { number = a .number; line = a .line; processors = 0; faulty = false; obstructed = false; workers = replicate 8 w })
+    (c .record-at .ensures)
 
 pub untried-spec : {M : Type 1} → statement M
 untried-spec = tie.close (tie.spec record-at-requires returns)

@@ -74,7 +74,11 @@ items-returns : (t : ℕ) → items-lts.Need-returns (
   items-below t,
   items.Post,
 ) (items-at t) items.Post
-items-returns t c = (items-last _ _ _ _ _ _ _ _ (c .before .before .before .before .put-item .result) (c .before .before .before .before .put-item .ensures .0) (omega (arith, c .before .before .before .before .put-item .ensures .1 .1)) _ (c .before .pass .ensures) (c .if1 .taken), c .before .before .before .before .put-item .ensures .1)
+items-returns t c = (
+  items-last _ _ _ _ _ _ _ _ (c .before .before .before .before .put-item .result) (c .before .before .before .before .put-item .ensures .0)
+      (omega (arith, c .before .before .before .before .put-item .ensures .1 .1)) _ (c .before .pass .ensures) (c .if1 .taken),
+  c .before .before .before .before .put-item .ensures .1,
+)
 
 items-items-requires : (t : ℕ) → items-lts.Need-items-requires (
   put-item-reads.Asked,
@@ -84,7 +88,20 @@ items-items-requires : (t : ℕ) → items-lts.Need-items-requires (
   items-below t,
   items.Post,
 ) (items-at t) items.Post
-items-items-requires t c κs = (onward _ _ _ _ (c .before .before .before .before .before .before .before .before .pre .0) (c .before .before .before .before .before .put-item .ensures .0) (c .before .before .pass .ensures) (omega arith), (c .before .before .before .before .before .before .before .before .pre .1 .0, omega (arith, c .before .before .before .before .before .before .before .before .pre .1 .1, c .before .before .before .before .before .put-item .ensures .1 .0), c .before .before .before .before .before .before .before .before .pre .1 .2, c .before .before .before .before .before .put-item .ensures .1 .1))
+items-items-requires t c κs = (
+  onward _ _ _ _ (c .before .before .before .before .before .before .before .before .pre .0)
+      (c .before .before .before .before .before .put-item .ensures .0) (c .before .before .pass .ensures) (omega arith),
+  (
+    c .before .before .before .before .before .before .before .before .pre .1 .0,
+    omega (
+      arith,
+      c .before .before .before .before .before .before .before .before .pre .1 .1,
+      c .before .before .before .before .before .put-item .ensures .1 .0,
+    ),
+    c .before .before .before .before .before .before .before .before .pre .1 .2,
+    c .before .before .before .before .before .put-item .ensures .1 .1,
+  ),
+)
 
 items-same-length-2 : (t : ℕ) → items-lts.Need-same-length-2 (
   put-item-reads.Asked,
@@ -104,7 +121,16 @@ items-returns-2 : (t : ℕ) → items-lts.Need-returns-2 (
   items-below t,
   items.Post,
 ) (items-at t) items.Post
-items-returns-2 t c = (items-more _ _ _ _ _ _ _ _ (c .before .before .before .before .before .before .before .put-item .result) (c .before .before .before .before .before .before .before .put-item .ensures .0) (omega (arith, c .before .before .before .before .before .before .before .put-item .ensures .1 .1)) _ (c .before .before .before .before .pass .ensures) (omega arith) _ _ (c .before .items .ensures .0), (c .before .items .ensures .1 .0 ∙ c .before .before .before .before .before .before .before .put-item .ensures .1 .0, c .before .items .ensures .1 .1))
+items-returns-2 t c = (
+  items-more _ _ _ _ _ _ _ _ (c .before .before .before .before .before .before .before .put-item .result)
+      (c .before .before .before .before .before .before .before .put-item .ensures .0)
+      (omega (arith, c .before .before .before .before .before .before .before .put-item .ensures .1 .1)) _
+      (c .before .before .before .before .pass .ensures) (omega arith) _ _ (c .before .items .ensures .0),
+  (
+    c .before .items .ensures .1 .0 ∙ c .before .before .before .before .before .before .before .put-item .ensures .1 .0,
+    c .before .items .ensures .1 .1,
+  ),
+)
 
 pub +items-spec : {M : Type 1} → statement M
 +items-spec = close μ-items λ t. items-lts.spec (

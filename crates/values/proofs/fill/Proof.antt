@@ -1,5 +1,5 @@
-use borrow.Author.Needs.{needs}
 -- `values::fill` meets its contract.
+use borrow.Author.Needs.{needs}
 use mathlib.Core.Path.{_≡_, refl, _∙_, ap}
 use mathlib.Core.List.{List}
 use Prim.Native.Nat.{_+_, _-_, _≤_}
@@ -14,7 +14,8 @@ use Rattle.values.proofs.fill.Statement.{statement}
 use Rattle.values.proofs.fill.Tie as tie
 
 abbrev Inv-loop : tie.InvT-loop
-Inv-loop cells₀ from copies x end i₀ cells i = (from ≤ i) × (i ≤ end) × (end ≡ from + copies) × (length cells ≡ length cells₀) × (cells ≡ sets cells₀ from (replicate (i - from) (toZ w32 x)))
+Inv-loop cells₀ from copies x end i₀ cells i =
+    (from ≤ i) × (i ≤ end) × (end ≡ from + copies) × (length cells ≡ length cells₀) × (cells ≡ sets cells₀ from (replicate (i - from) (toZ w32 x)))
 
 abbrev μ-loop : tie.MeasureT-loop
 μ-loop cells₀ from copies x end i₀ cells i = end - i
@@ -38,7 +39,16 @@ loop-less : tie.Need-loop-less Inv-loop μ-loop
 loop-less c = omega arith
 
 loop-again : tie.Need-loop-again Inv-loop μ-loop
-loop-again c = (omega arith, omega arith, refl, simp length-set (c .before .loop .inv .3), ap (λ (l : List ℤ). set l (c .before .loop .i) (toZ w32 (ofZ w32 (c .before .before .args .x)))) (c .before .loop .inv .4) ∙ fill-more (c .before .before .args .cells .now) (c .before .before .args .from) (c .before .loop .i) (toZ w32 (ofZ w32 (c .before .before .args .x))) (c .before .loop .inv .0))
+loop-again c =
+    let l = c .before .loop in
+    let a = c .before .before .args in
+    let x = toZ w32 (ofZ w32 (a .x)) in (
+      omega arith,
+      omega arith,
+      refl,
+      simp length-set (l .inv .3),
+      ap (λ (m : List ℤ). set m (l .i) x) (l .inv .4) ∙ fill-more (a .cells .now) (a .from) (l .i) x (l .inv .0),
+    )
 
 same-length : tie.Need-same-length Inv-loop μ-loop
 same-length c = c .before .loop .inv .3

@@ -26,7 +26,9 @@ copied-requires-2 : tie.Need-copied-requires-2
 copied-requires-2 c κs = search needs
 
 returns-2 : tie.Need-returns-2
-returns-2 c = item-once _ _ _ _ (c .before .before .before .before .digits .ensures) _ (c .before .before .pass .ensures) _ (omega arith) (c .copied2 .ensures none refl)
+returns-2 c =
+    let c4 = c .before .before .before .before in
+    item-once _ _ _ _ (c4 .digits .ensures) _ (c .before .before .pass .ensures) _ (omega arith) (c .copied2 .ensures none refl)
 
 pub item-at-spec : {M : Type 1} → statement M
 item-at-spec =

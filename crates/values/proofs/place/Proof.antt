@@ -1,3 +1,4 @@
+-- `values::place` meets its contract.
 use mathlib.Core.Path.{_≡_, _∙_, ap}
 use mir.Syntax.{w32}
 use mir.Val.{toZ, ofZ}
@@ -5,7 +6,6 @@ use Prim.Native.Nat.{_+_}
 use lib.IntN.{ℤ}
 use lib.ListN.{replicate}
 use lib.Seq.{sets}
--- `values::place` meets its contract.
 use native.Mathlib.Omega.{arith}
 use Rattle.values.proofs.DataLines.{placed-over, placed-many, placed}
 use borrow.Author.Needs.{needs}
@@ -38,8 +38,11 @@ same-length c = search needs
 
 returns-3 : tie.Need-returns-3
 returns-3 c =
-    let e : toZ w32 (ofZ w32 (c .before .before .before .before .before .args .x)) ≡ c .before .before .before .before .before .args .x = search needs in
-    placed _ _ _ _ _ _ _ (omega arith) (omega arith) (c .before .fill .ensures ∙ ap (λ (x : ℤ). sets (c .before .before .before .before .before .args .cells .now) (c .before .before .before .before .before .args .first + c .before .before .before .before .before .args .values) (replicate (c .before .before .before .before .before .args .copies) x)) e) (c .before .fill .kept .0)
+    let a = c .before .before .before .before .before .args in
+    let e : toZ w32 (ofZ w32 (a .x)) ≡ a .x = search needs in
+    let f = c .before .fill in
+    placed _ _ _ _ _ _ _ (omega arith) (omega arith)
+    (f .ensures ∙ ap (λ (x : ℤ). sets (a .cells .now) (a .first + a .values) (replicate (a .copies) x)) e) (f .kept .0)
 
 pub place-spec : {M : Type 1} → statement M
 place-spec =

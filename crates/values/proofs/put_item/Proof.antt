@@ -19,8 +19,8 @@ item-at-requires c κs = search needs
 returns : tie.Need-returns
 returns c = (item-broken (c .before .item-at .ensures) _ (omega arith), (refl, omega arith))
 
-add-t15 : tie.Need-add-t15
-add-t15 c = search needs
+add-t16 : tie.Need-add-t16
+add-t16 c = search needs
 
 returns-2 : tie.Need-returns-2
 returns-2 c = (item-zero (c .before .before .before .item-at .ensures) _ (c .if2 .taken) (omega arith), (refl, omega arith))
@@ -42,11 +42,18 @@ same-length c = search needs
 
 returns-3 : tie.Need-returns-3
 returns-3 c =
-    let a = c .before .before .before .before .before .before .before .before .before .before .before .args in
-    let (_, _, _, q) = goes-some (c .before .before .before .before .before .before .before .before .before .item-at .ensures) (omega arith) in
-    let e = landed (c .before .before .item-value .ensures) (led-fits (leadOf (c .before .before .before .before .before .before .before .before .before .item-at .result .sign)) (c .before .before .before .before .before .before .before .before .before .item-at .result .size) (omega (arith, q .size))) in (
-      item-some (c .before .before .before .before .before .before .before .before .before .item-at .ensures) _ (c .before .before .before .before .before .before .if2 .left) (put (a .cells .now) (a .first) (a .size) (a .values) (a .rank) _ (omega arith) (omega arith) (c .before .before .before .before .before .before .before .before .before .item-at .result) _ _ _ e (c .before .place .ensures) (c .before .before .before .before .ranked .ensures ∙ ap (λ (b : Bool). max (a .rank) (order true b)) (c .before .before .before .before .before .limited .ensures))),
-      (c .before .place .ensures .long, omega (arith, c .before .place .ensures .many (omega arith))),
+    let c4 = c .before .before .before .before in
+    let c9 = c4 .before .before .before .before .before in
+    let a = c9 .before .before .args in
+    let d = c9 .item-at .result in
+    let h = c9 .item-at .ensures in
+    let p = c .before .place .ensures in
+    let (_, _, _, q) = goes-some h (omega arith) in
+    let e = landed (c .before .before .item-value .ensures) (led-fits (leadOf (d .sign)) (d .size) (omega (arith, q .size))) in
+    let r = c4 .ranked .ensures ∙ ap (λ (b : Bool). max (a .rank) (order true b)) (c4 .before .limited .ensures) in (
+      item-some h _ (c4 .before .before .if2 .left)
+          (put (a .cells .now) (a .first) (a .size) (a .values) (a .rank) _ (omega arith) (omega arith) d _ _ _ e p r),
+      (p .long, omega (arith, p .many (omega arith))),
     )
 
 pub put-item-spec : {M : Type 1} → statement M
@@ -55,7 +62,7 @@ put-item-spec =
     (tie.spec
     item-at-requires
     returns
-    add-t15
+    add-t16
     returns-2
     limited-requires
     ranked-requires

@@ -11,10 +11,21 @@ begin-requires : tie.Need-begin-requires
 begin-requires c κs = search needs
 
 follow-requires : tie.Need-follow-requires
-follow-requires c κs = can-follow _ _ _ _ (c .before .before .before .before .before .before .before .before .before .before .before .before .args .schedule .now) _ _ _ (c .before .before .before .before .begin .ensures) (c .before .before .before .before .before .before .before .before .before .before .before .before .pre .0)
+follow-requires c κs =
+    let c4 = c .before .before .before .before in
+    let c12 = c4 .before .before .before .before .before .before .before .before in
+    can-follow _ _ _ _ (c12 .args .schedule .now) _ _ _ (c4 .begin .ensures) (c12 .pre .0)
 
 show-requires : tie.Need-show-requires
-show-requires c κs = (can-show _ _ _ _ (c .before .before .before .before .before .before .before .before .before .before .before .before .before .before .before .before .before .before .before .args .schedule .now) _ _ _ (c .before .before .before .before .before .before .before .before .before .before .before .begin .ensures) _ _ _ (c .before .before .before .before .before .before .follow .ensures) (c .before .before .before .before .before .before .before .before .before .before .before .before .before .before .before .before .before .before .before .pre .0), c .before .before .before .before .before .before .before .before .before .before .before .before .before .before .before .before .before .before .before .pre .1 ∙ ap (λ (n : ℕ). 2 * n) (sym (same-size _ _ _ _ (c .before .before .before .before .before .before .before .before .before .before .before .before .before .before .before .before .before .before .before .args .schedule .now) _ _ _ (c .before .before .before .before .before .before .before .before .before .before .before .begin .ensures) _ _ _ (c .before .before .before .before .before .before .follow .ensures) (c .before .before .before .before .before .before .before .before .before .before .before .before .before .before .before .before .before .before .before .pre .0))))
+show-requires c κs =
+    let c6 = c .before .before .before .before .before .before in
+    let c11 = c6 .before .before .before .before .before in
+    let c19 = c11 .before .before .before .before .before .before .before .before in (
+      can-show _ _ _ _ (c19 .args .schedule .now) _ _ _ (c11 .begin .ensures) _ _ _ (c6 .follow .ensures) (c19 .pre .0),
+      c19 .pre .1
+          ∙ ap (λ (n : ℕ). 2 * n)
+          (sym (same-size _ _ _ _ (c19 .args .schedule .now) _ _ _ (c11 .begin .ensures) _ _ _ (c6 .follow .ensures) (c19 .pre .0))),
+    )
 
 clear-requires : tie.Need-clear-requires
 clear-requires c κs = search needs
@@ -29,7 +40,14 @@ same-length-3 : tie.Need-same-length-3
 same-length-3 c = search needs
 
 returns : tie.Need-returns
-returns c = (shows-after _ _ _ _ (c .before .before .before .before .before .before .before .before .before .before .before .before .before .before .before .before .before .before .before .before .before .before .before .before .before .before .args .schedule .now) _ _ _ (c .before .before .before .before .before .before .before .before .before .before .before .before .before .before .before .before .before .before .begin .ensures) _ _ _ (c .before .before .before .before .before .before .before .before .before .before .before .before .before .follow .ensures) _ (c .before .before .before .before .before .before .show .ensures), c .before .before .clear .ensures ∙ ap (λ (n : ℕ). replicate n 0) (c .before .before .before .before .before .before .before .before .before .before .before .before .before .follow .kept .1 .1 .1 .1 .0 ∙ c .before .before .before .before .before .before .before .before .before .before .before .before .before .before .before .before .before .before .begin .kept .1 .1 .1 .0))
+returns c =
+    let c6 = c .before .before .before .before .before .before in
+    let c13 = c6 .before .before .before .before .before .before .before in
+    let c18 = c13 .before .before .before .before .before in
+    let c26 = c18 .before .before .before .before .before .before .before .before in (
+      shows-after _ _ _ _ (c26 .args .schedule .now) _ _ _ (c18 .begin .ensures) _ _ _ (c13 .follow .ensures) _ (c6 .show .ensures),
+      c .before .before .clear .ensures ∙ ap (λ (n : ℕ). replicate n 0) (c13 .follow .kept .1 .1 .1 .1 .0 ∙ c18 .begin .kept .1 .1 .1 .0),
+    )
 
 pub show-after-spec : {M : Type 1} → statement M
 show-after-spec =

@@ -17,7 +17,11 @@ part-show-after-end : tie.Need-part-show-after-end
 part-show-after-end c = search needs
 
 show-after-requires : tie.Need-show-after-requires
-show-after-requires c κs = can-front (c .before .before .before .before .copy-front .last .0) (c .before .before .before .before .before .before .before .before .before .before .before .args .cells .now) (c .before .before .before .before .copy-front .ensures) _ _ _ (c .before .before .before .before .before .before .before .before .before .before .before .args .schedule .now) _ (c .before .before .before .before .before .before .before .before .before .before .before .args .view .now) (c .before .before .before .before .before .before .before .before .before .before .before .pre .0) (c .before .before .before .before .before .before .before .before .before .before .before .pre .1)
+show-after-requires c κs =
+    let c4 = c .before .before .before .before in
+    let c11 = c4 .before .before .before .before .before .before .before in
+    can-front (c4 .copy-front .last .0) (c11 .args .cells .now) (c4 .copy-front .ensures) _ _ _ (c11 .args .schedule .now) _ (c11 .args .view .now)
+    (c11 .pre .0) (c11 .pre .1)
 
 same-length : tie.Need-same-length
 same-length c = search needs
@@ -29,7 +33,13 @@ same-length-3 : tie.Need-same-length-3
 same-length-3 c = search needs
 
 returns : tie.Need-returns
-returns c = (shows-front (c .before .before .before .before .before .before .before .before .before .before .copy-front .last .0) (c .before .before .before .before .before .before .before .before .before .before .before .before .before .before .before .before .before .args .cells .now) (c .before .before .before .before .before .before .before .before .before .before .copy-front .ensures) _ _ _ _ _ _ (c .before .before .before .before .before .show-after .ensures .0), c .before .before .before .before .before .show-after .ensures .1)
+returns c =
+    let c5 = c .before .before .before .before .before in
+    let c10 = c5 .before .before .before .before .before in
+    let c17 = c10 .before .before .before .before .before .before .before in (
+      shows-front (c10 .copy-front .last .0) (c17 .args .cells .now) (c10 .copy-front .ensures) _ _ _ _ _ _ (c5 .show-after .ensures .0),
+      c5 .show-after .ensures .1,
+    )
 
 pub show-copied-spec : {M : Type 1} → statement M
 show-copied-spec =

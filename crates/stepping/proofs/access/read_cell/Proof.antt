@@ -15,23 +15,34 @@ row-of-requires : tie.Need-row-of-requires
 row-of-requires c κs = search needs
 
 own-of-requires : tie.Need-own-of-requires
-own-of-requires c κs = omega (arith, c .row-of .ensures, row-small (c .before .before .before .before .args .role .processors) (c .before .before .before .before .args .cell) (omega (arith, c .before .before .before .before .pre .0 .low)) (c .before .before .before .before .pre .0 .few))
+own-of-requires c κs =
+    let c4 = c .before .before .before .before in
+    omega (arith, c .row-of .ensures, row-small (c4 .args .role .processors) (c4 .args .cell) (omega (arith, c4 .pre .0 .low)) (c4 .pre .0 .few))
 
 seen-requires : tie.Need-seen-requires
 seen-requires c κs = search needs
 
 note-read-requires : tie.Need-note-read-requires
-note-read-requires c κs = (rw (c .before .before .before .own-of .ensures, c .before .before .before .before .row-of .ensures) (c .before .before .before .before .before .before .before .before .pre .0 .ready), omega (arith, c .before .before .before .before .before .group-of .ensures, c .before .before .before .before .before .before .before .before .pre .1))
+note-read-requires c κs =
+    let c3 = c .before .before .before in
+    let c4 = c3 .before in
+    let c5 = c4 .before in
+    let c8 = c5 .before .before .before in
+    (rw (c3 .own-of .ensures, c4 .row-of .ensures) (c8 .pre .0 .ready), omega (arith, c5 .group-of .ensures, c8 .pre .1))
 
 same-length : tie.Need-same-length
 same-length c = search needs
 
 returns : tie.Need-returns
 returns c =
-    let e : toZ w32 (ofZ w32 (c .before .before .before .before .seen .result)) ≡ c .before .before .before .before .seen .result = search needs in
+    let c4 = c .before .before .before .before in
+    let c6 = c4 .before .before in
+    let c7 = c6 .before in
+    let c8 = c7 .before in
+    let e : toZ w32 (ofZ w32 (c4 .seen .result)) ≡ c4 .seen .result = search needs in
     record {
-      value = e ∙ rw (c .before .before .before .before .before .before .own-of .ensures, c .before .before .before .before .before .before .before .row-of .ensures, c .before .before .before .before .before .before .before .before .group-of .ensures) at (c .before .before .before .before .seen .ensures);
-      words = rw (c .before .before .before .before .before .before .own-of .ensures, c .before .before .before .before .before .before .before .row-of .ensures, c .before .before .before .before .before .before .before .before .group-of .ensures) at (c .before .before .note-read .ensures);
+      value = e ∙ rw (c6 .own-of .ensures, c7 .row-of .ensures, c8 .group-of .ensures) at (c4 .seen .ensures);
+      words = rw (c6 .own-of .ensures, c7 .row-of .ensures, c8 .group-of .ensures) at (c .before .before .note-read .ensures);
     }
 
 pub read-cell-spec : {M : Type 1} → statement M

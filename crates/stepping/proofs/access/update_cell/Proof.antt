@@ -12,13 +12,22 @@ row-of-requires : tie.Need-row-of-requires
 row-of-requires c κs = search needs
 
 own-of-requires : tie.Need-own-of-requires
-own-of-requires c κs = omega (arith, c .row-of .ensures, row-small (c .before .before .before .args .role .processors) (c .before .before .before .args .cell) (omega (arith, c .before .before .before .pre .0 .low)) (c .before .before .before .pre .0 .few))
+own-of-requires c κs = omega (
+  arith,
+  c .row-of .ensures,
+  row-small (c .before .before .before .args .role .processors) (c .before .before .before .args .cell)
+      (omega (arith, c .before .before .before .pre .0 .low)) (c .before .before .before .pre .0 .few),
+)
 
 add-requires : tie.Need-add-requires
 add-requires c κs = search needs
 
 note-update-requires : tie.Need-note-update-requires
-note-update-requires c κs = (rw (c .before .before .before .before .own-of .ensures, c .before .before .before .before .before .row-of .ensures) (c .before .before .before .before .before .before .before .before .pre .0 .ready), omega (arith, c .before .before .before .before .before .before .before .before .pre .1))
+note-update-requires c κs =
+    let c4 = c .before .before .before .before in
+    let c5 = c4 .before in
+    let c8 = c5 .before .before .before in
+    (rw (c4 .own-of .ensures, c5 .row-of .ensures) (c8 .pre .0 .ready), omega (arith, c8 .pre .1))
 
 same-length : tie.Need-same-length
 same-length c = search needs
@@ -28,10 +37,14 @@ same-length-2 c = search needs
 
 returns : tie.Need-returns
 returns c =
-    let e : toZ w32 (ofZ w32 (c .before .before .before .before .before .before .before .before .before .before .before .args .value)) ≡ c .before .before .before .before .before .before .before .before .before .before .before .args .value = search needs in
+    let c5 = c .before .before .before .before .before in
+    let c7 = c5 .before .before in
+    let c8 = c7 .before in
+    let c11 = c8 .before .before .before in
+    let e : toZ w32 (ofZ w32 (c11 .args .value)) ≡ c11 .args .value = search needs in
     record {
-      cells = rw e at (c .before .before .before .before .before .add .ensures);
-      words = rw (e, c .before .before .before .before .before .before .before .own-of .ensures, c .before .before .before .before .before .before .before .before .row-of .ensures) at (c .before .before .note-update .ensures);
+      cells = rw e at (c5 .add .ensures);
+      words = rw (e, c7 .own-of .ensures, c8 .row-of .ensures) at (c .before .before .note-update .ensures);
     }
 
 pub update-cell-spec : {M : Type 1} → statement M

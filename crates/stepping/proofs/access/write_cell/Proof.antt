@@ -15,7 +15,9 @@ row-of-requires : tie.Need-row-of-requires
 row-of-requires c κs = search needs
 
 own-of-requires : tie.Need-own-of-requires
-own-of-requires c κs = omega (arith, c .row-of .ensures, row-small (c .before .before .before .before .args .role .processors) (c .before .before .before .before .args .cell) (omega (arith, c .before .before .before .before .pre .0 .low)) (c .before .before .before .before .pre .0 .few))
+own-of-requires c κs =
+    let c4 = c .before .before .before .before in
+    omega (arith, c .row-of .ensures, row-small (c4 .args .role .processors) (c4 .args .cell) (omega (arith, c4 .pre .0 .low)) (c4 .pre .0 .few))
 
 class-of-requires : tie.Need-class-of-requires
 class-of-requires c κs = search needs
@@ -24,7 +26,12 @@ store-requires : tie.Need-store-requires
 store-requires c κs = search needs
 
 note-write-requires : tie.Need-note-write-requires
-note-write-requires c κs = (rw (c .before .before .before .before .before .before .own-of .ensures, c .before .before .before .before .before .before .before .row-of .ensures) (c .before .before .before .before .before .before .before .before .before .before .before .pre .0 .ready), omega (arith, c .before .before .before .before .before .before .before .before .group-of .ensures, c .before .before .before .before .before .before .before .before .before .before .before .pre .1), omega (arith, c .before .before .before .before .before .before .before .before .before .before .before .pre .1))
+note-write-requires c κs =
+    let c6 = c .before .before .before .before .before .before in
+    let c7 = c6 .before in
+    let c8 = c7 .before in
+    let c11 = c8 .before .before .before in
+    (rw (c6 .own-of .ensures, c7 .row-of .ensures) (c11 .pre .0 .ready), omega (arith, c8 .group-of .ensures, c11 .pre .1), omega (arith, c11 .pre .1))
 
 same-length : tie.Need-same-length
 same-length c = search needs
@@ -34,10 +41,16 @@ same-length-2 c = search needs
 
 returns : tie.Need-returns
 returns c =
-    let e : toZ w32 (ofZ w32 (c .before .before .before .before .before .before .before .before .before .before .before .before .before .before .args .value)) ≡ c .before .before .before .before .before .before .before .before .before .before .before .before .before .before .args .value = search needs in
+    let c5 = c .before .before .before .before .before in
+    let c7 = c5 .before .before in
+    let c9 = c7 .before .before in
+    let c10 = c9 .before in
+    let c11 = c10 .before in
+    let c14 = c11 .before .before .before in
+    let e : toZ w32 (ofZ w32 (c14 .args .value)) ≡ c14 .args .value = search needs in
     record {
-      cells = rw (e, c .before .before .before .before .before .before .before .class-of .ensures, c .before .before .before .before .before .before .before .before .before .before .row-of .ensures) at (c .before .before .before .before .before .store .ensures);
-      words = rw (e, c .before .before .before .before .before .before .before .before .before .own-of .ensures, c .before .before .before .before .before .before .before .before .before .before .row-of .ensures, c .before .before .before .before .before .before .before .before .before .before .before .group-of .ensures) at (c .before .before .note-write .ensures);
+      cells = rw (e, c7 .class-of .ensures, c10 .row-of .ensures) at (c5 .store .ensures);
+      words = rw (e, c9 .own-of .ensures, c10 .row-of .ensures, c11 .group-of .ensures) at (c .before .before .note-write .ensures);
     }
 
 pub write-cell-spec : {M : Type 1} → statement M

@@ -1,11 +1,11 @@
--- `clauses::class_at` meets its contract.
-use mathlib.Core.Path.{refl}
+-- `clauses::kind_at` meets its contract, by the word that stands there.
 use native.Mathlib.Omega.{arith}
 use Rattle.syntax.specs.Bytes.{bytes}
-use Rattle.clauses.proofs.ClauseLines.{class-shared, class-lastprivate, class-reduction, strictly, strictly-on}
+use Rattle.lexer.proofs.Chains.{goes-onward, onward-both, strictly, strictly-on}
+use Rattle.clauses.proofs.ClausesRead.{kind-shared, kind-lastprivate, kind-reduction}
 use borrow.Author.Needs.{needs}
-use Rattle.clauses.proofs.class_at.Statement.{statement}
-use Rattle.clauses.proofs.class_at.Tie as tie
+use Rattle.clauses.proofs.kind_at.Statement.{statement}
+use Rattle.clauses.proofs.kind_at.Tie as tie
 
 slice-aggregate-pass : tie.Need-slice-aggregate-pass
 slice-aggregate-pass c = search needs
@@ -20,7 +20,9 @@ pass-requires-2 : tie.Need-pass-requires-2
 pass-requires-2 c κs = search needs
 
 returns : tie.Need-returns
-returns c = (class-shared _ _ _ _ _ (c .before .before .before .pass .ensures) (omega arith) (c .pass2 .ensures) refl, omega arith, omega arith, λ l. strictly-on _ _ _ _ (bytes "(") (c .pass2 .ensures) l (strictly _ _ _ (bytes "shared") (c .before .before .before .pass .ensures) (omega arith) l))
+returns c =
+    let word = c .before .before .before .pass .ensures in
+    (kind-shared word (omega arith) (c .pass2 .ensures), λ l. strictly-on (goes-onward (c .pass2 .ensures)) l (strictly (bytes "shared") (omega arith) word l))
 
 slice-aggregate-pass-3 : tie.Need-slice-aggregate-pass-3
 slice-aggregate-pass-3 c = search needs
@@ -35,7 +37,14 @@ pass-requires-4 : tie.Need-pass-requires-4
 pass-requires-4 c κs = search needs
 
 returns-2 : tie.Need-returns-2
-returns-2 c = (class-lastprivate _ _ _ _ _ (c .before .before .before .before .before .before .pass .ensures) _ (c .before .before .before .pass3 .ensures) (omega arith) (omega arith) (c .pass4 .ensures) refl, omega arith, omega arith, λ l. strictly-on _ _ _ _ (bytes "(") (c .pass4 .ensures) l (strictly _ _ _ (bytes "lastprivate") (c .before .before .before .pass3 .ensures) (omega arith) l))
+returns-2 c =
+    let c3 = c .before .before .before in
+    let c6 = c3 .before .before .before in
+    let word = c3 .pass3 .ensures in (
+      kind-lastprivate (c6 .pass .ensures) (omega arith) word (omega arith) (c .pass4 .ensures),
+      λ l. strictly-on (goes-onward (c .pass4 .ensures)) l
+          (strictly (bytes "lastprivate") (omega arith) word l),
+    )
 
 slice-aggregate-pass-5 : tie.Need-slice-aggregate-pass-5
 slice-aggregate-pass-5 c = search needs
@@ -62,10 +71,21 @@ pass-requires-8 : tie.Need-pass-requires-8
 pass-requires-8 c κs = search needs
 
 returns-3 : tie.Need-returns-3
-returns-3 c = (class-reduction _ _ _ _ _ (c .before .before .before .before .before .before .before .before .before .before .before .before .pass .ensures) _ (c .before .before .before .before .before .before .before .before .before .pass3 .ensures) (omega arith) (omega arith) _ _ _ (c .before .before .before .before .before .before .pass5 .ensures) (c .before .before .before .before .pass6 .ensures) (c .before .before .pass7 .ensures) (c .pass8 .ensures) refl, omega arith, omega arith, λ l. strictly-on _ _ _ _ (bytes ":") (c .pass8 .ensures) l (strictly-on _ _ _ _ (bytes "+") (c .before .before .pass7 .ensures) l (strictly-on _ _ _ _ (bytes "(") (c .before .before .before .before .pass6 .ensures) l (strictly _ _ _ (bytes "reduction") (c .before .before .before .before .before .before .pass5 .ensures) (omega arith) l))))
+returns-3 c =
+    let c4 = c .before .before .before .before in
+    let c6 = c4 .before .before in
+    let c9 = c6 .before .before .before in
+    let c12 = c9 .before .before .before in
+    let word = c6 .pass5 .ensures in
+    let on = onward-both (goes-onward (c4 .pass6 .ensures))
+    (onward-both (goes-onward (c .before .before .pass7 .ensures)) (goes-onward (c .pass8 .ensures))) in (
+      kind-reduction (c12 .pass .ensures) (omega arith) (c9 .pass3 .ensures) (omega arith) word (c4 .pass6 .ensures)
+          (c .before .before .pass7 .ensures) (c .pass8 .ensures),
+      λ l. strictly-on on l (strictly (bytes "reduction") (omega arith) word l),
+    )
 
-pub class-at-spec : {M : Type 1} → statement M
-class-at-spec =
+pub kind-at-spec : {M : Type 1} → statement M
+kind-at-spec =
     tie.close
     (tie.spec
     slice-aggregate-pass
