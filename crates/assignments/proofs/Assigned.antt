@@ -23,11 +23,8 @@ use Rattle.names.specs.declared.Named as names
 use Rattle.names.specs.Table.{variableOf, Tabled, Knows}
 use Rattle.lexer.specs.declared.Tok.{Tok}
 use Rattle.lexer.specs.Lex.{part, kind-number, Lexed}
-use Rattle.lexer.specs.Places.{Goes, Any, passes}
-use Rattle.lexer.proofs.Said.{sees-said, sign-text}
-use Rattle.lexer.proofs.PlaceLaws.{pass-there, pass-not, pass-onward}
+use Rattle.lexer.proofs.Said.{sees-said}
 use Rattle.parts.specs.Answer.{worst, Reads, Within, Answers}
-use Rattle.expressions.specs.Readers.{readRemainder}
 use Rattle.parts.specs.Parts.{stands, spanOf, Room, Emits}
 use Rattle.parts.specs.declared.Got.{Got}
 use Rattle.parts.specs.declared.Got.the-variants.{Broken, Done}
@@ -37,7 +34,7 @@ use Rattle.parts.proofs.Spans.{within-done, within-from, within-emits}
 use Rattle.assignments.specs.declared.Target.{Target}
 use Rattle.statements.specs.Statement.{Bounded}
 use Rattle.alike.specs.Alike.{Alike}
-use Rattle.assignments.specs.Assignment.{operandOf, Named, Targets, Adds, Begun, Past, Summands, Back, testWords, Tests, codeUpdate, codeStore, Updates, Stores}
+use Rattle.assignments.specs.Assignment.{operandOf, Named, Targets, signs, Adds, Begun, Past, Summands, Back, testWords, Tests, codeUpdate, codeStore, Updates, Stores}
 use Rattle.assignments.proofs.Readings.{indexed, ref-read}
 
 -- ---- small parts
@@ -244,10 +241,10 @@ module _ (T s : List ℕ) (at line place most : ℕ) (b m a : List ℕ) (g r : G
 module _ (T s : List ℕ) (at line place most : ℕ) (b m m′ a : List ℕ) (p : ℕ) (g r : Got) (tg : Target) (ta : Targets T s tg) (op : ℕ)
     (eop : op ≡ cond (tg .subscripted) (14 + 32 * line) 13)
     (te : Tests (tg .subscripted) line (tg .operand) place b m p)
-    (an : Answers readRemainder (λ t v. code t v line) (mentions 0) 1 (suc at) T s at p most m m′ g) (em : Emits 1 (op ∷ tg .operand ∷ []) g m′ a r) where
-  updates-reads : (t : List Entry) → Tabled T t → (f : ℕ) → 3 * (length s - at) + 1 < f → (j : ℕ) (x : Ref) (u : List ℕ)
+    (an : Answers (readExpr peek-in skip-in) (λ t v. code t v line) (mentions 0) 2 (suc at) T s at p most m m′ g) (em : Emits 1 (op ∷ tg .operand ∷ []) g m′ a r) where
+  updates-reads : (t : List Entry) → Tabled T t → (f : ℕ) → 3 * (length s - at) + 2 < f → (j : ℕ) (x : Ref) (u : List ℕ)
       → readRef peek-in skip-in j s ≡ done x u
-      → Reads (codeUpdate t (variableOf T) line x) (λ e. worst t (variableOf T) (mentions 0 e)) s (readRemainder f (drop at s)) place most b a r
+      → Reads (codeUpdate t (variableOf T) line x) (λ e. worst t (variableOf T) (mentions 0 e)) s (readExpr peek-in skip-in f (drop at s)) place most b a r
   updates-reads t d f lt j x u hx =
       let v = variableOf T in
       let me = meant ta t d j x u hx in
@@ -258,8 +255,8 @@ module _ (T s : List ℕ) (at line place most : ℕ) (b m m′ a : List ℕ) (p 
       let so : Since place most b (checks t v line x) 0 p most m =
       subst (λ (i : ℕ). Since place most b (checks t v line x) 0 i most m) ep (since-emit (since-none place most b) (checks t v line x)
       (te .written ∙ ap (sets b (2 * place)) (check-words t v line x (me .subscripted) (me .operand)))) in
-      subst (λ (P : Parsed (List ℕ) Expr). Reads c k s P place most b a r) (next-done (readRemainder f (drop at s)))
-      (reads-next c k s place most b a r (code t v line) k (readRemainder f (drop at s)) (λ y w. done y w) m′ g so (an .reads t d f lt)
+      subst (λ (P : Parsed (List ℕ) Expr). Reads c k s P place most b a r) (next-done (readExpr peek-in skip-in f (drop at s)))
+      (reads-next c k s place most b a r (code t v line) k (readExpr peek-in skip-in f (drop at s)) (λ y w. done y w) m′ g so (an .reads t d f lt)
       (λ y n p′ q le e so′.
       let w = done-emits 1 (op ∷ tg .operand ∷ []) g m′ a r n p′ q em e in
       reads-done c k s place most b a r y le (since-emit so′ (updates t v line x ∷ []) (w .1 ∙ ap (sets m′ (2 * p′)) ws)) refl (omega arith) (w .0))
@@ -284,7 +281,7 @@ module _ (b : Bool) (T s : List ℕ) (n from place most : ℕ) (before after : L
       go : (t : List Entry) (x : Ref) (P : Parsed (List ℕ) Ref) → Begun b t (variableOf T) s x P place most Broken
       go t x broken = refl
       go t x (done y u) = subst
-          (λ (c : Bool). Adds (c && (stands 43 u && alike (showRef x) (showRef y))) s u place (max most (worst t (variableOf T) (inRef 0 y))) Broken)
+          (λ (c : Bool). Adds (c && (signs u && alike (showRef x) (showRef y))) s u place (max most (worst t (variableOf T) (inRef 0 y))) Broken)
           (sym e) refl
 
   module _ (line : ℕ) (m m′ : List ℕ) (g : Got)
@@ -306,7 +303,7 @@ module _ (b : Bool) (T s : List ℕ) (n from place most : ℕ) (before after : L
       by-reference : (r : Got) → Past s from place r
           → ((t : List Entry) (x y : Ref) → Spells peek-in skip-in s (showRef x) (drop n s) → Spells peek-in skip-in (drop from s) (showRef y)
           (drop to s) → z ≡ max most (worst t (variableOf T) (inRef 0 y))
-          → Adds (b && (stands 43 (drop to s) && alike (showRef x) (showRef y))) s (drop to s) place (max most (worst t (variableOf T) (inRef 0 y))) r)
+          → Adds (b && (signs (drop to s) && alike (showRef x) (showRef y))) s (drop to s) place (max most (worst t (variableOf T) (inRef 0 y))) r)
           → Summands b T s n from place most before after r
       unfolding Begun
       by-reference r pa h = record {
@@ -320,40 +317,33 @@ module _ (b : Bool) (T s : List ℕ) (n from place most : ℕ) (before after : L
         past = pa;
       }
 
-      module _ {past : ℕ} (go : Goes Any s to (passes (bytes "+")) past) (within : to ≤ length s) where
-        no-plus : length s < past → stands 43 (drop to s) ≡ false
-        no-plus l = sign-text (43 ∷ []) refl (drop to s) ∙ pass-not s (bytes "+") to past go within l
+      and-not : (a c : Bool) → a && (false && c) ≡ false
+      and-not true c = refl
+      and-not false c = refl
 
-        and-not : (a c : Bool) → a && (false && c) ≡ false
-        and-not true c = refl
-        and-not false c = refl
+      and-none : (a c : Bool) → a && (c && false) ≡ false
+      and-none true true = refl
+      and-none true false = refl
+      and-none false c = refl
 
-        and-none : (a c : Bool) → a && (c && false) ≡ false
-        and-none true true = refl
-        and-none true false = refl
-        and-none false c = refl
+      pub summands-unadded : signs (drop to s) ≡ false → Summands b T s n from place most before after Broken
+      unfolding Past Adds
+      summands-unadded es = by-reference Broken tt (λ t x y sx sy ez.
+          subst (λ (c : Bool). Adds c s (drop to s) place (max most (worst t (variableOf T) (inRef 0 y))) Broken)
+          (sym (ap (λ (c : Bool). b && (c && alike (showRef x) (showRef y))) es ∙ and-not b (alike (showRef x) (showRef y)))) refl)
 
-        pub summands-unadded : length s < past → Summands b T s n from place most before after Broken
+      module _ {al : Bool} (ha : Alike s n from to al) where
+        pub summands-other : al ≡ false → Summands b T s n from place most before after Broken
         unfolding Past Adds
-        summands-unadded l = by-reference Broken tt (λ t x y sx sy ez.
+        summands-other ea = by-reference Broken tt (λ t x y sx sy ez.
             subst (λ (c : Bool). Adds c s (drop to s) place (max most (worst t (variableOf T) (inRef 0 y))) Broken)
-            (sym (ap (λ (c : Bool). b && (c && alike (showRef x) (showRef y))) (no-plus l) ∙ and-not b (alike (showRef x) (showRef y)))) refl)
+            (sym (ap (λ (c : Bool). b && (signs (drop to s) && c)) (sym (ha (showRef x) (showRef y) sx sy) ∙ ea) ∙ and-none b (signs (drop to s)))) refl)
 
-        module _ {al : Bool} (ha : Alike s n from to al) where
-          pub summands-other : al ≡ false → Summands b T s n from place most before after Broken
-          unfolding Past Adds
-          summands-other ea = by-reference Broken tt (λ t x y sx sy ez.
-              subst (λ (c : Bool). Adds c s (drop to s) place (max most (worst t (variableOf T) (inRef 0 y))) Broken)
-              (sym (ap (λ (c : Bool). b && (stands 43 (drop to s) && c)) (sym (ha (showRef x) (showRef y) sx sy) ∙ ea)
-              ∙ and-none b (stands 43 (drop to s))))
-              refl)
-
-          pub summands-found : b ≡ true → al ≡ true → past ≤ length s → Summands b T s n from place most before after (Done past place z)
-          unfolding Past Adds
-          summands-found eb ea l =
-              let w = within-done s from 0 (suc from) g to p z (an .within) e in
-              let th = pass-there s (bytes "+") to past go within l in
-              by-reference (Done past place z) (omega (arith, w .0, pass-onward s (bytes "+") to past go (omega arith) within l), l, refl) (λ t x y sx sy ez.
-              subst (λ (c : Bool). Adds c s (drop to s) place (max most (worst t (variableOf T) (inRef 0 y))) (Done past place z))
-              (λ i. sym eb i && ((sym (sign-text (43 ∷ []) refl (drop to s) ∙ th .0)) i && (sym (sym (ha (showRef x) (showRef y) sx sy) ∙ ea)) i))
-              (past, ap (Done past place) ez, th .1))
+        pub summands-found : b ≡ true → al ≡ true → signs (drop to s) ≡ true → Summands b T s n from place most before after (Done to place z)
+        unfolding Past Adds
+        summands-found eb ea es =
+            let w = within-done s from 0 (suc from) g to p z (an .within) e in
+            by-reference (Done to place z) (omega (arith, w .0), w .1, refl) (λ t x y sx sy ez.
+            subst (λ (c : Bool). Adds c s (drop to s) place (max most (worst t (variableOf T) (inRef 0 y))) (Done to place z))
+            (λ i. sym eb i && (sym es i && (sym (sym (ha (showRef x) (showRef y) sx sy) ∙ ea)) i))
+            (to, ap (Done to place) ez, refl))

@@ -20,8 +20,6 @@ use Rattle.names.specs.Table.{variableOf, Tabled}
 use Rattle.lexer.specs.Places.{Goes, Any, passes}
 use Rattle.lexer.proofs.PlaceLaws.{pass-onward}
 use Rattle.parts.specs.Answer.{worst, Reads, Within, Answers}
-use Rattle.expressions.specs.Readers.{readRemainder}
-use Rattle.parts.specs.Parts.{stands}
 use Rattle.parts.specs.declared.Got.{Got}
 use Rattle.parts.specs.declared.Got.the-variants.{Broken, Done}
 use Rattle.parts.proofs.Laws.{worst-append, Since, read-done, read-broken}
@@ -29,7 +27,7 @@ use Rattle.code.proofs.Words.{words-append, words-length}
 use Rattle.parts.proofs.Spans.{within-done}
 use Rattle.assignments.specs.declared.Target.{Target}
 use Rattle.statements.specs.Statement.{codeLine, assignedRank, rankLine, Writes, Bounded, Compiles}
-use Rattle.assignments.specs.Assignment.{Targets, Adds, Begun, Past, Summands, codeUpdate, codeStore, Updates, Stores}
+use Rattle.assignments.specs.Assignment.{Targets, signs, Adds, Begun, Past, Summands, codeUpdate, codeStore, Updates, Stores}
 use Rattle.statements.proofs.Passing.{expects-there, expects-not}
 use Rattle.statements.proofs.Written.{take-sets, bounded-done}
 use Rattle.assignments.proofs.Readings.{joined, joined-read, joined-summand, joined-rank, joined-remainder, summand-read}
@@ -145,7 +143,7 @@ module _ (T s : List ℕ) (line place : ℕ) (b m₁ a : List ℕ) (r : Got) (mo
             by-summand (some y) e =
                 let (u, hy, pl) = summand-read f (drop from s) w c y hc e in
                 ap (λ (q : Bool). q && alike (showRef x) (showRef y)) (sym (me .reduction))
-                ∙ by-test (stands 43 u) (tg .reduction) (alike (showRef x) (showRef y)) pl u _
+                ∙ by-test (signs u) (tg .reduction) (alike (showRef x) (showRef y)) pl u _
                 (subst (λ (P : Parsed (List ℕ) Ref). Begun (tg .reduction) t (variableOf T) s x P p z g₂) hy
                 (su .begun t d f (omega arith) x (sounds peek-in skip-in (suc (suc (suc f))) .ref s (drop n s) x hx)))
 
@@ -194,7 +192,7 @@ module _ (T s : List ℕ) (line place : ℕ) (b m₁ a : List ℕ) (r : Got) (mo
         -- ---- an update
 
         module _ (a₂ q y₂ : ℕ) (eg : g₂ ≡ Done a₂ q y₂) (up : Updates T s a₂ line q y₂ m₂ a r) where
-          past-left : (suc from < a₂) × (a₂ ≤ length s) × (q ≡ p)
+          past-left : (from < a₂) × (a₂ ≤ length s) × (q ≡ p)
           unfolding Past
           past-left = subst (Past s from p) eg (su .past)
 
@@ -241,17 +239,17 @@ module _ (T s : List ℕ) (line place : ℕ) (b m₁ a : List ℕ) (r : Got) (mo
                   ∙ simp append-assoc)
 
               -- P is what is read as the remainder
-              updated : (P : Parsed (List ℕ) Expr) → readRemainder (suc f) (drop a₂ s) ≡ P
+              updated : signs (drop a₂ s) ≡ true → (P : Parsed (List ℕ) Expr) → readExpr peek-in skip-in (suc (suc f)) (drop a₂ s) ≡ P
                   → Reads (codeUpdate t (variableOf T) line x) (λ c. worst t (variableOf T) (mentions 0 c)) s P q y₂ m₂ a r
                   → Writes t (variableOf T) line s (next (next P (λ c w. done (joined y c) w)) (λ c w. done (inside (assign x c)) w)) place b a r
               unfolding Reads Writes codeLine
-              updated broken e h = h
-              updated (done c w) e h =
+              updated es broken e h = h
+              updated es (done c w) e h =
                   let v = variableOf T in
                   let me = meant ta t d (suc (suc (suc f))) x (drop n s) hx in
                   let js = codeUpdate t v line x c in
                   let eq = past-left .2 in
-                  let ec = update-code c (joined-remainder (suc f) (drop a₂ s) w y c e) in
+                  let ec = update-code c (joined-remainder (suc f) (drop a₂ s) w y c es e) in
                   let el : q + length js ≡ place + length (codeRef t v line x ++ js) = omega (arith, so .place-is, length-append (codeRef t v line x) js) in
                   let ek : max y₂ (worst t v (mentions 0 c)) ≡ rankLine t v (inside (assign x (joined y c))) = omega (
                     arith,
@@ -271,22 +269,22 @@ module _ (T s : List ℕ) (line place : ℕ) (b m₁ a : List ℕ) (r : Got) (mo
                 → Writes t (variableOf T) line s (readAssign peek-in skip-in (suc (suc (suc f))) s) place b a r
             unfolding Begun Adds
             by-reference broken e h = absurd (let z : _≡_ {A = ℕ} 0 1 = cc in omega arith)
-            by-reference (done y u) e h = by-test (tg .reduction) (stands 43 u) (alike (showRef x) (showRef y)) refl refl refl h
+            by-reference (done y u) e h = by-test (tg .reduction) (signs u) (alike (showRef x) (showRef y)) refl refl refl h
               where
-                by-test : (i j k : Bool) → tg .reduction ≡ i → stands 43 u ≡ j → alike (showRef x) (showRef y) ≡ k
+                by-test : (i j k : Bool) → tg .reduction ≡ i → signs u ≡ j → alike (showRef x) (showRef y) ≡ k
                     → Adds (i && (j && k)) s u p (max z (worst t (variableOf T) (inRef 0 y))) g₂
                     → Writes t (variableOf T) line s (readAssign peek-in skip-in (suc (suc (suc f))) s) place b a r
                 by-test true true true ei ej ek (a′, h, su′) =
                     let ea : a′ ≡ a₂ = cc in
+                    let eu : u ≡ drop a₂ s = su′ ∙ ap (λ (i : ℕ). drop i s) ea in
                     let ey : y₂ ≡ max z (worst t (variableOf T) (inRef 0 y)) = cc in
                     subst (λ (P : Parsed (List ℕ) Line). Writes t (variableOf T) line s P place b a r)
                     (sym (assign-shape (suc (suc (suc f))) x hx
                     ∙ ap (λ (P : Parsed (List ℕ) Expr). next P (λ c w. done (inside (assign x c)) w))
                     (joined-read f (drop from s) u y e ej
-                    ∙ ap (λ (v : List ℕ). next (readRemainder (suc f) v) (λ c w. done (joined y c) w))
-                    (su′ ∙ ap (λ (i : ℕ). drop i s) ea))))
-                    (updated y ey ei ek (readRemainder (suc f) (drop a₂ s)) refl
-                    (up .reads t d (suc f) (omega (arith, past-left .0, past-left .1)) (suc (suc (suc f))) x (drop n s) hx))
+                    ∙ ap (λ (v : List ℕ). next (readExpr peek-in skip-in (suc (suc f)) v) (λ c w. done (joined y c) w)) eu)))
+                    (updated y ey ei ek (ap signs (sym eu) ∙ ej) (readExpr peek-in skip-in (suc (suc f)) (drop a₂ s)) refl
+                    (up .reads t d (suc (suc f)) (omega (arith, past-left .0, past-left .1)) (suc (suc (suc f))) x (drop n s) hx))
                 by-test true true false ei ej ek h = absurd (let z : _≡_ {A = ℕ} 0 1 = cc in omega arith)
                 by-test true false k ei ej ek h = absurd (let z : _≡_ {A = ℕ} 0 1 = cc in omega arith)
                 by-test false j k ei ej ek h = absurd (let z : _≡_ {A = ℕ} 0 1 = cc in omega arith)

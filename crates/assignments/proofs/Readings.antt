@@ -1,24 +1,25 @@
--- What the readers of an assignment read: a reference begins with a name; an expression that begins with a reference and + is that reference and the
--- remainder after the +; and where an expression's summand is a reference, that is read first and + stands after it.
+-- What the readers of an assignment read: a reference begins with a name; an expression that begins with a reference, followed by + or -, is that reference
+-- and the remainder, an expression that begins with the sign; and where an expression's summand is a reference, that is read first and + or - stands after it.
 use mathlib.Core.Path.{_≡_, refl, sym, _∙_, ap}
 use mathlib.Core.Logic.{inl, inr}
-use mathlib.Core.Bool.{Bool, true, false, cond, _&&_, _||_, not}
+use mathlib.Core.Bool.{Bool, true, false, cond, _&&_, _||_}
 use mathlib.Core.List.{List, [], _∷_, _++_, append-nil}
-use mathlib.Core.Option.{none, some}
+use mathlib.Core.Option.{some}
 use Prim.Native.Nat.{ℕ, zero, suc, max}
 use native.Mathlib.Omega.{arith}
 use borrow.Author.Tests.{eqb-true}
 use lib.Dec.{eqb}
 use Rattle.syntax.specs.Bytes.{choose, bytes, same, sign}
-use Rattle.syntax.specs.Grammar.{Lead, bare, plus, minus, Expr, expr, Terms, terms, Term, term, Factors, no-factors, factors, Factor, literal, cell, rdiv, brackets, Ref, single, element}
+use Rattle.syntax.specs.Grammar.{Lead, bare, plus, minus, Expr, expr, Terms, terms, Term, term, Factors, no-factors, Factor, cell, rdiv, Ref, single, element}
 use Rattle.syntax.specs.Known.{Entry}
-use Rattle.syntax.specs.Meaning.{summand, added, unled, lone, remainder}
+use Rattle.syntax.specs.Meaning.{summand, followed, remainder}
 use Rattle.syntax.specs.Conditions.{refName, mentions, inTerms, inTerm, inRef}
 use Rattle.syntax.specs.Reader.{done, next, kind, text, is, sees, says, expects, isDigits, readDigits, readName, readLead, readExpr, readTerms, readTerm, readFactors, readFactor, readRef, peek-in, skip-in}
+use Rattle.syntax.proofs.Added.{summand-parts}
 use Rattle.syntax.proofs.Spelling.{not-done, same-done, bound, chosen, conded, is-true}
 use Rattle.parts.specs.Answer.{worst}
-use Rattle.expressions.specs.Readers.{readRemainder}
 use Rattle.parts.specs.Parts.{stands}
+use Rattle.assignments.specs.Assignment.{signs}
 use Rattle.parts.proofs.Laws.{worst-append}
 use Rattle.syntax.proofs.ReaderLaws.{next-assoc, next-same}
 
@@ -55,7 +56,7 @@ ref-read (suc f) u w x h =
       | inr c ↦ same-done (λ y _. Referred u y) (c .1) (record { name = eqb-true _ 1 p; text = refl; subscript = sym (c .0) })
     ]) k1
 
--- ---- what a name and a + are not
+-- ---- what a name and a sign are not
 
 module _ (u : List ℕ) (e : kind (peek-in u) ≡ 1) where
   name-no-sign : (x : List ℕ) → is (sign x) (peek-in u) ≡ false
@@ -67,16 +68,50 @@ module _ (u : List ℕ) (e : kind (peek-in u) ≡ 1) where
   name-no-digits : isDigits peek-in skip-in u ≡ false
   name-no-digits = ap (λ (k : ℕ). eqb k 3) e
 
-plus-no : (w x : List ℕ) → stands 43 w ≡ true → same x (43 ∷ []) ≡ false → is (sign x) (peek-in w) ≡ false
-plus-no w x p d = ap (is (sign x)) (is-true (sign (43 ∷ [])) (peek-in w) p) ∙ d
+sign-no : (w y x : List ℕ) → is (sign y) (peek-in w) ≡ true → same x y ≡ false → is (sign x) (peek-in w) ≡ false
+sign-no w y x p d = ap (is (sign x)) (is-true (sign y) (peek-in w) p) ∙ d
 
--- ---- a reference and +, and the remainder
+-- where + or - stands, that sign leads, and neither * nor / stands there
+record Led (w : List ℕ) : Type 0 where
+  minus? : Bool
+  lead : readLead peek-in skip-in w ≡ done (cond minus? minus plus) (skip-in w)
+  subtracts : stands 45 w ≡ minus?
+  no-product : stands 42 w ≡ false
+  no-quotient : stands 47 w ≡ false
+
+led-by : (w : List ℕ) → signs w ≡ true → Led w
+led-by w p = go (stands 43 w) (stands 45 w) refl refl p
+  where
+    go : (a b : Bool) → stands 43 w ≡ a → stands 45 w ≡ b → a || b ≡ true → Led w
+    go true b ea eb h = record {
+      minus? = false;
+      lead = rw ea refl;
+      subtracts = sign-no w (43 ∷ []) (45 ∷ []) ea refl;
+      no-product = sign-no w (43 ∷ []) (42 ∷ []) ea refl;
+      no-quotient = sign-no w (43 ∷ []) (47 ∷ []) ea refl;
+    }
+    go false true ea eb h = record {
+      minus? = true;
+      lead = rw (ea, eb) refl;
+      subtracts = eb;
+      no-product = sign-no w (45 ∷ []) (42 ∷ []) eb refl;
+      no-quotient = sign-no w (45 ∷ []) (47 ∷ []) eb refl;
+    }
+    go false false ea eb h = absurd (let z : _≡_ {A = ℕ} 0 1 = cc in omega arith)
+
+-- ---- a reference and a sign, and the remainder
+
+-- whether a lead is -
+abbrev subtracting : Lead → Bool
+subtracting bare = false
+subtracting plus = false
+subtracting minus = true
 
 -- a reference before a remainder
 unfoldable pub joined : Ref → Expr → Expr
-joined y (expr l t ts) = expr bare (term (cell y) no-factors) (terms false t ts)
+joined y (expr l t ts) = expr bare (term (cell y) no-factors) (terms (subtracting l) t ts)
 
-module _ (f : ℕ) (u w : List ℕ) (y : Ref) (h : readRef peek-in skip-in f u ≡ done y w) (p : stands 43 w ≡ true) where
+module _ (f : ℕ) (u w : List ℕ) (y : Ref) (h : readRef peek-in skip-in f u ≡ done y w) (p : signs w ≡ true) where
   lead-none : readLead peek-in skip-in u ≡ done bare u
   lead-none = let e = ref-read f u w y h .name in rw (name-no-sign u e (43 ∷ []), name-no-sign u e (45 ∷ []))
 
@@ -86,30 +121,38 @@ module _ (f : ℕ) (u w : List ℕ) (y : Ref) (h : readRef peek-in skip-in f u �
 
   factors-none : readFactors peek-in skip-in (suc f) w ≡ done no-factors w
   unfolding readFactors
-  factors-none = rw (plus-no w (42 ∷ []) p refl, plus-no w (47 ∷ []) p refl)
+  factors-none = rw (led-by w p .no-product, led-by w p .no-quotient)
 
   term-is : readTerm peek-in skip-in (suc (suc f)) u ≡ done (term (cell y) no-factors) w
   unfolding readTerm
   term-is = rw (factor-is, factors-none)
 
   terms-are : readTerms peek-in skip-in (suc (suc f)) w
-      ≡ next (readTerm peek-in skip-in (suc f) (skip-in w)) (λ t v. next (readTerms peek-in skip-in (suc f) v) (λ ts z. done (terms false t ts) z))
+      ≡ next (readTerm peek-in skip-in (suc f) (skip-in w)) (λ t v. next (readTerms peek-in skip-in (suc f) v)
+      (λ ts z. done (terms (stands 45 w) t ts) z))
   unfolding readTerms
-  terms-are = rw (p, plus-no w (45 ∷ []) p refl)
+  terms-are = rw p
 
-  pub joined-read : readExpr peek-in skip-in (suc (suc (suc f))) u ≡ next (readRemainder (suc f) (skip-in w)) (λ e v. done (joined y e) v)
+  pub joined-read : readExpr peek-in skip-in (suc (suc (suc f))) u ≡ next (readExpr peek-in skip-in (suc (suc f)) w) (λ e v. done (joined y e) v)
   unfolding readExpr joined
   joined-read =
-      rw (lead-none, term-is, terms-are)
+      let led = led-by w p in
+      rw (lead-none, term-is, terms-are, led .lead)
       (next-assoc (readTerm peek-in skip-in (suc f) (skip-in w))
-      (λ t v. next (readTerms peek-in skip-in (suc f) v) (λ ts z. done (terms false t ts) z))
+      (λ t v. next (readTerms peek-in skip-in (suc f) v) (λ ts z. done (terms (stands 45 w) t ts) z))
       (λ ts z. done (expr bare (term (cell y) no-factors) ts) z)
       ∙ next-same (readTerm peek-in skip-in (suc f) (skip-in w)) _ _
-      (λ t v. next-assoc (readTerms peek-in skip-in (suc f) v) (λ ts z. done (terms false t ts) z)
+      (λ t v. next-assoc (readTerms peek-in skip-in (suc f) v) (λ ts z. done (terms (stands 45 w) t ts) z)
       (λ ts z. done (expr bare (term (cell y) no-factors) ts) z)
-      ∙ sym (next-assoc (readTerms peek-in skip-in (suc f) v) (λ ts z. done (expr bare t ts) z) (λ e z. done (joined y e) z)))
+      ∙ next-same (readTerms peek-in skip-in (suc f) v) _ _ (λ ts z. ap (λ (m : Bool). done (expr bare (term (cell y) no-factors) (terms m t ts)) z)
+      (led .subtracts ∙ same-sign (led .minus?)))
+      ∙ sym (next-assoc (readTerms peek-in skip-in (suc f) v) (λ ts z. done (expr (cond (led .minus?) minus plus) t ts) z) (λ e z. done (joined y e) z)))
       ∙ sym (next-assoc (readTerm peek-in skip-in (suc f) (skip-in w))
-      (λ t v. next (readTerms peek-in skip-in (suc f) v) (λ ts z. done (expr bare t ts) z)) (λ e z. done (joined y e) z)))
+      (λ t v. next (readTerms peek-in skip-in (suc f) v) (λ ts z. done (expr (cond (led .minus?) minus plus) t ts) z)) (λ e z. done (joined y e) z)))
+    where
+      same-sign : (m : Bool) → m ≡ subtracting (cond m minus plus)
+      same-sign true = refl
+      same-sign false = refl
 
 pub joined-summand : (y : Ref) (e : Expr) → summand (joined y e) ≡ some y
 unfolding joined summand
@@ -122,32 +165,23 @@ joined-rank t v y (expr l a as′) =
     worst-append t v (inRef 0 y ++ []) (inTerm 0 a ++ inTerms 0 as′)
     ∙ ap (λ (ms : List _). max (worst t v ms) (worst t v (inTerm 0 a ++ inTerms 0 as′))) (append-nil (inRef 0 y))
 
--- what is read as a remainder has no lead
-pub joined-remainder : (f : ℕ) (u w : List ℕ) (y : Ref) (e : Expr) → readRemainder f u ≡ done e w → remainder (joined y e) ≡ e
-unfolding joined remainder
-joined-remainder f u w y e h =
-    bound (readTerm peek-in skip-in f u) _ h λ t m1 h1 k1.
+-- what is read as a remainder begins with its sign
+pub joined-remainder : (f : ℕ) (u w : List ℕ) (y : Ref) (e : Expr) → signs u ≡ true → readExpr peek-in skip-in (suc f) u ≡ done e w
+    → remainder (joined y e) ≡ e
+unfolding joined remainder readExpr
+joined-remainder f u w y e p h =
+    let led = led-by u p in
+    bound (readLead peek-in skip-in u) _ h λ l m0 h0 k0.
+    bound (readTerm peek-in skip-in f m0) _ k0 λ t m1 h1 k1.
     bound (readTerms peek-in skip-in f m1) _ k1 λ ts m2 h2 k2.
-    same-done (λ e _. remainder (joined y e) ≡ e) k2 refl
+    same-done (λ e _. remainder (joined y e) ≡ e) k2
+    (same-done (λ l _. remainder (joined y (expr l t ts)) ≡ expr l t ts) (sym (led .lead) ∙ h0) (go t ts (led .minus?)))
+  where
+    go : (t : Term) (ts : Terms) (m : Bool) → remainder (joined y (expr (cond m minus plus) t ts)) ≡ expr (cond m minus plus) t ts
+    go t ts true = refl
+    go t ts false = refl
 
 -- ---- where an expression's summand is a reference
-
-lone-parts : (l : Lead) (x : Factor) (xs : Factors) (y : Ref) → unled l (lone x xs) ≡ some y → (l ≡ bare) × (term x xs ≡ term (cell y) no-factors)
-lone-parts bare (literal d) xs y h = absurd (let z : _≡_ {A = ℕ} 0 1 = cc in omega arith)
-lone-parts bare (cell q) no-factors y h = (refl, ap (λ (r : Ref). term (cell r) no-factors) (cc))
-lone-parts bare (cell q) (factors o x xs) y h = absurd (let z : _≡_ {A = ℕ} 0 1 = cc in omega arith)
-lone-parts bare (rdiv a b) xs y h = absurd (let z : _≡_ {A = ℕ} 0 1 = cc in omega arith)
-lone-parts bare (brackets e) xs y h = absurd (let z : _≡_ {A = ℕ} 0 1 = cc in omega arith)
-lone-parts plus x xs y h = absurd (let z : _≡_ {A = ℕ} 0 1 = cc in omega arith)
-lone-parts minus x xs y h = absurd (let z : _≡_ {A = ℕ} 0 1 = cc in omega arith)
-
-summand-parts : (l : Lead) (t : Term) (ts : Terms) (y : Ref) → summand (expr l t ts) ≡ some y → (l ≡ bare) × (t ≡ term (cell y) no-factors) × (added ts ≡ true)
-unfolding summand
-summand-parts l (term x xs) ts y h = go (added ts) refl h
-  where
-    go : (b : Bool) → added ts ≡ b → cond b (unled l (lone x xs)) none ≡ some y → (l ≡ bare) × (term x xs ≡ term (cell y) no-factors) × (added ts ≡ true)
-    go true e h = let (p, q) = lone-parts l x xs y h in (p, q, e)
-    go false e h = absurd (let z : _≡_ {A = ℕ} 0 1 = cc in omega arith)
 
 bare-read : (u m : List ℕ) (l : Lead) → l ≡ bare → readLead peek-in skip-in u ≡ done l m → u ≡ m
 bare-read u m l e h = go (stands 43 u) (stands 45 u) h
@@ -205,23 +239,15 @@ term-read f u m t y e h =
     let em : m2 ≡ m = cc in
     factor-read f u m1 x y ex h1 ∙ ap (done y) (factors-read f m1 m2 xs exs h2 ∙ em)
 
-terms-read : (f : ℕ) (u m : List ℕ) (ts : Terms) → added ts ≡ true → readTerms peek-in skip-in (suc f) u ≡ done ts m → stands 43 u ≡ true
+terms-read : (f : ℕ) (u m : List ℕ) (ts : Terms) → followed ts ≡ true → readTerms peek-in skip-in (suc f) u ≡ done ts m → signs u ≡ true
 unfolding readTerms
-terms-read f u m ts e h = elim (chosen (stands 43 u || stands 45 u) _ _ h) [
-  | inl c ↦
-      bound (readTerm peek-in skip-in f (skip-in u)) _ (c .1) λ t m1 h1 k1.
-      bound (readTerms peek-in skip-in f m1) _ k1 λ ts m2 h2 k2.
-      go (stands 43 u) (stands 45 u) (c .0) (same-done (λ ts _. added ts ≡ true → not (stands 45 u) ≡ true) k2 (λ q. q) e)
-  | inr c ↦ absurd (same-done (λ ts _. added ts ≡ true → ⊥) (c .1) (λ q. let z : _≡_ {A = ℕ} 0 1 = cc in omega arith) e)
+terms-read f u m ts e h = elim (chosen (signs u) _ _ h) [
+  | inl c ↦ c .0
+  | inr c ↦ absurd (same-done (λ ts _. followed ts ≡ true → ⊥) (c .1) (λ q. let z : _≡_ {A = ℕ} 0 1 = cc in omega arith) e)
 ]
-  where
-    go : (a b : Bool) → a || b ≡ true → not b ≡ true → a ≡ true
-    go true b p q = refl
-    go false true p q = absurd (let z : _≡_ {A = ℕ} 0 1 = cc in omega arith)
-    go false false p q = p
 
 pub summand-read : (f : ℕ) (u v : List ℕ) (e : Expr) (y : Ref) → readExpr peek-in skip-in (suc (suc (suc f))) u ≡ done e v → summand e ≡ some y
-    → (w : List ℕ) × (readRef peek-in skip-in f u ≡ done y w) × (stands 43 w ≡ true)
+    → (w : List ℕ) × (readRef peek-in skip-in f u ≡ done y w) × (signs w ≡ true)
 unfolding readExpr
 summand-read f u v e y h s =
     bound (readLead peek-in skip-in u) _ h λ l m1 h1 k1.

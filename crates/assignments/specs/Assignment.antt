@@ -1,7 +1,7 @@
 -- The parts of an assignment: what the table says of the left side's name, whether the right side begins with the left one, and the code of an update and
 -- of a store.
 use mathlib.Core.Path.{_≡_}
-use mathlib.Core.Bool.{Bool, true, false, cond, _&&_}
+use mathlib.Core.Bool.{Bool, true, false, cond, _&&_, _||_}
 use mathlib.Core.List.{List, [], _∷_, _++_}
 use Prim.Native.Nat.{ℕ, suc, _+_, _-_, _*_, _≤_, _<_, max}
 use lib.ListN.{length, take, drop}
@@ -17,7 +17,6 @@ use Rattle.code.specs.Instr.{Instr}
 use Rattle.code.specs.Compile.{code, codeRef, stores, checks, updates}
 use Rattle.names.specs.Table.{variableOf, Tabled}
 use Rattle.parts.specs.Answer.{worst, Reads, Within}
-use Rattle.expressions.specs.Readers.{readRemainder}
 use Rattle.parts.specs.Parts.{kindAt, textAt, stands}
 use Rattle.parts.specs.declared.Got.{Got}
 use Rattle.parts.specs.declared.Got.the-variants.{Broken, Done}
@@ -43,22 +42,26 @@ pub record Targets (T s : List ℕ) (r : Target) : Type 0 where
 
 -- ---- whether it is an update
 
--- Broken where it is none; else the place after the + and the highest rank so far
+-- + or - stands there
+abbrev pub signs : List ℕ → Bool
+signs u = stands 43 u || stands 45 u
+
+-- Broken where it is none; else the place u of the sign and the highest rank so far
 unfoldable pub Adds : Bool → List ℕ → List ℕ → ℕ → ℕ → Got → Type 0
 Adds false s u place rank r = r ≡ Broken
-Adds true s u place rank r = (a : ℕ) × (r ≡ Done a place rank) × (skip-in u ≡ drop a s)
+Adds true s u place rank r = (a : ℕ) × (r ≡ Done a place rank) × (u ≡ drop a s)
 
 -- x is the left side, and what is read at the right side's place is a reference or none
 unfoldable pub Begun : Bool → List Entry → List ℕ → List ℕ → Ref → Parsed (List ℕ) Ref → ℕ → ℕ → Got → Type 0
 Begun b t v s x broken place most r = r ≡ Broken
-Begun b t v s x (done y u) place most r = Adds (b && (stands 43 u && alike (showRef x) (showRef y))) s u place (max most (worst t v (inRef 0 y))) r
+Begun b t v s x (done y u) place most r = Adds (b && (signs u && alike (showRef x) (showRef y))) s u place (max most (worst t v (inRef 0 y))) r
 
--- the place after the + lies after the right side's place
+-- the place of the sign lies after the right side's place
 unfoldable pub Past : List ℕ → ℕ → ℕ → Got → Type 0
 Past s from place Broken = Unit {0}
-Past s from place (Done a p d) = (suc from < a) × (a ≤ length s) × (p ≡ place)
+Past s from place (Done a p d) = (from < a) × (a ≤ length s) × (p ≡ place)
 
--- the right side, from a place on, begins with the left one, which ends at n, and with +; b says whether its name is a reduction's
+-- the right side, from a place on, begins with the left one, which ends at n, and + or - follows; b says whether its name is a reduction's
 pub record Summands (b : Bool) (T s : List ℕ) (n from place most : ℕ) (before after : List ℕ) (r : Got) : Type 0 where
   pub begun : (t : List Entry) → Tabled T t → (f : ℕ) → 3 * (length s - from) < f → (x : Ref) → Spells peek-in skip-in s (showRef x) (drop n s)
       → Begun b t (variableOf T) s x (readRef peek-in skip-in f (drop from s)) place most r
@@ -89,8 +92,9 @@ codeStore t v line x e = (code t v line e ++ codeRef t v line x) ++ (stores t v 
 
 -- the remainder at a place, where x is the left side
 pub record Updates (T s : List ℕ) (at line place most : ℕ) (before after : List ℕ) (r : Got) : Type 0 where
-  pub reads : (t : List Entry) → Tabled T t → (f : ℕ) → 3 * (length s - at) + 1 < f → (g : ℕ) (x : Ref) (u : List ℕ) → readRef peek-in skip-in g s ≡ done x u
-      → Reads (codeUpdate t (variableOf T) line x) (λ e. worst t (variableOf T) (mentions 0 e)) s (readRemainder f (drop at s)) place most before after r
+  pub reads : (t : List Entry) → Tabled T t → (f : ℕ) → 3 * (length s - at) + 2 < f → (g : ℕ) (x : Ref) (u : List ℕ) → readRef peek-in skip-in g s ≡ done x u
+      → Reads (codeUpdate t (variableOf T) line x) (λ e. worst t (variableOf T) (mentions 0 e)) s (readExpr peek-in skip-in f (drop at s)) place most before
+      after r
   pub within : Within s at (place + 2) (suc at) r
 
 -- the right side at a place, where x is the left side

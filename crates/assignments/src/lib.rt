@@ -2,12 +2,12 @@
 ghost use mathlib.Core.Path.{_≡_};
 ghost use mathlib.Core.Bool.{cond};
 ghost use Prim.Native.Nat.{_≤_, _<_, _+_, _*_};
-ghost use lib.ListN.{length};
+ghost use lib.ListN.{length, drop};
 ghost use Rattle.syntax.specs.Reader.{peek-in, skip-in, readAssign};
 ghost use Rattle.parts.specs.Answer.{Ready};
 ghost use Rattle.parts.specs.Parts.{spanOf};
 ghost use Rattle.statements.specs.Statement.{Compiles};
-ghost use Rattle.assignments.specs.Assignment.{Targets, Summands, Back, Tests, Updates, Stores};
+ghost use Rattle.assignments.specs.Assignment.{Targets, signs, Summands, Back, Tests, Updates, Stores};
 use alike::alike;
 use code::CHECK;
 use code::LINE;
@@ -17,7 +17,6 @@ use code::UPDATE;
 use code::UPDATE_AT;
 use expressions::expression;
 use expressions::reference;
-use expressions::remainder;
 use lexer::Kind;
 use lexer::pass;
 use lexer::reads;
@@ -28,7 +27,9 @@ use names::VARIABLE;
 use names::find;
 use names::is_named;
 use parts::Got;
+use parts::Joint;
 use parts::emit;
+use parts::join;
 use parts::span;
 use parts::then_emit;
 
@@ -81,8 +82,22 @@ fn target_of(s: &[u8], table: &Table) -> Target
 
 // ---- assignments
 
-// Where the right side begins with the left one, which ends at n, and with +: the place after the +. Only a reduction's name has updates. What is emitted
-// here lies after the place, and others write over it.
+// Whether + or - stands at a place.
+fn signed(s: &[u8], at: usize) -> bool
+    requires { ⌜ at ≤ length (now s) ⌝ }
+    ensures { λ r. ⌜ r ≡ signs (drop at (now (s .entry))) ⌝ }
+{
+    let j = join(s, at, b'+', b'-');
+    let sign = j.joint;
+    match sign {
+        Joint::Neither => false,
+        Joint::First => true,
+        Joint::Second => true,
+    }
+}
+
+// Where the right side begins with the left one, which ends at n, and + or - follows: the place of that sign. Only a reduction's name has updates. What is
+// emitted here lies after the place, and others write over it.
 fn summand(
     s: &[u8],
     n: usize,
@@ -108,15 +123,14 @@ fn summand(
             place: p,
             rank: d,
         } => {
-            let past = pass(s, to, b"+");
-            if s.len() < past {
+            if !signed(s, to) {
                 return Got::Broken;
             }
             if !alike(s, n, from, to) {
                 return Got::Broken;
             }
             Got::Done {
-                at: past,
+                at: to,
                 place,
                 rank: d,
             }
@@ -158,7 +172,7 @@ fn test(code: &mut [u32], place: usize, line: u32, subscripted: bool, operand: u
     place
 }
 
-// The rest of an update, from its remainder on; the code of its subscript stands before the place.
+// The rest of an update: its remainder, an expression that begins with a sign. The code of its subscript stands before the place.
 fn updating(
     s: &[u8],
     at: usize,
@@ -178,7 +192,7 @@ fn updating(
     let p = test(code, place, line, subscripted, operand);
     let o = operation(UPDATE, UPDATE_AT, line, subscripted);
     then_emit(
-        remainder(s, at, rank, line, table, code, p),
+        expression(s, at, 0, rank, line, table, code, p),
         code,
         o,
         operand,

@@ -66,7 +66,8 @@ module _ (t : List Entry) (v : List ℕ) (line : ℕ) where
 remainder-length : (t : List Entry) (v : List ℕ) (line : ℕ) (e : Expr) → length (code t v line (remainder e)) ≤ length (show e)
 unfolding remainder show showTerms
 remainder-length t v line (expr l a no-terms) = expr-length t v line (expr l a no-terms)
-remainder-length t v line (expr l a (terms o b bs)) = simp length-append (omega (arith, simp length-append at (expr-length t v line (expr bare b bs))))
+remainder-length t v line (expr l a (terms true b bs)) = simp length-append (omega (arith, simp length-append at (expr-length t v line (expr minus b bs))))
+remainder-length t v line (expr l a (terms false b bs)) = simp length-append (omega (arith, simp length-append at (expr-length t v line (expr plus b bs))))
 
 checks-length : (t : List Entry) (v : List ℕ) (line : ℕ) (r : Ref) → length (checks t v line r) ≤ 1
 checks-length t v line (single x) = omega arith

@@ -6,7 +6,7 @@ use Prim.Native.Nat.{ℕ, suc, _+_, _-_, _*_, _≤_, _<_}
 use native.Mathlib.Omega.{arith}
 use lib.ListN.{length, drop}
 use Rattle.syntax.specs.Bytes.{choose, same}
-use Rattle.syntax.specs.Grammar.{expr, bare, no-terms, terms, term, no-factors, factors}
+use Rattle.syntax.specs.Grammar.{expr, no-terms, terms, term, no-factors, factors}
 use Rattle.syntax.specs.Known.{Entry}
 use Rattle.syntax.specs.Conditions.{Mention, mentions, inTerms, inTerm, inFactors, inFactor}
 use Rattle.syntax.specs.Reader.{Parsed, done, next, peek-in, skip-in, readExpr, readTerms, readTerm, readFactors, readFactor}
@@ -14,7 +14,6 @@ use Rattle.code.specs.Instr.{Instr, add, subtract, multiply, divide, operation,
 use Rattle.code.specs.Compile.{codeLead, code, codeTerms, codeTerm, codeFactors, codeFactor}
 use Rattle.names.specs.Table.{variableOf, Tabled}
 use Rattle.parts.specs.Answer.{worst, Reads, Within, Answers}
-use Rattle.expressions.specs.Readers.{readRemainder}
 use Rattle.parts.specs.Parts.{Passes, stands, joined, chosen, leadBy, Joins, Emits}
 use Rattle.parts.specs.declared.Got.{Got}
 use Rattle.parts.specs.declared.Got.the-variants.{Broken, Done}
@@ -135,20 +134,6 @@ module _ (T s : List ℕ) (at depth line place most : ℕ) (b m a : List ℕ) (g
       (λ t v. codeFactors t v line) (inFactors depth)
       (λ t v. codeTerm t v line) (inTerm depth) term [] (λ t v x y. rw append-nil) (λ x y. refl)
       T s at at place most b m m a g g r h₁ (emits-none g m) (h₁ .within) h₂ (readTerm peek-in skip-in) 1 (suc at) (λ f. refl) (omega arith) (omega arith)
-
-  -- what an update adds: a term, and further terms
-  pub remainder-answers : Answers (readTerm peek-in skip-in) (λ t v. codeTerm t v line) (inTerm depth) 1 (suc at) T s at place most b m g
-      → Goes (readTerms peek-in skip-in) (λ t v. codeTerms t v line) (inTerms depth) T s m a g r
-      → Answers readRemainder (λ t v. code t v line) (mentions depth) 1 (suc at) T s at place most b a r
-  unfolding code mentions words
-  remainder-answers h₁ h₂ = record {
-    reads = λ t d f lt.
-        turn-reads (readTerm peek-in skip-in) (λ t v. codeTerm t v line) (inTerm depth) 1 (suc at) (readTerms peek-in skip-in)
-        (λ t v. codeTerms t v line) (inTerms depth)
-        (λ t v. code t v line) (mentions depth) (expr bare) [] (λ t v x y. refl) (λ x y. refl)
-        T s at at place most b m m a g g r h₁ (emits-none g m) (h₁ .within) h₂ t d f lt (omega arith);
-    within = goes-within (readTerms peek-in skip-in) (λ t v. codeTerms t v line) (inTerms depth) T s m a g r at place (suc at) h₂ (h₁ .within);
-  }
 
 -- ---- further terms, and further factors: a sign, one, and further ones
 

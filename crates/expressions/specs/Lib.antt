@@ -1,2 +1,2 @@
--- The readers of a quotient and of a remainder.
+-- The reader of a quotient.
 pub mod Readers

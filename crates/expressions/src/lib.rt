@@ -5,7 +5,7 @@ ghost use Rattle.syntax.specs.Reader.{peek-in, skip-in, readExpr, readTerms, re
 ghost use Rattle.syntax.specs.Conditions.{mentions, inTerms, inTerm, inFactors, inFactor, inRef};
 ghost use Rattle.code.specs.Compile.{code as codeExpr, codeTerms, codeTerm, codeFactors, codeFactor, codeRef};
 ghost use Rattle.parts.specs.Answer.{Answers, Ready};
-ghost use Rattle.expressions.specs.Readers.{readRemainder, readQuotient};
+ghost use Rattle.expressions.specs.Readers.{readQuotient};
 use code::LINE;
 use code::ROUND;
 use names::Table;
@@ -270,30 +270,5 @@ pub fn reference(
         Beginning::Bracket => Got::Broken,
         Beginning::Quotient => Got::Broken,
         Beginning::Nothing => Got::Broken,
-    }
-}
-
-// A term and further terms: what an update adds, after its +.
-pub fn remainder(
-    s: &[u8],
-    at: usize,
-    rank: u32,
-    line: u32,
-    table: &Table,
-    code: &mut [u32],
-    place: usize,
-) -> Got
-    requires { ⌜ Ready (now s) at 0 place (now code) ⌝ }
-    requires { ⌜ line ≤ 2049 ⌝ }
-    ensures { λ r. ⌜ Answers readRemainder (λ t v. codeExpr t v line) (mentions 0) 1 (suc at) (now (table .entry)) (now (s .entry)) at place rank
-        (now (code .entry)) (now (code .exit)) r ⌝ }
-{
-    match term(s, at, 0, rank, line, table, code, place) {
-        Got::Done {
-            at: n,
-            place: p,
-            rank: d,
-        } => more_terms(s, n, 0, d, line, table, code, p),
-        Got::Broken => Got::Broken,
     }
 }

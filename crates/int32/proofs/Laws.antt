@@ -183,6 +183,14 @@ pub difference-zero : (y : ℤ) → difference (pos 0) y ≡ negation y
 unfolding difference negation
 difference-zero y = ap wrap (+ℤ-idl (negℤ y))
 
+-- a difference is the sum with the negation
+pub difference-sum : (x y : ℤ) → difference x y ≡ sum x (negation y)
+unfolding difference negation sum
+difference-sum x y = ap wrap (+ℤ-comm x (negℤ y)) ∙ sym (wrap-sum-l (negℤ y) x) ∙ ap wrap (+ℤ-comm (wrap (negℤ y)) x)
+
+pub sum-difference : (x y z : ℤ) → difference (sum x y) z ≡ sum x (difference y z)
+sum-difference x y z = difference-sum (sum x y) z ∙ sum-assoc x y (negation z) ∙ ap (sum x) (sym (difference-sum y z))
+
 pub product-words : (x y : ℤ) {a b u : ℕ} → a ≡ word x → b ≡ word y → u ≡ a * b % 2 ^ 32 → value u ≡ product x y
 unfolding product wrap
 product-words x y p q e = ap value (e ∙ (λ i. p i * q i % 2 ^ 32) ∙ sym (word-product x y))

@@ -23,3 +23,4 @@ pub mod AnswerRun
 -- Laws for callers.
 pub mod BlocksLaws
 pub mod CellsLaws
+pub mod Likewise

@@ -1,4 +1,5 @@
--- The examples of document 01, as rows of one table: what the definitions give, and what the document says. Loops are given by their texts.
+-- The examples of document 01, and of document 02, Point 1, as rows of one table: what the definitions give, and what the documents say. Loops are given by
+-- their texts.
 use mathlib.Core.Path.{_≡_, refl}
 use mathlib.Core.List.{List, [], _∷_, _++_, map}
 use Prim.Native.Nat.{ℕ, _+_, _-_}
@@ -6,7 +7,7 @@ use Prim.Native.String.{String}
 use native.Mathlib.Decide.{ℕ-discrete, decLt}
 use lib.IntN.{ℤ, pos, negℤ}
 use lib.ListN.{length, replicate}
-use Rattle.int32.specs.Integers.{word, value, wrap, sum, product, quotient, rdiv, bySigns, nearest, related}
+use Rattle.int32.specs.Integers.{word, value, wrap, sum, difference, negation, product, quotient, rdiv, bySigns, nearest, related}
 use Rattle.rules.specs.Choose.{pick, below, put}
 use Rattle.rules.specs.Cells.{cellOf, listed}
 use Rattle.rules.specs.Blocks.{blockStart, singles}
@@ -81,6 +82,10 @@ scattering =
     text (
     "integer a(4), k(4)" ∷ "data k /2, 1, 4, 3/" ∷ "!$omp parallel do num_threads(2)" ∷ "do i = 1, 4" ∷ "a(k(i)) = 10 * i" ∷ "end do" ∷ [])
 
+-- Document 02, Point 1: a loop of these names, bounds and statements over two processors, s a reduction
+abbrev netting : String → String → List String → List ℕ
+netting names bounds body = text (names ∷ "!$omp parallel do num_threads(2) reduction(+:s)" ∷ bounds ∷ (body ++ ("end do" ∷ [])))
+
 -- a text, and blanks up to n bytes
 abbrev up-to : ℕ → List ℕ → List ℕ
 up-to n t = t ++ replicate (n - length t) 32
@@ -115,8 +120,11 @@ lent t n = cellsLoaded (read t) (replicate n (minus 1))
 abbrev looked : List ℕ → ℕ → List ℕ → Shown
 looked t n ps = views (viewShown (read t) (lent t n) 8192 ps (replicate (n + n) 7))
 
+abbrev ran-on : List ℕ → List ℤ → List ℕ → Shown
+ran-on t m ps = ends (runOf (read t) m 8192 ps) (cellsRun (read t) m 8192 ps)
+
 abbrev ran : List ℕ → ℕ → List ℕ → Shown
-ran t n ps = ends (runOf (read t) (lent t n) 8192 ps) (cellsRun (read t) (lent t n) 8192 ps)
+ran t n ps = ran-on t (lent t n) ps
 
 -- Run by the step rule under its schedule
 abbrev by-steps : Verdict → List ℤ → List ℕ → Shown
@@ -125,6 +133,10 @@ by-steps (good s) m ps = let e = run (loopOf s m) (partitionOf s) ps in ends (an
 
 abbrev stepped : List ℕ → ℕ → List ℕ → Shown
 stepped t n ps = by-steps (read t) (lent t n) ps
+
+-- Run of a statement or two over these bounds, on s alone
+abbrev net : String → List String → ℤ → Shown
+net bounds body z = ran-on (netting "integer s" bounds body) (z ∷ []) []
 
 pub rows : List Row
 rows =
@@ -154,15 +166,31 @@ rows =
     ∷ row (ran aiming 5 (1 ∷ [])) (ends (Rerun 2 2) (pos 2 ∷ pos 0 ∷ pos 1 ∷ pos 0 ∷ pos 0 ∷ []))
     ∷ row (stepped aiming 5 (1 ∷ [])) (ends (Rerun 2 2) (pos 2 ∷ pos 0 ∷ pos 1 ∷ pos 0 ∷ pos 0 ∷ []))
     ∷ row (ran scattering 8 []) (ends (Passed 4 4) (pos 20 ∷ pos 10 ∷ pos 40 ∷ pos 30 ∷ pos 2 ∷ pos 1 ∷ pos 4 ∷ pos 3 ∷ []))
+    -- document 02, Point 1
+    ∷ row (ran-on (netting "integer s" "do i = 1, 4" ("s = s - i" ∷ [])) (pos 5 ∷ []) (1 ∷ 0 ∷ 1 ∷ [])) (ends (Passed 4 1) (minus 5 ∷ []))
+    ∷ row (by-steps (read (netting "integer s" "do i = 1, 4" ("s = s - i" ∷ []))) (pos 5 ∷ []) (1 ∷ 0 ∷ 1 ∷ [])) (ends (Passed 4 1) (minus 5 ∷ []))
+    ∷ row (ran-on (netting "integer s, p, q" "do i = 1, 2" ("s = s - p + q" ∷ [])) (pos 1 ∷ pos 10 ∷ pos 3 ∷ []) [])
+    (ends (Passed 2 1) (minus 13 ∷ pos 10 ∷ pos 3 ∷ []))
+    ∷ row (ran-on (netting "integer s, p" "do i = 1, 1" ("s = s - p" ∷ [])) (pos 5 ∷ minus 2147483648 ∷ []) [])
+    (ends (Passed 1 1) (minus 2147483643 ∷ minus 2147483648 ∷ []))
+    ∷ row (ran-on (netting "integer s, q, p" "do i = 1, 1" ("s = s - q/p" ∷ [])) (pos 0 ∷ minus 2147483648 ∷ pos 2 ∷ []) [])
+    (ends (Passed 1 1) (pos 1073741824 ∷ minus 2147483648 ∷ pos 2 ∷ []))
+    ∷ row (ran-on (netting "integer s(1)" "do i = 1, 2" ("s(01) = s(1) - 2" ∷ [])) (pos 0 ∷ []) []) (ends (Passed 2 1) (minus 4 ∷ []))
+    ∷ row (net "do i = 1, 2" ("s = -s - 1" ∷ []) (pos 5)) (ends (Rerun 2 1) (pos 5 ∷ []))
+    ∷ row (net "do i = 1, 2" ("s = (s) - 1" ∷ []) (pos 5)) (ends (Rerun 2 1) (pos 3 ∷ []))
+    ∷ row (net "do i = 1, 2" ("s = 1 - s" ∷ []) (pos 5)) (ends (Rerun 2 1) (pos 5 ∷ []))
+    ∷ row (net "do i = 1, 2" ("s = s * 1 - 2" ∷ []) (pos 5)) (ends (Rerun 2 1) (pos 1 ∷ []))
+    ∷ row (net "do i = 1, 1" ("s = s - s" ∷ []) (pos 5)) (ends (Rerun 1 1) (pos 0 ∷ []))
+    ∷ row (ran-on (netting "integer s, t" "do i = 1, 1" ("s = s - 1" ∷ "t = s" ∷ [])) (pos 5 ∷ pos 0 ∷ []) []) (ends (Rerun 2 2) (pos 4 ∷ pos 4 ∷ []))
     ∷ row (checked []) (checks (Refused 2 1))
     ∷ row (checked (up-to 2048 rising)) (checks (Sizes 3 2))
     ∷ row (checked (up-to 2049 rising)) (checks (Refused 1 0))
     ∷ []
 
--- every row gives what the document says
+-- every row gives what the documents say
 pub examples : map (λ (r : Row). r .got) rows ≡ map (λ (r : Row). r .want) rows
 unfolding rows rising writing writing-last adding idle reading aiming scattering
-    word value wrap sum product quotient rdiv bySigns nearest integers.same related blockStart singles cellOf listed pick below put only written
+    word value wrap sum difference negation product quotient rdiv bySigns nearest integers.same related blockStart singles cellOf listed pick below put only written
     change either? both? not? find? kind? has? exposed? ordinary? over one? two? mark1? mark2? mark4? weight marks clash? stale? mixed? obstacle-at? obstructed?
     go-on step steps through through-all run-out run-on trial is-fault? stopped? faulty? along from serial finished? highest updated add total sum-of
     block gathered merged touches count merge.sum pairs written-cells

@@ -320,7 +320,7 @@ module _ {S : Type 0} (peek : S → Option Token) (skip : S → S) where
 
 -- A line as a list of tokens
 
-list-spells : (xs us : List Token) → Spells first rest (xs ++ us) xs us
+pub list-spells : (xs us : List Token) → Spells first rest (xs ++ us) xs us
 list-spells [] us = here
 list-spells (x ∷ xs) us = token refl (list-spells xs us)
 

@@ -13,6 +13,10 @@ pub mod Places
 pub mod Accepted
 pub mod Nested
 pub mod Body
+-- What an update adds; references that are alike.
+pub mod Added
+pub mod Aside
+pub mod Clauseless
 -- What holds of every accepted text: all that its lines made known, its loop, the cells that Load fills, its tokens against its bytes.
 pub mod Sane
 pub mod ProperLoop

@@ -1,5 +1,5 @@
 -- Document 01, Integers and The serial run: what an accepted text means: the accesses of each iteration as a tree, and the loop.
-use mathlib.Core.Bool.{Bool, true, false, cond, _&&_, not}
+use mathlib.Core.Bool.{Bool, true, false, cond, _&&_}
 use mathlib.Core.Option.{Option, none, some}
 use mathlib.Core.List.{List, [], _∷_}
 use Prim.Native.Nat.{ℕ, _+_, _-_}
@@ -35,7 +35,8 @@ alike [] (u ∷ us) = false
 alike (t ∷ ts) [] = false
 alike (t ∷ ts) (u ∷ us) = equal (zeros-aside t) (zeros-aside u) && alike ts us
 
--- "begins with the same reference, ... followed by +": the reference that an expression begins with, if + follows it
+-- "begins with the same reference, ... followed by +"; document 02, Point 1: "the same reference followed by - is now an update too": the reference that
+-- an expression begins with, if + or - follows it
 abbrev pub lone : Factor → Factors → Option Ref
 lone (literal d) xs = none
 lone (cell q) no-factors = some q
@@ -48,12 +49,12 @@ unled bare q = q
 unled plus q = none
 unled minus q = none
 
-abbrev pub added : Terms → Bool
-added no-terms = false
-added (terms minus? t ts) = not minus?
+abbrev pub followed : Terms → Bool
+followed no-terms = false
+followed (terms minus? t ts) = true
 
 unfoldable pub summand : Expr → Option Ref
-summand (expr l (term x xs) ts) = cond (added ts) (unled l (lone x xs)) none
+summand (expr l (term x xs) ts) = cond (followed ts) (unled l (lone x xs)) none
 
 abbrev pub same-ref : Ref → Option Ref → Bool
 same-ref r none = false
@@ -68,10 +69,11 @@ is-reduction reduction = true
 unfoldable pub is-update : List Entry → Ref → Expr → Bool
 is-update t r e = is-reduction (find (refName r) t .class) && same-ref r (summand e)
 
--- "the remainder of the line is what is added"
+-- "the remainder of the line is what is added"; Point 1: "with the minus applied to its first term": the expression that begins with the sign that followed
+-- the reference
 abbrev pub remaining : Lead → Term → Terms → Expr
 remaining l t no-terms = expr l t no-terms
-remaining l t (terms o u us) = expr bare u us
+remaining l t (terms minus? u us) = expr (cond minus? minus plus) u us
 
 unfoldable pub remainder : Expr → Expr
 remainder (expr l t ts) = remaining l t ts

@@ -102,13 +102,7 @@ module _ {S : Type 0} (peek : S → Option Token) (skip : S → S) where
   abbrev pub readLead : Reader S Lead
   readLead s = cond (sees "+" s) (done plus (skip s)) (cond (sees "-" s) (done minus (skip s)) (done bare s))
 
-  -- a term and further terms, after a sign or none; two arguments and the bracket that ends them
-  abbrev pub readSum : Lead → Reader S Term → Reader S Terms → Reader S Expr
-  readSum l readFirst readRest = do
-    t ← readFirst
-    ts ← readRest
-    yield (expr l t ts)
-
+  -- two arguments and the bracket that ends them
   abbrev pub readPair : {A : Type 0} → Reader S Expr → (Expr → Expr → A) → Reader S A
   readPair readArgument mk = do
     a ← readArgument
@@ -123,7 +117,9 @@ module _ {S : Type 0} (peek : S → Option Token) (skip : S → S) where
     readExpr zero = fail
     readExpr (suc f) = do
       l ← readLead
-      readSum l (readTerm f) (readTerms f)
+      t ← readTerm f
+      ts ← readTerms f
+      yield (expr l t ts)
 
     pub readTerms : ℕ → Reader S Terms
     readTerms zero = fail

@@ -146,10 +146,25 @@ fn random(tally: &mut Tally, seeds: u64, compare: fn(&mut Text, &Lent)) {
     }
 }
 
+/// The serial run as document 01 alone reads the text, without minus updates: nothing but the marks, and
+/// so the word passed or rerun, may differ (document 02, Point 1).
+fn compare_with_document_01(text: &mut Text, lent: &Lent, now: &Serial) {
+    let before = reference::serial_before_minus_updates(text.text, lent.cells);
+    let before = before.expect("a good text");
+    text.compare("the serial run", &now.ending(), &before.ending());
+    let word = match (before.passes(), now.passes()) {
+        (false, true) => "now passes",
+        (true, false) => "passes no more",
+        _ => "has the same word",
+    };
+    text.count("With minus updates a loop", Ok(word));
+}
+
 /// Run as the serial run settles it; counted is which of speculation and serial run meet a fault.
 fn run_and_count(text: &mut Text, lent: &Lent) {
     let serial = reference::serial(text.text, lent.cells).expect("a good text");
     run_as_settled(text, lent, &serial);
+    compare_with_document_01(text, lent, &serial);
     let words = lent.workspace.len();
     let trial = reference::trial(text.text, lent.cells, words, lent.schedule);
     let records = trial.expect("a good text and enough lent").processors;
@@ -174,7 +189,8 @@ pub fn random_runs() -> bool {
         & has("Run", &["rerun"], 20)
         & has("Run", &["refused  9", "refused 10"], 20)
         & has("A fault", &["in speculation alone"], 2)
-        & has("A fault", &["in the serial run alone"], 2);
+        & has("A fault", &["in the serial run alone"], 2)
+        & has("With minus updates a loop", &["now passes"], 3);
     good & frequent
 }
 

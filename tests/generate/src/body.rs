@@ -230,9 +230,10 @@ impl Builder<'_> {
 
     fn update(&mut self, target: &str) {
         let remainder = self.terms(self.knobs.brackets);
+        let sign = self.rng.pick(&["+", "-"]);
         self.add_one_that_fits([
-            format!("{target} = {target} + {remainder}"),
-            format!("{target} = {target} + 1"),
+            format!("{target} = {target} {sign} {remainder}"),
+            format!("{target} = {target} {sign} 1"),
         ]);
     }
 
@@ -279,23 +280,24 @@ impl Builder<'_> {
     fn meddle(&mut self, index: usize) {
         let target = self.any_reference(index);
         let more = self.terms(self.knobs.brackets.min(1));
-        let line = match self.rng.below(14) {
-            0 => format!("{target} = {target} - {more}"),
-            1 => format!("{target} = ({target}) + {more}"),
-            2 => format!("{target} = +{target} + {more}"),
-            3 => format!("{target} = {more} + {target}"),
-            4 => format!("{target} = {target}*2 + {more}"),
+        let sign = self.rng.pick(&["+", "-"]);
+        let line = match self.rng.below(15) {
+            0 => format!("{target} = -{target} {sign} {more}"),
+            1 => format!("{target} = ({target}) {sign} {more}"),
+            2 => format!("{target} = +{target} {sign} {more}"),
+            3 => format!("{target} = {more} {sign} {target}"),
+            4 => format!("{target} = {target}*2 {sign} {more}"),
             5 => format!("{target} = {target}"),
-            6 => format!("{target} = ({target} + {more})"),
-            7 => format!("{target} = {target} + {target}"),
-            8 | 9 => format!("{target} = {target} + {more}"),
-            10 if self.names[index].is_array => {
-                let name = &self.names[index].name;
-                format!("{name}(1) = {name}((1)) + {more}")
-            }
+            6 => format!("{target} = ({target} {sign} {more})"),
+            7 => format!("{target} = {target} {sign} {target}"),
+            8..=10 => format!("{target} = {target} {sign} {more}"),
             11 if self.names[index].is_array => {
                 let name = &self.names[index].name;
-                format!("{name}(1) = {name}(+1) + {more}")
+                format!("{name}(1) = {name}((1)) {sign} {more}")
+            }
+            12 if self.names[index].is_array => {
+                let name = &self.names[index].name;
+                format!("{name}(1) = {name}(+1) {sign} {more}")
             }
             _ => format!("{target} = {more}"),
         };

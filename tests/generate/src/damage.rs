@@ -1,10 +1,10 @@
 //! Good texts with something changed: bytes, tokens or lines taken out, doubled, swapped or put in,
-//! names and literals exchanged, the length brought near its limit.
+//! names, literals and signs exchanged, the length brought near its limit.
 
 use crate::layout::split_tokens;
 use crate::rng::Rng;
 
-/// The text with something changed: one name or literal for another, or the length, or up to three
+/// The text with something changed: one name, literal or sign for another, or the length, or up to three
 /// bytes, tokens or lines. It may happen to be good still.
 pub fn damage(text: &[u8], rng: &mut Rng) -> Vec<u8> {
     match rng.below(10) {
@@ -37,7 +37,8 @@ fn pad(text: &[u8], rng: &mut Rng) -> Vec<u8> {
     text
 }
 
-/// Puts one name for another name, or one literal for another: the form mostly holds.
+/// Puts one name for another name, one literal for another, or one sign for another: the form mostly
+/// holds.
 fn exchange_token(text: &[u8], rng: &mut Rng) -> Vec<u8> {
     const LITERALS: [&str; 12] = [
         "0",
@@ -53,6 +54,7 @@ fn exchange_token(text: &[u8], rng: &mut Rng) -> Vec<u8> {
         "2147483647",
         "2147483648",
     ];
+    const SIGNS: [&str; 4] = ["+", "-", "*", "/"];
     let Ok(whole) = std::str::from_utf8(text) else {
         return break_up(text, rng);
     };
@@ -61,7 +63,10 @@ fn exchange_token(text: &[u8], rng: &mut Rng) -> Vec<u8> {
     let place = rng.below(lines.len());
     let mut tokens = split_tokens(lines[place]);
     let exchangeable: Vec<usize> = (0..tokens.len())
-        .filter(|&one| is_literal(tokens[one]) || names.contains(&tokens[one]))
+        .filter(|&one| {
+            let token = tokens[one];
+            is_literal(token) || SIGNS.contains(&token) || names.contains(&token)
+        })
         .collect();
     if exchangeable.is_empty() {
         return break_up(text, rng);
@@ -69,6 +74,8 @@ fn exchange_token(text: &[u8], rng: &mut Rng) -> Vec<u8> {
     let one = rng.pick(&exchangeable);
     tokens[one] = if is_literal(tokens[one]) {
         rng.pick(&LITERALS)
+    } else if SIGNS.contains(&tokens[one]) {
+        rng.pick(&SIGNS)
     } else {
         rng.pick(&names)
     };

@@ -78,12 +78,12 @@ fn divisor_made_good(rng: &mut Rng, first: i64, last: i64) -> Drawn {
 
 /// The sum is at least 1 when it is read serially, but speculation reads it as at entry.
 fn sum_read_too_early(rng: &mut Rng, first: i64, last: i64) -> Drawn {
-    let by = rng.between(1, 2);
+    let more = rng.pick(&["+ 1", "+ 2", "- (-1)", "- 0 + 2"]);
     let text = format!(
         "integer s, a(30)
          !$omp parallel do num_threads(@) reduction(+:s)
          do i = {first}, {last}
-         s = s + {by}
+         s = s {more}
          a(s) = i
          end do"
     );
@@ -134,12 +134,13 @@ fn subscript_made_bad(rng: &mut Rng, first: i64, last: i64) -> Drawn {
 /// The sum grows beyond the array serially; speculation reads it as at entry.
 fn sum_grows_outside(rng: &mut Rng, first: i64, last: i64) -> Drawn {
     let length = rng.between(1, 12);
+    let more = rng.pick(&["+ 1", "- (-1)"]);
     let text = format!(
         "integer s, a({length})
          !$omp parallel do num_threads(@) reduction(+:s)
          do i = {first}, {last}
          a(s + 1) = i
-         s = s + 1
+         s = s {more}
          end do"
     );
     (lines(&text), vec![0; length as usize + 1])

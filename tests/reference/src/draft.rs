@@ -94,14 +94,18 @@ impl Draft {
         let Assignment {
             target,
             value,
-            remainder,
+            update,
         } = self.resolve_assignment(written).expect("known names");
         let reduction = match target.name {
             Place::Name(index) => self.names[index].class == Class::Reduction,
             Place::Variable => false,
         };
-        let action = match remainder {
-            Some(remainder) if reduction => Action::Update { target, remainder },
+        let action = match update {
+            Some(update) if reduction => Action::Update {
+                target,
+                update,
+                value,
+            },
             _ => Action::Assign { target, value },
         };
         self.add_statement(Statement { line, action });

@@ -75,7 +75,7 @@ impl<M: Memory> Iteration<'_, M> {
     fn statement(&mut self, statement: &Statement) -> Result<(), Stop> {
         let done = match &statement.action {
             Action::Assign { target, value } => self.assign(target, value),
-            Action::Update { target, remainder } => self.update(target, remainder),
+            Action::Update { target, update, .. } => self.update(target, &update.added),
             Action::If {
                 condition,
                 then,
@@ -112,13 +112,9 @@ impl<M: Memory> Iteration<'_, M> {
 
     /// "Its subscript comes first, then the remainder, then one access that updates." (READING 66,
     /// 67, 68)
-    fn update(
-        &mut self,
-        target: &Named<Place>,
-        remainder: &Expression<Place>,
-    ) -> Result<(), NoValue> {
+    fn update(&mut self, target: &Named<Place>, added: &Expression<Place>) -> Result<(), NoValue> {
         let cell = self.cell(target)?;
-        let amount = self.expression(remainder)?;
+        let amount = self.expression(added)?;
         Ok(self.memory.update(cell, amount)?)
     }
 

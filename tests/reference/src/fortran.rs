@@ -127,18 +127,10 @@ impl Printer<'_> {
 
     fn statement(&self, statement: &Statement, depth: usize, lines: &mut Lines) {
         match &statement.action {
-            Action::Assign { target, value } => {
+            // An update as it is written: what it adds is not taken from the reference.
+            Action::Assign { target, value } | Action::Update { target, value, .. } => {
                 let right = self.expression(value).pieces;
                 lines.put_pieces(depth, join(self.reference(target), " = ", right));
-            }
-            Action::Update { target, remainder } => {
-                let left = self.reference(target);
-                let sum = join(
-                    left.clone(),
-                    " + (",
-                    closed(self.expression(remainder).pieces),
-                );
-                lines.put_pieces(depth, join(left, " = ", sum));
             }
             Action::If {
                 condition,

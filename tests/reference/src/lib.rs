@@ -1,9 +1,10 @@
-//! An interpreter of document 01, written apart from the product and for obviousness: bytes, lines,
-//! tokens, a tree, names and limits, then evaluation with the whole list of accesses kept. Marks,
-//! obstacles, private values, sums and counts are taken from that list as document 01 words them.
+//! An interpreter of document 01 and of document 02, Point 1, written apart from the product and for
+//! obviousness: bytes, lines, tokens, a tree, names and limits, then evaluation with the whole list
+//! of accesses kept. Marks, obstacles, private values, sums and counts are taken from that list as
+//! document 01 words them.
 //!
-//! Comments quote document 01; "READING 44" is the entry of that number in the project's reading of
-//! it, which stands behind every choice document 01 leaves.
+//! Comments quote these documents; "READING 44" is the entry of that number in the project's reading
+//! of document 01, "P1.2" one of document 02, which stand behind every choice they leave.
 
 mod accesses;
 mod draft;
@@ -32,7 +33,9 @@ pub use integers::{divide_rounded, divide_truncated};
 pub use print::lrpd;
 pub use reader::read;
 pub use serial::Serial;
-pub use services::{check, load, look, run, serial, stepped, trial, workspace_needed};
+pub use services::{
+    check, load, look, run, serial, serial_before_minus_updates, stepped, trial, workspace_needed,
+};
 pub use steps::{share, Processor, Speculation};
 pub use trial::Trial;
 

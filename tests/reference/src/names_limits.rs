@@ -4,7 +4,8 @@
 use crate::draft::Draft;
 use crate::program::Place;
 use crate::syntax::{
-    Assignment, Class, Condition, Expression, Factor, Form, Item, Named, Signed, Term, Written,
+    Assignment, Class, Condition, Expression, Factor, Form, Item, Named, Signed, Term, Update,
+    Written,
 };
 
 /// "Limits: literals to 2,147,483,647; names 16; array length 1 to 4,096; N to 4,096; P 1 to 8;
@@ -75,14 +76,17 @@ impl Draft {
         if target.name == Place::Variable {
             return None;
         }
-        let remainder = match &written.remainder {
-            Some(remainder) => Some(self.resolve_expression(remainder)?),
+        let update = match &written.update {
+            Some(Update { sign, added }) => Some(Update {
+                sign: *sign,
+                added: self.resolve_expression(added)?,
+            }),
             None => None,
         };
         Some(Assignment {
             target,
             value: self.resolve_expression(&written.value)?,
-            remainder,
+            update,
         })
     }
 

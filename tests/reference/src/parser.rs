@@ -4,7 +4,7 @@
 use crate::lines::{Broken, Line};
 use crate::syntax::{
     Assignment, Class, Condition, Expression, Factor, Form, Item, Joint, Named, Relation, Scaling,
-    Signed, Term, Written,
+    Signed, Term, Update, Written,
 };
 use crate::tokens::{literal_value, same_token, split_tokens, Token};
 
@@ -272,7 +272,7 @@ impl Cursor<'_> {
         }
     }
 
-    /// An assignment, and the remainder of its line if it has the words of an update.
+    /// An assignment, and what is added if it has the words of an update.
     fn assignment(&mut self) -> Result<Form, Broken> {
         let start = self.place;
         let target = self.reference()?;
@@ -281,14 +281,14 @@ impl Cursor<'_> {
         let right = &self.tokens[self.place..];
         let value = self.expression()?;
         self.expect_end()?;
-        let remainder = match remainder_of_update(reference, right) {
-            Some(tokens) => Some(Cursor { tokens, place: 0 }.expression()?),
+        let update = match words_of_update(reference, right) {
+            Some((sign, tokens)) => Some(Cursor { tokens, place: 0 }.update(sign)?),
             None => None,
         };
         Ok(Form::Assign(Assignment {
             target,
             value,
-            remainder,
+            update,
         }))
     }
 
@@ -335,11 +335,12 @@ impl Cursor<'_> {
     }
 }
 
-/// The tokens after "the same reference, token for token [...], followed by +" (READING 62, 63).
-fn remainder_of_update<'t>(
+/// The sign after "the same reference, token for token [...], followed by +" or - (READING 62, 63;
+/// P1.1), and the tokens after it.
+fn words_of_update<'t>(
     reference: &[Token<'t>],
     right: &'t [Token<'t>],
-) -> Option<&'t [Token<'t>]> {
+) -> Option<(Joint, &'t [Token<'t>])> {
     if right.len() <= reference.len() {
         return None;
     }
@@ -348,11 +349,28 @@ fn remainder_of_update<'t>(
         .iter()
         .zip(begin)
         .all(|(one, other)| same_token(one, other));
-    (same && rest[0] == Token::Sign("+")).then_some(&rest[1..])
+    let sign = match rest[0] {
+        Token::Sign("+") => Joint::Plus,
+        Token::Sign("-") => Joint::Minus,
+        _ => return None,
+    };
+    same.then_some((sign, &rest[1..]))
 }
 
 /// Expressions.
 impl Cursor<'_> {
+    /// The remainder of an update after its sign. A minus applies to the whole first term (P1.2).
+    fn update(&mut self, sign: Joint) -> Result<Update<String>, Broken> {
+        let remainder = self.expression()?;
+        Ok(Update {
+            sign,
+            added: Expression {
+                negative: sign == Joint::Minus,
+                ..remainder
+            },
+        })
+    }
+
     fn expression(&mut self) -> Result<Expression<String>, Broken> {
         let negative = self.optional_sign();
         let first = self.term()?;

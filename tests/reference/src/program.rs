@@ -1,6 +1,6 @@
 //! A loop that has been read: what its names, bounds and statements stand for.
 
-use crate::syntax::{Class, Condition, Expression, Named};
+use crate::syntax::{Class, Condition, Expression, Joint, Named, Update};
 
 /// A loop without fault of form, name or limit.
 #[derive(Debug, Clone, PartialEq, Eq)]
@@ -62,10 +62,11 @@ pub enum Action {
         target: Named<Place>,
         value: Expression<Place>,
     },
-    /// An update: the remainder is added to the cell.
+    /// An update, and its right side as an ordinary assignment would work it out.
     Update {
         target: Named<Place>,
-        remainder: Expression<Place>,
+        update: Update<Place>,
+        value: Expression<Place>,
     },
     /// `if (e rel e) then`, with `else` or without.
     If {
@@ -92,6 +93,14 @@ impl Program {
         i32::try_from(i64::from(self.first) + i64::from(iteration)).expect("v between m and n")
     }
 
+    /// The loop as document 01 alone reads it: only `+` makes an update.
+    pub fn before_minus_updates(&self) -> Program {
+        Program {
+            body: before_minus_updates(&self.body),
+            ..self.clone()
+        }
+    }
+
     /// The class of each cell.
     pub fn cell_classes(&self) -> Vec<Class> {
         self.names
@@ -110,4 +119,31 @@ impl Program {
             })
             .collect()
     }
+}
+
+fn before_minus_updates(body: &[Statement]) -> Vec<Statement> {
+    let before = |statement: &Statement| Statement {
+        line: statement.line,
+        action: match &statement.action {
+            Action::Update {
+                target,
+                update,
+                value,
+            } if update.sign == Joint::Minus => Action::Assign {
+                target: target.clone(),
+                value: value.clone(),
+            },
+            Action::If {
+                condition,
+                then,
+                otherwise,
+            } => Action::If {
+                condition: condition.clone(),
+                then: before_minus_updates(then),
+                otherwise: otherwise.as_deref().map(before_minus_updates),
+            },
+            action => action.clone(),
+        },
+    };
+    body.iter().map(before).collect()
 }

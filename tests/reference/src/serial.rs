@@ -29,6 +29,11 @@ impl Serial {
     pub fn passes(&self) -> bool {
         self.outcome.is_ok() && !self.obstacles.contains(&true)
     }
+
+    /// All that shows but the word passed or rerun: the outcome, the cells and both write counts.
+    pub fn ending(&self) -> (Result<(), Refusal>, &[i32], u32, u32) {
+        (self.outcome, &self.cells_after, self.pairs, self.cells)
+    }
 }
 
 /// "Fed the text and the cells as lent and nothing else, it holds the cells and a list of accesses,

@@ -92,9 +92,18 @@ pub struct Assignment<N> {
     pub target: Named<N>,
     /// The right side.
     pub value: Expression<N>,
-    /// "whose right side begins with the same reference, token for token [...], followed by +":
-    /// then the remainder of the line.
-    pub remainder: Option<Expression<N>>,
+    /// The right side again, if it has the words of an update.
+    pub update: Option<Update<N>>,
+}
+
+/// "whose right side begins with the same reference, token for token [...], followed by +"; document
+/// 02, Point 1: "the same reference followed by - is now an update too".
+#[derive(Debug, Clone, PartialEq, Eq)]
+pub struct Update<N> {
+    /// The sign that follows the reference.
+    pub sign: Joint,
+    /// "the remainder of the line"; Point 1: "with the minus applied to its first term".
+    pub added: Expression<N>,
 }
 
 /// `left rel right`

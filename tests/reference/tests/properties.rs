@@ -4,8 +4,8 @@ use generate::damage::damage;
 use generate::hostile::hostile;
 use generate::{lend, noise, Knobs, Loop, Rng};
 use reference::{
-    check, load, look, lrpd, read, run, serial, stepped, trial, workspace_needed, Answer, Refusal,
-    Serial, Speculation, Trial,
+    check, load, look, lrpd, read, run, serial, serial_before_minus_updates, stepped, trial,
+    workspace_needed, Answer, Refusal, Serial, Speculation, Trial,
 };
 
 const LOOPS: u64 = 3000;
@@ -104,6 +104,28 @@ fn schedules(rng: &mut Rng, processors: usize) -> Vec<Vec<u8>> {
         lend::schedule(rng, processors),
         lend::schedule(rng, processors),
     ]
+}
+
+/// Document 02, Point 1: "their cells are the serial run's as before"; so are counts and faults (P1.8).
+/// A loop that reran may pass, and one that passed may rerun (P1.7).
+#[test]
+fn minus_updates_leave_the_serial_run_as_it_was() {
+    let mut words = [0; 2];
+    for (seed, drawn, lent, _) in loops() {
+        let text = drawn.text();
+        let now = serial(&text, &lent).unwrap();
+        let before = serial_before_minus_updates(&text, &lent).unwrap();
+        assert_eq!(
+            now.ending(),
+            before.ending(),
+            "seed {seed}\n{}",
+            show(&text)
+        );
+        words[0] += u32::from(now.passes() && !before.passes());
+        words[1] += u32::from(!now.passes() && before.passes());
+    }
+    println!("rerun before and passed now, passed before and rerun now: {words:?}");
+    assert!(words[0] > 100 && words[1] > 10);
 }
 
 /// The mixture has a good share of each end, and of speculation and serial run at odds.

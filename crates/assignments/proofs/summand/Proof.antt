@@ -1,5 +1,5 @@
 -- `assignments::summand` meets its contract: what is emitted lies after the place.
-use mathlib.Core.Path.{refl}
+use mathlib.Core.Path.{refl, sym, _∙_}
 use Prim.Native.Nat.{_-_, _*_, _≤_}
 use lib.ListN.{length}
 use native.Mathlib.Omega.{arith}
@@ -35,50 +35,45 @@ reference-requires c κs = search needs
 enum-known-to : tie.Need-enum-known-to
 enum-known-to c = search needs
 
-slice-aggregate-pass : tie.Need-slice-aggregate-pass
-slice-aggregate-pass c = search needs
-
-pass-requires : tie.Need-pass-requires
-pass-requires c κs = search needs
+signed-requires : tie.Need-signed-requires
+signed-requires c κs =
+    let c5 = c .before .before .before .before .before in
+    within-done _ _ _ _ _ _ _ _ (c5 .reference .ensures .within) (c .before .to .given .1) .1
 
 same-length : tie.Need-same-length
 same-length c = search needs
 
 returns-2 : tie.Need-returns-2
 returns-2 c =
-    let c4 = c .before .before .before .before in
-    let c8 = c4 .before .before .before .before in
-    let c13 = c8 .before .before .before .before .before in
-    let room : 2 * c13 .args .place ≤ length (c13 .args .code .now) = omega (arith, c13 .pre .0 .room) in
-    let w = within-done _ _ _ _ _ _ _ _ (c8 .reference .ensures .within) (c4 .to .given .1) in
+    let c3 = c .before .before .before in
+    let c7 = c3 .before .before .before .before in
+    let c12 = c7 .before .before .before .before .before in
+    let room : 2 * c12 .args .place ≤ length (c12 .args .code .now) = omega (arith, c12 .pre .0 .room) in
     summands-unadded _ _ _ _ _ _ _ _ _
-    (take-put (2 * c13 .args .place) (length (c13 .args .code .now) - 2 * c13 .args .place) (c13 .args .code .now)
-    (c8 .reference .last .1 .1 .1 .1 .1 .0) room)
-    _ _ _ _ (c8 .reference .ensures) _ _ _ (c4 .to .given .1) (c .before .pass .ensures) (w .1) (omega arith)
+    (take-put (2 * c12 .args .place) (length (c12 .args .code .now) - 2 * c12 .args .place) (c12 .args .code .now)
+    (c7 .reference .last .1 .1 .1 .1 .1 .0) room)
+    _ _ _ _ (c7 .reference .ensures) _ _ _ (c3 .to .given .1) (sym (c .before .signed .ensures) ∙ not-true _ (c .if2 .taken))
 
 alike-requires : tie.Need-alike-requires
 alike-requires c κs =
-    let c4 = c .before .before .before .before in
-    let c8 = c4 .before .before .before .before in
-    let c13 = c8 .before .before .before .before .before in
-    let w = within-done _ _ _ _ _ _ _ _ (c8 .reference .ensures .within) (c4 .to .given .1) in
-    (c13 .pre .1 .0, c13 .pre .0 .inside, w .1)
+    let c3 = c .before .before .before in
+    let c7 = c3 .before .before .before .before in
+    let c12 = c7 .before .before .before .before .before in
+    (c12 .pre .1 .0, c12 .pre .0 .inside, within-done _ _ _ _ _ _ _ _ (c7 .reference .ensures .within) (c3 .to .given .1) .1)
 
 same-length-2 : tie.Need-same-length-2
 same-length-2 c = search needs
 
 returns-3 : tie.Need-returns-3
 returns-3 c =
-    let c3 = c .before .before .before in
-    let c6 = c3 .before .before .before in
-    let c10 = c6 .before .before .before .before in
-    let c15 = c10 .before .before .before .before .before in
-    let room : 2 * c15 .args .place ≤ length (c15 .args .code .now) = omega (arith, c15 .pre .0 .room) in
-    let w = within-done _ _ _ _ _ _ _ _ (c10 .reference .ensures .within) (c6 .to .given .1) in
+    let c5 = c .before .before .before .before .before in
+    let c9 = c5 .before .before .before .before in
+    let c14 = c9 .before .before .before .before .before in
+    let room : 2 * c14 .args .place ≤ length (c14 .args .code .now) = omega (arith, c14 .pre .0 .room) in
     summands-other _ _ _ _ _ _ _ _ _
-    (take-put (2 * c15 .args .place) (length (c15 .args .code .now) - 2 * c15 .args .place) (c15 .args .code .now)
-    (c10 .reference .last .1 .1 .1 .1 .1 .0) room)
-    _ _ _ _ (c10 .reference .ensures) _ _ _ (c6 .to .given .1) (c3 .pass .ensures) (w .1) (c .before .alike .ensures) (not-true _ (c .if3 .taken))
+    (take-put (2 * c14 .args .place) (length (c14 .args .code .now) - 2 * c14 .args .place) (c14 .args .code .now)
+    (c9 .reference .last .1 .1 .1 .1 .1 .0) room)
+    _ _ _ _ (c9 .reference .ensures) _ _ _ (c5 .to .given .1) (c .before .alike .ensures) (not-true _ (c .if3 .taken))
 
 enum-told : tie.Need-enum-told
 enum-told c = search needs
@@ -89,17 +84,16 @@ same-length-3 c = search needs
 returns-4 : tie.Need-returns-4
 returns-4 c =
     let c3 = c .before .before .before in
-    let c6 = c3 .before .before .before in
-    let c10 = c6 .before .before .before .before in
-    let c12 = c10 .before .before in
-    let c15 = c12 .before .before .before in
-    let room : 2 * c15 .args .place ≤ length (c15 .args .code .now) = omega (arith, c15 .pre .0 .room) in
-    let w = within-done _ _ _ _ _ _ _ _ (c10 .reference .ensures .within) (c6 .to .given .1) in
+    let c5 = c3 .before .before in
+    let c9 = c5 .before .before .before .before in
+    let c11 = c9 .before .before in
+    let c14 = c11 .before .before .before in
+    let room : 2 * c14 .args .place ≤ length (c14 .args .code .now) = omega (arith, c14 .pre .0 .room) in
     summands-found _ _ _ _ _ _ _ _ _
-    (take-put (2 * c15 .args .place) (length (c15 .args .code .now) - 2 * c15 .args .place) (c15 .args .code .now)
-    (c10 .reference .last .1 .1 .1 .1 .1 .0) room)
-    _ _ _ _ (c10 .reference .ensures) _ _ _ (c6 .to .given .1) (c3 .pass .ensures) (w .1) (c .before .alike .ensures)
-    (not-false _ (c12 .if1 .left)) (not-false _ (c .if3 .left)) (omega arith)
+    (take-put (2 * c14 .args .place) (length (c14 .args .code .now) - 2 * c14 .args .place) (c14 .args .code .now)
+    (c9 .reference .last .1 .1 .1 .1 .1 .0) room)
+    _ _ _ _ (c9 .reference .ensures) _ _ _ (c5 .to .given .1) (c .before .alike .ensures)
+    (not-false _ (c11 .if1 .left)) (not-false _ (c .if3 .left)) (sym (c3 .signed .ensures) ∙ not-false _ (c .before .before .if2 .left))
 
 same-length-4 : tie.Need-same-length-4
 same-length-4 c = search needs
@@ -126,8 +120,7 @@ summand-spec =
     part-reference-end
     reference-requires
     enum-known-to
-    slice-aggregate-pass
-    pass-requires
+    signed-requires
     same-length
     returns-2
     alike-requires

@@ -179,11 +179,21 @@ const UPDATE_FAULTS: &[(&str, u32)] = &[
     ("s = s + a(9)", 9),
     ("a(1) = a(1) + a(9)/0", 9),
     ("a(1) = a(1) + 1/0 + a(9)", 10),
+    // P1.5
+    ("a(9) = a(9) - 1/0", 9),
+    ("a(0) = a(0) - 1/0", 9),
+    ("a(1/0) = a(1/0) - a(9)", 10),
+    ("a(a(9)) = a(a(9)) - 1/0", 9),
+    ("s = s - 1/0", 10),
+    ("s = s - a(9)", 9),
+    ("a(1) = a(1) - a(9)/0", 9),
+    ("a(1) = a(1) - 1/0 + a(9)", 10),
     // ordinary: the right side first
     ("a(9) = 1/0 + a(9)", 10),
     ("a(9) = (a(9)) + 1/0", 9),
     ("a(9) = a((9)) + 1/0", 9),
-    ("a(0) = a(0) - 1/0", 9),
+    ("a(9) = 1/0 - a(9)", 10),
+    ("a(9) = -a(9) - 1/0", 9),
     ("a(1/0) = a(9) + 1", 9),
 ];
 
@@ -209,6 +219,7 @@ pub fn rows() -> Vec<RunRow> {
     rows.extend(shared_rows());
     rows.extend(lastprivate_rows());
     rows.extend(reduction_rows());
+    rows.extend(minus_rows());
     rows.extend(fault_rows());
     rows.extend(other_rows());
     rows
@@ -479,12 +490,6 @@ fn reduction_rows() -> Vec<RunRow> {
             Ran::Passed(2, 1, vec![15, 10, 3]),
         ),
         row(
-            "no update (READING 63)",
-            &text("s, a, b", s, "1, 2", "s = s - a + b"),
-            &[1, 10, 3],
-            Ran::Rerun(2, 1, vec![-13, 10, 3]),
-        ),
-        row(
             "s = s + s (READING 65)",
             &text("s", s, "1, 1", "s = s + s"),
             &[3],
@@ -602,6 +607,141 @@ fn reduction_rows() -> Vec<RunRow> {
             Ran::Rerun(3, 1, vec![7, 1]),
         ),
     ]
+}
+
+/// Document 02, Point 1: "For a reduction name, the same reference followed by - is now an update too.
+/// What is added is the remainder with the minus applied to its first term".
+fn minus_rows() -> Vec<RunRow> {
+    let s = "num_threads(2) reduction(+:s)";
+    let mut rows = vec![
+        row(
+            "s = s - i",
+            &text("s", s, "1, 4", "s = s - i"),
+            &[5],
+            Ran::Passed(4, 1, vec![-5]),
+        ),
+        row(
+            "s = s - p + q adds q - p",
+            &text("s, p, q", s, "1, 2", "s = s - p + q"),
+            &[1, 10, 3],
+            Ran::Passed(2, 1, vec![-13, 10, 3]),
+        ),
+        row(
+            "the whole first term: a product (P1.2)",
+            &text("s, a, b", s, "1, 2", "s = s - a*b + a"),
+            &[1, 10, 3],
+            Ran::Passed(2, 1, vec![-39, 10, 3]),
+        ),
+        row(
+            "the whole first term: a quotient and a product (P1.2)",
+            &text("s, q, p, r", s, "1, 2", "s = s - q/p*r"),
+            &[1, 7, 2, 3],
+            Ran::Passed(2, 1, vec![-17, 7, 2, 3]),
+        ),
+        row(
+            "the whole first term: brackets (P1.2)",
+            &text("s, a, b", s, "1, 2", "s = s - (a + b)"),
+            &[1, 10, 3],
+            Ran::Passed(2, 1, vec![-25, 10, 3]),
+        ),
+        row(
+            "-(q/p) is not (-q)/p at the end of the range (P1.2)",
+            &text("s, q, p", s, "1, 1", "s = s - q/p"),
+            &[0, i32::MIN, 2],
+            Ran::Passed(1, 1, vec![1_073_741_824, i32::MIN, 2]),
+        ),
+        row(
+            "the end of the range subtracted, once (P1.3)",
+            &text("s, a", s, "1, 1", "s = s - a"),
+            &[5, i32::MIN],
+            Ran::Passed(1, 1, vec![i32::MIN + 5, i32::MIN]),
+        ),
+        row(
+            "the end of the range subtracted, twice (P1.3)",
+            &text("s, a", s, "1, 2", "s = s - a"),
+            &[5, i32::MIN],
+            Ran::Passed(2, 1, vec![5, i32::MIN]),
+        ),
+        row(
+            "a sum that wraps below",
+            &text("s", s, "1, 4", "s = s - 1"),
+            &[i32::MIN],
+            Ran::Passed(4, 1, vec![i32::MAX - 3]),
+        ),
+        row(
+            "both forms on one cell (P1.5)",
+            &text("s", s, "1, 4", "s = s + i\ns = s - 2*i"),
+            &[5],
+            Ran::Passed(4, 1, vec![-5]),
+        ),
+        row(
+            "both forms on one cell, by different iterations",
+            &text(
+                "s",
+                s,
+                "1, 4",
+                "if (i < 3) then\ns = s + i\nelse\ns = s - i\nend if",
+            ),
+            &[5],
+            Ran::Passed(4, 1, vec![1]),
+        ),
+        row(
+            "leading zeros and case (P1.1)",
+            &text("s(2)", s, "1, 3", "s(01) = S( 001 )-2"),
+            &[1, 1],
+            Ran::Passed(3, 1, vec![-5, 1]),
+        ),
+        row(
+            "another word for the same cell (P1.1)",
+            &text("s(2)", s, "1, 2", "s(1) = s(i) - 2"),
+            &[5, 7],
+            Ran::Rerun(2, 1, vec![5, 7]),
+        ),
+        row(
+            "s = s - s (P1.5)",
+            &text("s", s, "1, 1", "s = s - s"),
+            &[5],
+            Ran::Rerun(1, 1, vec![0]),
+        ),
+        row(
+            "subtracted from, then read in one iteration: passed before (P1.7)",
+            &text("s, t", s, "1, 1", "s = s - 1\nt = s"),
+            &[5, 0],
+            Ran::Rerun(2, 2, vec![4, 4]),
+        ),
+        row(
+            "subtracted from, then written in one iteration: passed before (P1.7)",
+            &text("s", s, "1, 1", "s = s - 1\ns = 5"),
+            &[9],
+            Ran::Rerun(1, 1, vec![5]),
+        ),
+        row(
+            "shared: a read and a write (P1.6)",
+            &text("s", "num_threads(2)", "1, 2", "s = s - 1"),
+            &[5],
+            Ran::Rerun(2, 1, vec![3]),
+        ),
+        row(
+            "lastprivate: a read and a write (P1.6)",
+            &text("s", "num_threads(2) lastprivate(s)", "1, 2", "s = s - 1"),
+            &[5],
+            Ran::Rerun(2, 1, vec![3]),
+        ),
+    ];
+    // no updates (P1.1)
+    for (line, after) in [
+        ("s = -s - 1", 5),
+        ("s = +s - 1", 3),
+        ("s = (s) - 1", 3),
+        ("s = (s - 1)", 3),
+        ("s = 1 - s", 5),
+        ("s = s * 1 - 2", 1),
+        ("s = s / 1 - 2", 1),
+    ] {
+        let expected = Ran::Rerun(2, 1, vec![after]);
+        rows.push(row(line, &text("s", s, "1, 2", line), &[5], expected));
+    }
+    rows
 }
 
 /// "The first fault ends the run and gives its number, the line of the statement or `if`, and v."
