@@ -1,5 +1,7 @@
 //! A loop in postfix order, and its serial run: cells in place, no marks, no counts.
 
+use std::cmp::Ordering;
+
 #[derive(Debug, Clone, Copy, PartialEq, Eq)]
 pub enum Relation {
     Equal,
@@ -156,12 +158,18 @@ pub(crate) fn divisor(value: i32) -> Result<i32, Fault> {
     Ok(value)
 }
 
-/// The nearest whole number, halves away from zero.
+/// The nearest whole number, halves to even.
 pub(crate) fn rounded(left: i32, right: i32) -> i32 {
     let (left, right) = (i64::from(left), i64::from(right));
-    let size = (2 * left.abs() + right.abs()) / (2 * right.abs());
     let sign = if (left < 0) == (right < 0) { 1 } else { -1 };
-    (size * sign) as i32
+    let size = left.abs() / right.abs();
+    let doubled = 2 * (left.abs() % right.abs());
+    let up = match doubled.cmp(&right.abs()) {
+        Ordering::Less => 0,
+        Ordering::Equal => size % 2,
+        Ordering::Greater => 1,
+    };
+    ((size + up) * sign) as i32
 }
 
 impl Relation {

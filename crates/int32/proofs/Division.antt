@@ -1,9 +1,12 @@
 -- The laws of the two divisions. Assumes nothing.
-use Prim.Native.Nat.{ℕ, zero, suc, _+_, _-_, _*_, _/_, _%_, _^_, _<_, _≤_}
-use native.Mathlib.Nat.{div-le-self, div-lt-self, div-one, lt-of-le-of-lt, lt-of-lt-of-le, le-trans, le-suc, zero-lt-suc, le-of-suc-le-suc, div-eq-of-lt-le, mul-left-comm, add-mul, one-mul, div-add-mod', mod-lt}
+use Prim.Native.Nat.{ℕ, zero, suc, _+_, _-_, _/_, _%_, _^_, _<_, _≤_}
+use native.Mathlib.Nat.{div-le-self, div-lt-self, div-one, lt-of-le-of-lt, lt-of-lt-of-le, le-trans, le-suc, zero-lt-suc, le-of-suc-le-suc}
+use native.Mathlib.Decide.{ℕ-discrete}
 use native.Mathlib.Omega.{arith}
 use mathlib.Core.Path.{_≡_, refl, sym, ap, _∙_, subst, subst⁻¹}
-use mathlib.Core.Bool.{Bool, cond}
+use mathlib.Core.Logic.{_⊎_, inl, inr}
+use mathlib.Core.Bool.{Bool, true, false, cond, not}
+use lib.Dec.{T, ltb, ltb→lt, nltb→le}
 use borrow.Author.Tests.{ne-eqb}
 use lib.IntN.{ℤ, pos, negsuc, negℤ, natAbs}
 use lib.Signed.{mag, quotZ}
@@ -11,7 +14,7 @@ use mir.Syntax.{w32}
 use mir.Val.{SFits, toZ, ofZ}
 use mir.ValLaws.{toZ-ofZ}
 use Rattle.int32.specs.declared.Divided.the-variants.{Value, ByZero}
-use Rattle.int32.specs.Integers.{word, value, wrap, quotient, bySigns, nearest, same, divided, rdiv}
+use Rattle.int32.specs.Integers.{word, value, wrap, quotient, bySigns, evenOf, nearer, nearest, same, divided, rdiv}
 use Rattle.int32.specs.SignWord.{signWord}
 use Rattle.int32.proofs.Laws.{wrap-id, wrap-fits, word-negation}
 
@@ -38,7 +41,7 @@ divided-end f h {x} {y} g k p q = let a : x ≡ negsuc 2147483647 = from-bits g 
 
 -- ---- truncation
 
-neg-mag : (q : ℕ) {a : ℕ} → q ≤ suc a → mag (negℤ (pos q)) ≤ a
+pub neg-mag : (q : ℕ) {a : ℕ} → q ≤ suc a → mag (negℤ (pos q)) ≤ a
 neg-mag zero h = omega arith
 neg-mag (suc q) h = le-of-suc-le-suc h
 
@@ -69,27 +72,47 @@ quotient-is x y f = sym (wrap-id (quotZ x y) f) ∙ ap wrap (by-signs x y)
 
 -- ---- rounding
 
-near : (a b k : ℕ) → 0 < b → 2 * (k * b) ≤ 2 * a + b → 2 * a + b < 2 * (k * b) + 2 * b → k ≡ nearest a b
-unfolding nearest
-near a b k h l u =
-    sym (div-eq-of-lt-le (2 * b) (subst⁻¹ (λ (n : ℕ). n ≤ 2 * a + b) (mul-left-comm k 2 b) l)
-    (subst⁻¹ (λ (n : ℕ). 2 * a + b < n) (add-mul k 1 (2 * b) ∙ (λ i. mul-left-comm k 2 b i + one-mul (2 * b) i)) u))
+-- the even neighbour is even, and a neighbour
+even-of : (q : ℕ) → evenOf q % 2 ≡ 0
+unfolding evenOf
+even-of q = omega arith
 
-module _ (a b : ℕ) (h : 0 < b) where
-  pub nearest-up : b - a % b ≤ a % b → a / b + 1 ≡ nearest a b
-  nearest-up t = near a b (a / b + 1) h (omega (arith, parts, left, next)) (omega (arith, parts, left, next))
-    where
-      parts : a / b * b + a % b ≡ a
-      parts = div-add-mod' a b
+beside : (q : ℕ) → (evenOf q ≡ q) ⊎ (evenOf q ≡ q + 1)
+unfolding evenOf
+beside q = elim (ℕ-discrete (q % 2) 0) [ yes e ↦ inl (omega arith) | no n ↦ inr (omega arith) ]
 
-      left : a % b < b
-      left = mod-lt a h
+-- by the neighbour that is nearer; where both are as near, it is even
+pub nearer-cases : (P : ℕ → Type 0) (q d e : ℕ) → (d ≤ e → (d ≡ e → q % 2 ≡ 0) → P q) → (e ≤ d → (d ≡ e → (q + 1) % 2 ≡ 0) → P (q + 1))
+    → P (nearer q d e)
+unfolding nearer
+nearer-cases P q d e f g = go (ltb d e) (ltb→lt d e) (nltb→le d e) (ltb e d) (ltb→lt e d) (nltb→le e d)
+  where
+    half : d ≡ e → P (evenOf q)
+    half h = elim (beside q) [
+      | inl t ↦ subst⁻¹ P t (f (omega arith) (λ _. ap (λ (n : ℕ). n % 2) (sym t) ∙ even-of q))
+      | inr t ↦ subst⁻¹ P t (g (omega arith) (λ _. ap (λ (n : ℕ). n % 2) (sym t) ∙ even-of q))
+    ]
 
-      next : (a / b + 1) * b ≡ a / b * b + 1 * b
-      next = add-mul (a / b) 1 b
+    go : (s : Bool) → (T s → d < e) → (T (not s) → e ≤ d) → (t : Bool) → (T t → e < d) → (T (not t) → d ≤ e)
+        → P (cond s q (cond t (q + 1) (evenOf q)))
+    go true l m t u v = f (omega (arith, l tt)) (λ h. absurd (omega (arith, l tt)))
+    go false l m true u v = g (omega (arith, u tt)) (λ h. absurd (omega (arith, u tt)))
+    go false l m false u v = half (omega (arith, m tt, v tt))
 
-  pub nearest-down : a % b < b - a % b → a / b ≡ nearest a b
-  nearest-down t = near a b (a / b) h (omega (arith, div-add-mod' a b, mod-lt a h)) (omega (arith, div-add-mod' a b, mod-lt a h))
+-- as the code finds it
+module _ (a b : ℕ) where
+  pub nearest-below : a % b < b - a % b → a / b ≡ nearest a b
+  unfolding nearest
+  nearest-below h = nearer-cases (λ k. a / b ≡ k) (a / b) (a % b) (b - a % b) (λ l e. refl) (λ l e. omega arith)
+
+  pub nearest-above : b - a % b < a % b → a / b + 1 ≡ nearest a b
+  unfolding nearest
+  nearest-above h = nearer-cases (λ k. a / b + 1 ≡ k) (a / b) (a % b) (b - a % b) (λ l e. omega arith) (λ l e. refl)
+
+  pub nearest-tie : b - a % b ≤ a % b → a % b ≤ b - a % b → a / b + a / b % 2 ≡ nearest a b
+  unfolding nearest
+  nearest-tie g h =
+      nearer-cases (λ k. a / b + a / b % 2 ≡ k) (a / b) (a % b) (b - a % b) (λ l e. omega (arith, e (omega arith))) (λ l e. omega (arith, e (omega arith)))
 
 -- ---- signs on words
 
@@ -121,7 +144,3 @@ rdiv-words x y {a} {b} {m} {r} {s} p q e h u v =
 pub rdiv-fits : (x y : ℤ) → SFits w32 (rdiv x y)
 unfolding rdiv
 rdiv-fits x y = wrap-fits (bySigns nearest x y)
-
-pub natAbs-pos : (z : ℤ) → (ofZ w32 z ≡ 0 → ⊥) → 0 < natAbs z
-natAbs-pos (pos n) h = omega arith
-natAbs-pos (negsuc n) h = omega arith

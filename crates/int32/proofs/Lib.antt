@@ -2,3 +2,5 @@
 pub mod Laws
 pub mod Signs
 pub mod Division
+pub mod Sizes
+pub mod Rounding

@@ -1,5 +1,5 @@
--- Document 01, Integers. A cell's value is a number of ℤ from -2^31 to 2^31 - 1. Each operation is done on ℤ and its result wrapped,
--- so that "wrap at 32 bits" is said once. Assumes nothing.
+-- Document 01, Integers, and document 02, Point 2. A cell's value is a number of ℤ from -2^31 to 2^31 - 1. Each operation is done on ℤ
+-- and its result wrapped, so that "wrap at 32 bits" is said once. Assumes nothing.
 use Prim.Native.Nat.{ℕ, suc, _+_, _-_, _*_, _/_, _%_, _^_}
 use mathlib.Core.Bool.{Bool, false, cond, not}
 use lib.Dec.{ltb, eqb}
@@ -46,10 +46,19 @@ bySigns f (negsuc a) (negsuc b) = pos (f (suc a) (suc b))
 unfoldable pub quotient : ℤ → ℤ → ℤ
 quotient x y = wrap (bySigns _/_ x y)
 
--- "the nearest whole number, halves away from zero": of magnitudes, halves upward
-unfoldable pub nearest : ℕ → ℕ → ℕ
-nearest a b = (2 * a + b) / (2 * b)
+-- Document 02, Point 2: "to the even neighbour", of q and q + 1 the even one
+unfoldable pub evenOf : ℕ → ℕ
+evenOf q = q + q % 2
 
+-- of the neighbours q and q + 1, at the distances d and e, the nearer one, and of two nearest ones the even one
+unfoldable pub nearer : ℕ → ℕ → ℕ → ℕ
+nearer q d e = cond (ltb d e) q (cond (ltb e d) (q + 1) (evenOf q))
+
+-- "the nearest whole number", of magnitudes: a over b lies a % b above a / b and b - a % b below the next, in parts of b
+unfoldable pub nearest : ℕ → ℕ → ℕ
+nearest a b = nearer (a / b) (a % b) (b - a % b)
+
+-- the whole number nearest to the exact quotient, and of two nearest ones the even one; −2147483648 over −1 wraps to −2147483648
 unfoldable pub rdiv : ℤ → ℤ → ℤ
 rdiv x y = wrap (bySigns nearest x y)
 

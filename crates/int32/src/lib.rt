@@ -92,17 +92,24 @@ fn magnitude(x: i32) -> u32
     with_sign(x, to_word(x))
 }
 
-// a / b to the nearest whole number, a half upward.
-fn round_up(a: u32, b: u32) -> u32
+// a / b to the nearest whole number, of two nearest ones the even one.
+fn round_half_even(a: u32, b: u32) -> u32
     requires { ⌜ (a ≤ 2147483648) × (0 < b) ⌝ }
     ensures { λ r. ⌜ r ≡ nearest a b ⌝ }
 {
     let q = a / b;
-    let r = a % b;
-    if b - r <= r { q + 1 } else { q }
+    let below = a % b;
+    let above = b - below;
+    if below < above {
+        return q;
+    }
+    if above < below {
+        return q + 1;
+    }
+    q + q % 2
 }
 
-// x / y to the nearest whole number, halves away from zero. The smallest number over -1 is the smallest number.
+// x / y to the nearest whole number, halves to even (document 02, Point 2). The smallest number over -1 is the smallest number.
 pub fn round_divide(x: i32, y: i32) -> Divided
     ensures { λ r. ⌜ r ≡ divided rdiv x y ⌝ }
 {
@@ -114,7 +121,7 @@ pub fn round_divide(x: i32, y: i32) -> Divided
             return Divided::Value(-2147483648);
         }
     }
-    let m = round_up(magnitude(x), magnitude(y));
+    let m = round_half_even(magnitude(x), magnitude(y));
     Divided::Value(of_word(with_sign(x, with_sign(y, m))))
 }
 

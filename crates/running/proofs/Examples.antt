@@ -7,7 +7,7 @@ use Prim.Native.String.{String}
 use native.Mathlib.Decide.{ℕ-discrete, decLt}
 use lib.IntN.{ℤ, pos, negℤ}
 use lib.ListN.{length, replicate}
-use Rattle.int32.specs.Integers.{word, value, wrap, sum, difference, negation, product, quotient, rdiv, bySigns, nearest, related}
+use Rattle.int32.specs.Integers.{word, value, wrap, sum, difference, negation, product, quotient, rdiv, bySigns, evenOf, nearer, nearest, related}
 use Rattle.rules.specs.Choose.{pick, below, put}
 use Rattle.rules.specs.Cells.{cellOf, listed}
 use Rattle.rules.specs.Blocks.{blockStart, singles}
@@ -182,6 +182,18 @@ rows =
     ∷ row (net "do i = 1, 2" ("s = s * 1 - 2" ∷ []) (pos 5)) (ends (Rerun 2 1) (pos 1 ∷ []))
     ∷ row (net "do i = 1, 1" ("s = s - s" ∷ []) (pos 5)) (ends (Rerun 1 1) (pos 0 ∷ []))
     ∷ row (ran-on (netting "integer s, t" "do i = 1, 1" ("s = s - 1" ∷ "t = s" ∷ [])) (pos 5 ∷ pos 0 ∷ []) []) (ends (Rerun 2 2) (pos 4 ∷ pos 4 ∷ []))
+    -- document 02, Point 2
+    ∷ row (number (rdiv (pos 5) (pos 2))) (number (pos 2))
+    ∷ row (number (rdiv (minus 5) (pos 2))) (number (minus 2))
+    ∷ row (number (rdiv (pos 1) (pos 2))) (number (pos 0))
+    ∷ row (number (rdiv (minus 1) (pos 2))) (number (pos 0))
+    ∷ row (number (rdiv (pos 3) (pos 2))) (number (pos 2))
+    ∷ row (number (rdiv (pos 5) (minus 2))) (number (minus 2))
+    ∷ row (number (rdiv (pos 1073741824) (minus 2147483648))) (number (pos 0))
+    ∷ row (number (rdiv (pos 2147483647) (pos 2))) (number (pos 1073741824))
+    ∷ row (number (rdiv (pos 2147483645) (pos 2))) (number (pos 1073741822))
+    ∷ row (number (rdiv (minus 2147483648) (minus 1))) (number (minus 2147483648))
+    ∷ row (net "do i = 1, 1" ("s = rdiv(s, 2)" ∷ []) (minus 5)) (ends (Passed 1 1) (minus 2 ∷ []))
     ∷ row (checked []) (checks (Refused 2 1))
     ∷ row (checked (up-to 2048 rising)) (checks (Sizes 3 2))
     ∷ row (checked (up-to 2049 rising)) (checks (Refused 1 0))
@@ -190,7 +202,7 @@ rows =
 -- every row gives what the documents say
 pub examples : map (λ (r : Row). r .got) rows ≡ map (λ (r : Row). r .want) rows
 unfolding rows rising writing writing-last adding idle reading aiming scattering
-    word value wrap sum difference negation product quotient rdiv bySigns nearest integers.same related blockStart singles cellOf listed pick below put only written
+    word value wrap sum difference negation product quotient rdiv bySigns evenOf nearer nearest integers.same related blockStart singles cellOf listed pick below put only written
     change either? both? not? find? kind? has? exposed? ordinary? over one? two? mark1? mark2? mark4? weight marks clash? stale? mixed? obstacle-at? obstructed?
     go-on step steps through through-all run-out run-on trial is-fault? stopped? faulty? along from serial finished? highest updated add total sum-of
     block gathered merged touches count merge.sum pairs written-cells

@@ -5,6 +5,7 @@ use generate::{damage, hostile, lend, noise, Knobs, Loop, Rng};
 use reference::Refusal;
 
 use crate::fortran;
+use crate::rounding;
 use crate::runs;
 use crate::services::{check, check_and_load, load, look, run, Lent};
 use crate::tally::Tally;
@@ -13,7 +14,7 @@ use crate::tally::Tally;
 pub type Group = (&'static str, fn() -> bool);
 
 /// All groups.
-pub const GROUPS: [Group; 11] = [
+pub const GROUPS: [Group; 12] = [
     ("tables", tables),
     ("lent", lent),
     ("run-table", runs::table),
@@ -21,6 +22,7 @@ pub const GROUPS: [Group; 11] = [
     ("runs", runs::random_runs),
     ("looks", runs::random_looks),
     ("refusals", runs::random_refusals),
+    ("rdiv", rounding::pairs),
     ("fortran", fortran::second_opinion),
     ("loops", loops),
     ("damaged", damaged),

@@ -2,7 +2,7 @@
 //!
 //!     compare              every group of texts
 //!     compare GROUP..      some of them: tables, lent, run-table, look-table, runs, looks,
-//!                          refusals, fortran, loops, damaged, noise
+//!                          refusals, rdiv, fortran, loops, damaged, noise
 //!     compare stack KIB    how much stack the services need; whether it is at most so much
 //!     compare text FILE    what both answer for one text
 //!
@@ -11,6 +11,7 @@
 mod fortran;
 mod groups;
 mod product;
+mod rounding;
 mod runs;
 mod services;
 mod stack;

@@ -138,7 +138,7 @@ impl Builder<'_> {
             2 => self.variable.clone(),
             8 if depth > 0 => {
                 let dividend = self.expression(depth - 1);
-                format!("rdiv({dividend}, {})", self.divisor(depth - 1))
+                format!("rdiv({dividend}, {})", self.halving(depth - 1))
             }
             9 if depth > 0 => format!("({})", self.expression(depth - 1)),
             _ => match self.readable() {
@@ -153,6 +153,15 @@ impl Builder<'_> {
             0 => "2147483647".to_string(),
             1 => (self.rng.bits() % 2_147_483_648).to_string(),
             _ => self.rng.below(10).to_string(),
+        }
+    }
+
+    /// A divisor of rdiv, every other time one that often leaves a half.
+    fn halving(&mut self, depth: usize) -> String {
+        match self.rng.below(8) {
+            0..=2 => "2".to_string(),
+            3 => self.rng.pick(&["-2", "4", "6"]).to_string(),
+            _ => self.divisor(depth),
         }
     }
 

@@ -327,17 +327,21 @@ const QUOTIENT: &str = "\
   end function QUOTIENT
 ";
 
-/// "rdiv gives the nearest whole number, halves away from zero": of the sizes, in 64 bits.
+/// "rdiv gives the nearest whole number", halves "to the even neighbour" (document 02, Point 2): of the
+/// sizes, in 64 bits.
 const ROUNDED: &str = "\
   integer function rdiv(dividend, divisor)
     integer, intent(in) :: dividend, divisor
-    integer(8) :: above, below, rounded
+    integer(8) :: above, below, rounded, doubled
     if (divisor == 0) error stop 10
     above = dividend
     below = divisor
     if (above < 0) above = -above
     if (below < 0) below = -below
-    rounded = (2 * above + below) / (2 * below)
+    rounded = above / below
+    doubled = 2 * mod(above, below)
+    if (doubled > below) rounded = rounded + 1
+    if (doubled == below) rounded = 2 * ((rounded + 1) / 2)
     if ((dividend < 0) .neqv. (divisor < 0)) rounded = -rounded
     if (rounded == 2147483648_8) rounded = -rounded
     rdiv = rounded

@@ -10,7 +10,8 @@ pub fn divide_truncated(dividend: i32, divisor: i32) -> Option<i32> {
     Some((i64::from(dividend) / i64::from(divisor)) as i32)
 }
 
-/// "rdiv gives the nearest whole number, halves away from zero." `None` for a zero divisor. Nothing
+/// "rdiv gives the nearest whole number", and where two are as near "the even neighbour" (document 02,
+/// Point 2). `None` for a zero divisor. Both are among the three around the truncated quotient; nothing
 /// wraps on the way (READING 61).
 pub fn divide_rounded(dividend: i32, divisor: i32) -> Option<i32> {
     if divisor == 0 {
@@ -18,18 +19,10 @@ pub fn divide_rounded(dividend: i32, divisor: i32) -> Option<i32> {
     }
     let (dividend, divisor) = (i64::from(dividend), i64::from(divisor));
     let truncated = dividend / divisor;
-    let left_over = (dividend % divisor).abs();
-    let away_from_zero = if (dividend < 0) == (divisor < 0) {
-        1
-    } else {
-        -1
-    };
-    let rounded = if 2 * left_over >= divisor.abs() {
-        truncated + away_from_zero
-    } else {
-        truncated
-    };
-    Some(rounded as i32)
+    let distance = |whole: i64| (dividend - whole * divisor).abs();
+    let rounded =
+        (truncated - 1..=truncated + 1).min_by_key(|&whole| (distance(whole), whole % 2 != 0));
+    rounded.map(|whole| whole as i32)
 }
 
 #[cfg(test)]
@@ -49,17 +42,44 @@ mod tests {
     }
 
     #[test]
-    fn rounding_is_exact_at_the_ends() {
-        assert_eq!(divide_rounded(1_073_741_824, i32::MIN), Some(-1));
-        assert_eq!(divide_rounded(1_073_741_823, i32::MIN), Some(0));
-        assert_eq!(divide_rounded(i32::MAX, 2), Some(1_073_741_824));
-        assert_eq!(divide_rounded(i32::MIN, i32::MAX), Some(-1));
-        assert_eq!(divide_rounded(i32::MAX, i32::MIN), Some(-1));
-        assert_eq!(divide_rounded(-5, -2), Some(3));
-        assert_eq!(divide_rounded(5, -2), Some(-3));
+    fn examples_of_document_02() {
+        assert_eq!(divide_rounded(5, 2), Some(2));
+        assert_eq!(divide_rounded(7, 2), Some(4));
+        assert_eq!(divide_rounded(-5, 2), Some(-2));
     }
 
-    /// The distance to the quotient is at most a half, and at a half the result is the outer one.
+    /// P2.1
+    #[test]
+    fn halves_go_to_even() {
+        for (dividend, divisor, rounded) in [
+            (1, 2, 0),
+            (-1, 2, 0),
+            (3, 2, 2),
+            (-3, 2, -2),
+            (-7, 2, -4),
+            (10, 4, 2),
+            (5, -2, -2),
+            (-5, -2, 2),
+        ] {
+            assert_eq!(divide_rounded(dividend, divisor), Some(rounded));
+        }
+    }
+
+    /// P2.2
+    #[test]
+    fn rounding_is_exact_at_the_ends() {
+        assert_eq!(divide_rounded(1_073_741_824, i32::MIN), Some(0));
+        assert_eq!(divide_rounded(-1_073_741_824, i32::MIN), Some(0));
+        assert_eq!(divide_rounded(1_073_741_825, i32::MIN), Some(-1));
+        assert_eq!(divide_rounded(1_073_741_823, i32::MIN), Some(0));
+        assert_eq!(divide_rounded(i32::MAX, 2), Some(1_073_741_824));
+        assert_eq!(divide_rounded(2_147_483_645, 2), Some(1_073_741_822));
+        assert_eq!(divide_rounded(i32::MIN, i32::MAX), Some(-1));
+        assert_eq!(divide_rounded(i32::MAX, i32::MIN), Some(-1));
+    }
+
+    /// The distance to the quotient is at most a half, and at a half the result is even. "Other quotients
+    /// keep their values": those of halves away from zero.
     #[test]
     fn rounding_is_the_nearest() {
         for a in -40i64..=40 {
@@ -68,7 +88,10 @@ mod tests {
                 let doubled_distance = 2 * (q * b - a).abs();
                 assert!(doubled_distance <= b.abs(), "{a} {b}");
                 if doubled_distance == b.abs() {
-                    assert!((q * b).abs() > a.abs(), "{a} {b}");
+                    assert!(q % 2 == 0, "{a} {b}");
+                } else {
+                    let size = (2 * a.abs() + b.abs()) / (2 * b.abs());
+                    assert_eq!(q, size * a.signum() * b.signum(), "{a} {b}");
                 }
             }
         }
