@@ -81,7 +81,8 @@ struct lrpd_done_answer lrpd_look(const uint8_t *text, size_t length, const int3
                                   size_t words, const uint8_t *schedule, size_t steps, uint32_t *view, size_t shown);
 
 /* Run: runs the loop on the cells, speculatively under the schedule and then to its end, and serially if that meets a fault or an
-   obstacle. No schedule changes the answer or the cells. Numbers 1 to 7, 9 and 10; a refusal leaves the cells as found, 1 to 7 the
+   obstacle. No schedule changes the answer or the cells. Where neither call is refused by 1 to 7, another num_threads changes at most
+   `rerun`, and that only in a text with the clause schedule(static). Numbers 1 to 7, 9 and 10; a refusal leaves the cells as found, 1 to 7 the
    workspace too. Else the workspace is zero afterwards. */
 struct lrpd_run_answer lrpd_run(const uint8_t *text, size_t length, int32_t *cells, size_t count, uint32_t *workspace, size_t words,
                                 const uint8_t *schedule, size_t steps);

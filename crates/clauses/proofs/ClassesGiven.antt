@@ -2,16 +2,16 @@
 use mathlib.Core.Path.{_≡_, refl, sym, _∙_, ap}
 use mathlib.Core.Bool.{Bool, true, false, cond, not, _&&_, _||_, or-false}
 use mathlib.Core.List.{List, [], _∷_, _++_, map}
-use Prim.Native.Nat.{ℕ, suc, _+_, _/_, _%_, _≤_, _<_, min}
+use Prim.Native.Nat.{ℕ, zero, suc, _/_, _%_, _<_, min}
 use native.Mathlib.Omega.{arith}
-use borrow.Author.Tests.{not-true, ne-eqb}
-use lib.Dec.{eqb}
+use borrow.Author.Tests.{not-true, eq-eqb, eqb-true, le-leb, leb-true}
+use lib.Dec.{eqb, leb}
 use lib.ListN.{length, getD}
 use Rattle.rules.specs.Loop.{Class, shared, lastprivate, reduction}
 use Rattle.rules.specs.Numbers.{class-number}
 use Rattle.syntax.specs.Bytes.{all, any, same}
-use Rattle.syntax.specs.Grammar.{Clause, clause, threads}
-use Rattle.syntax.specs.Known.{Entry, nowhere, known, with-class, processors-by, class-by, class-in, classify}
+use Rattle.syntax.specs.Grammar.{Clause, clause, threads, static}
+use Rattle.syntax.specs.Known.{Entry, nowhere, known, with-class, processors-by, grouping-by, class-by, class-in, classify}
 use Rattle.syntax.specs.Conditions.{different, clauseNames}
 use Rattle.syntax.proofs.Spelling.{both-true, same-true}
 use Rattle.syntax.proofs.TestLaws.{both-hold, neither-holds, any-append, same-refl, same-comm-false, same-truth}
@@ -86,6 +86,7 @@ abbrev one-by-one : List Clause → Entry → Entry
 one-by-one [] e = e
 one-by-one (clause k y ys ∷ cs) e = one-by-one cs (names-to (y ∷ ys) (class-by k) e)
 one-by-one (threads p ∷ cs) e = one-by-one cs e
+one-by-one (static ∷ cs) e = one-by-one cs e
 
 map-twice : (f g : Entry → Entry) (t : List Entry) → map g (map f t) ≡ map (λ e. g (f e)) t
 map-twice f g [] = refl
@@ -113,6 +114,7 @@ clauses-are t xs (clause k y ys ∷ cs) h =
     clauses-are u zs cs (frees-known t u (claims-names t xs c (y ∷ ys)) zs (clauseNames cs) ∙ q)
     ∙ ap (map (one-by-one cs)) (claims-are t xs c (y ∷ ys) p) ∙ map-twice (names-to (y ∷ ys) c) (one-by-one cs) t
 clauses-are t xs (threads p ∷ cs) h = clauses-are t xs cs h
+clauses-are t xs (static ∷ cs) h = clauses-are t xs cs h
 
 named-class : (y : List ℕ) (c : Class) (e : Entry) → class-to y c e ≡ with-class (cond (same y (e .name)) c (e .class)) e
 named-class y c e = go (same y (e .name))
@@ -172,6 +174,7 @@ clauses-class (clause k y ys ∷ cs) e d =
     go c false true k h = refl
     go c false false k h = refl
 clauses-class (threads p ∷ cs) e d = clauses-class cs e d
+clauses-class (static ∷ cs) e d = clauses-class cs e d
 
 class-none : (cs : List Clause) (x : List ℕ) → any (same x) (clauseNames cs) ≡ false → class-in cs x ≡ shared
 unfolding class-in
@@ -180,6 +183,7 @@ class-none (clause k y ys ∷ cs) x h =
     let (p, q) = neither-holds (any (same x) (y ∷ ys)) _ (sym (any-append (same x) (y ∷ ys) (clauseNames cs)) ∙ h) in
     ap (λ (b : Bool). cond b (class-by k) (class-in cs x)) p ∙ class-none cs x q
 class-none (threads p ∷ cs) x h = class-none cs x h
+class-none (static ∷ cs) x h = class-none cs x h
 
 -- an entry in no clause before
 classified : (cs : List Clause) (e : Entry) → different (clauseNames cs) ≡ true → e .class ≡ shared → one-by-one cs e ≡ classify cs e
@@ -212,19 +216,32 @@ classes-are T t cs tab u h = clauses-are t [] cs h ∙ map-each (one-by-one cs) 
 pub unmarked : (T : List ℕ) (t : List Entry) → Tabled T t → Unclaimed T (length t) → Marked T t []
 unmarked T t tab u = record { table = tab; claimed = λ i l. let z : factsAt T i / 4 ≡ 0 = omega (arith, u i l) in ap (λ (n : ℕ). eqb (n % 2) 1) z }
 
--- ---- how often `num_threads` stands
+-- ---- how often a clause stands
 
-counted-on : (n : ℕ) (ps : List (List ℕ)) → 2 ≤ n → 2 ≤ counted n ps
-counted-on n [] h = h
-counted-on n (p ∷ ps) h = counted-on (min (n + 1) 2) ps (omega arith)
+counted-on : (n : ℕ) → counted 2 n ≡ 2
+counted-on zero = refl
+counted-on (suc n) = counted-on n
 
-pub counted-once : (ps : List (List ℕ)) → eqb (counted 0 ps) 1 ≡ eqb (length ps) 1
-counted-once [] = refl
-counted-once (p ∷ []) = refl
-counted-once (p ∷ q ∷ ps) =
-    ne-eqb (counted 2 ps) 1 (λ e. omega (arith, counted-on 2 ps (omega arith), e)) ∙ sym (ne-eqb (length (p ∷ q ∷ ps)) 1 (λ e. omega (arith, e)))
+-- up to 2, so once and at most once are told
+pub counted-is : (n : ℕ) → counted 0 n ≡ min n 2
+counted-is zero = refl
+counted-is (suc zero) = refl
+counted-is (suc (suc n)) = counted-on n ∙ omega arith
 
--- and the number that it gives, where it stands once
+pub counted-once : (n : ℕ) → eqb (counted 0 n) 1 ≡ eqb n 1
+counted-once n = same-truth _ _ (λ h. eq-eqb n 1 (omega (arith, counted-is n, eqb-true (counted 0 n) 1 h)))
+    (λ h. eq-eqb (counted 0 n) 1 (omega (arith, counted-is n, eqb-true n 1 h)))
+
+pub counted-most : (n : ℕ) → leb (counted 0 n) 1 ≡ leb n 1
+counted-most n = same-truth _ _ (λ h. le-leb n 1 (omega (arith, counted-is n, leb-true (counted 0 n) 1 h)))
+    (λ h. le-leb (counted 0 n) 1 (omega (arith, counted-is n, leb-true n 1 h)))
+
+pub counted-grouping : (n : ℕ) → grouping-by (counted 0 n) ≡ grouping-by n
+counted-grouping zero = refl
+counted-grouping (suc zero) = refl
+counted-grouping (suc (suc n)) = ap grouping-by (counted-on n)
+
+-- the number that `num_threads` gives, where it stands once
 pub last-once : (ps : List (List ℕ)) → length ps ≡ 1 → last-threads 0 ps ≡ min (processors-by ps) 2147483648
 last-once [] e = absurd (omega arith)
 last-once (p ∷ []) e = refl

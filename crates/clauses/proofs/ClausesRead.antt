@@ -1,5 +1,5 @@
 -- Clauses: the words before the names, a clause, and clauses one after the other.
-use mathlib.Core.Path.{_≡_, refl, sym, _∙_, ap, subst}
+use mathlib.Core.Path.{_≡_, refl, sym, _∙_, ap, subst, subst₂}
 use mathlib.Core.Bool.{Bool, true, false, _&&_, and-true, and-assoc}
 use mathlib.Core.List.{List, [], _∷_, _++_, append-assoc, append-nil}
 use Prim.Native.Nat.{ℕ, suc, _+_, _-_, _≤_, _<_, min, max}
@@ -10,10 +10,10 @@ use lib.ListN.{length, drop}
 use Rattle.syntax.specs.declared.ClauseKind.{ClauseKind}
 use Rattle.syntax.specs.declared.ClauseKind.the-variants.{Shared, Lastprivate, Reduction}
 use Rattle.syntax.specs.Bytes.{all, bytes, choose, between}
-use Rattle.syntax.specs.Grammar.{number, Clause, clause, threads}
-use Rattle.syntax.specs.Known.{Entry, class-by, threads-in}
+use Rattle.syntax.specs.Grammar.{number, Clause, clause, threads, static}
+use Rattle.syntax.specs.Known.{Entry, class-by, threads-in, statics-in}
 use Rattle.syntax.specs.Conditions.{clauseNames}
-use Rattle.syntax.specs.Reader.{Parsed, done, Reader, next, kind, says, expects, wants, readName, readDigits, readKind, readThreads, readNames, readClause, readClauses, peek-in, skip-in}
+use Rattle.syntax.specs.Reader.{Parsed, done, Reader, next, kind, says, expects, wants, readName, readDigits, readKind, readThreads, readStatic, readNames, readClause, readClauses, peek-in, skip-in}
 use Rattle.syntax.proofs.ReaderLaws.{next-assoc}
 use Rattle.syntax.proofs.Spelling.{both-true}
 use Rattle.syntax.proofs.TestLaws.{both-hold, same-truth}
@@ -115,30 +115,65 @@ within-least n = same-truth _ _ least most
         let (a, b) = both-true (leb 1 n) _ h in
         both-hold (le-leb 1 (min n 2147483648) (omega (arith, leb-true 1 n a))) (le-leb (min n 2147483648) 8 (omega (arith, leb-true n 8 b)))
 
+-- ---- `schedule`
+
+pub static-read : {s : List ℕ} {from o w r : ℕ} → Goes Any s from (passes (bytes "(")) o → Goes Any s o (passes (bytes "static")) w
+    → Goes Any s w (passes (bytes ")")) r → Goes (λ c. static ≡ c) s from (readStatic peek-in skip-in) r
+static-read go gw gc = goes-past "(" refl go (goes-past-word "static" refl gw (goes-sealed ")" refl gc static refl))
+
 -- ---- a clause after others
+
+-- what others came to, and a clause more: `num_threads` with its number, `schedule(static)`, one with names
+abbrev threaded : Directed → ℕ → ℕ → ℕ → Directed
+threaded b next rank n = record { next = next; rank = rank; threads = min (b .threads + 1) 2; processors = n; statics = b .statics }
+
+abbrev scheduled : Directed → ℕ → Directed
+scheduled b next =
+    record { next = next; rank = b .rank; threads = b .threads; processors = b .processors; statics = min (b .statics + 1) 2 }
+
+abbrev listed : Directed → ℕ → ℕ → Directed
+listed b next rank = record { next = next; rank = rank; threads = b .threads; processors = b .processors; statics = b .statics }
 
 module _ (t : List Entry) (xs : List (List ℕ)) (b : Directed) (T : List ℕ) (m : Marked T t xs) where
   pub clausal-none : Clausal t xs b T b []
-  clausal-none = record { rank-is = omega arith; threads-are = refl; processors-are = refl; marked = subst (Marked T t) (sym (append-nil xs)) m }
+  clausal-none = record {
+    rank-is = omega arith;
+    threads-are = refl;
+    processors-are = refl;
+    statics-are = refl;
+    marked = subst (Marked T t) (sym (append-nil xs)) m;
+  }
 
   pub clausal-threads : (p : List ℕ) (n next rank : ℕ) → n ≡ min (number p) 2147483648 → rank ≡ max (b .rank) (order true (between 1 8 n))
-      → Clausal t xs b T (record { next = next; rank = rank; threads = min (b .threads + 1) 2; processors = n }) (threads p ∷ [])
+      → Clausal t xs b T (threaded b next rank n) (threads p ∷ [])
   clausal-threads p n next rank en er = record {
     rank-is = er ∙ ap (λ (x : Bool). max (b .rank) (order true x)) (ap (between 1 8) en ∙ within-least (number p) ∙ sym (and-true (few p)));
     threads-are = refl;
     processors-are = en;
+    statics-are = refl;
     marked = subst (Marked T t) (sym (append-nil xs)) m;
   }
 
+  pub clausal-static : (next : ℕ) (c : Clause) → static ≡ c → Clausal t xs b T (scheduled b next) (c ∷ [])
+  clausal-static next c e = subst (λ (d : Clause). Clausal t xs b T (scheduled b next) (d ∷ [])) e (record {
+    rank-is = omega arith;
+    threads-are = refl;
+    processors-are = refl;
+    statics-are = refl;
+    marked = subst (Marked T t) (sym (append-nil xs)) m;
+  })
+
 pub clausal-names : (t : List Entry) (xs : List (List ℕ)) (b : Directed) (T : List ℕ) (rank next : ℕ) (c : Clause) → Naming t xs (b .rank) T rank c
-    → Clausal t xs b T (record { next = next; rank = rank; threads = b .threads; processors = b .processors }) (c ∷ [])
+    → Clausal t xs b T (listed b next rank) (c ∷ [])
 clausal-names t xs b T rank next (clause k y ys) h = record {
   rank-is = h .rank-is ∙ ap (λ (l : List (List ℕ)). max (b .rank) (order (frees t xs (y ∷ l)) true)) (sym (append-nil ys));
   threads-are = refl;
   processors-are = refl;
+  statics-are = refl;
   marked = subst (λ (l : List (List ℕ)). Marked T (claims-to xs (class-by k) (y ∷ ys) t) (xs ++ (y ∷ l))) (sym (append-nil ys)) (h .marked);
 }
 clausal-names t xs b T rank next (threads p) h = absurd h
+clausal-names t xs b T rank next static h = absurd h
 
 abbrev reads-threads : Reader (List ℕ) Clause
 reads-threads u = next (readThreads peek-in skip-in u) (λ p. done (threads p))
@@ -146,24 +181,35 @@ reads-threads u = next (readThreads peek-in skip-in u) (λ p. done (threads p))
 abbrev reads-names : ℕ → Reader (List ℕ) Clause
 reads-names f u = next (readKind peek-in skip-in u) (readNames peek-in skip-in f)
 
+abbrev reads-other : ℕ → Reader (List ℕ) Clause
+reads-other f u = choose (says peek-in skip-in "schedule" u) (λ _. readStatic peek-in skip-in (skip-in u)) (λ _. reads-names f u)
+
 module _ (T s : List ℕ) (b : Directed) (w : ℕ) (gw : Goes Any s (b .next) (passes (bytes "num_threads")) w) where
   pub clause-threads : w ≤ length s → (n r rank : ℕ) → Goes (λ p. n ≡ min (number p) 2147483648) s w (readThreads peek-in skip-in) r
       → rank ≡ max (b .rank) (order true (between 1 8 n))
-      → ClauseAt T s b T (record { next = r; rank = rank; threads = min (b .threads + 1) 2; processors = n })
+      → ClauseAt T s b T (threaded b r rank n)
   clause-threads l n r rank g er t xs m f k =
-      goes-word reads-threads (reads-names f) "num_threads" refl gw l (goes-yield threads g (λ p e. clausal-threads t xs b T m p n r rank e er))
+      goes-word reads-threads (reads-other f) "num_threads" refl gw l (goes-yield threads g (λ p e. clausal-threads t xs b T m p n r rank e er))
 
-  pub clause-names : length s < w → (T₁ : List ℕ) (r : Headed) → NamesAt T s (b .next) (b .rank) T₁ r
-      → ClauseAt T s b T₁ (record { next = r .next; rank = r .rank; threads = b .threads; processors = b .processors })
-  clause-names l T₁ r h t xs m f k =
-      goes-other reads-threads (reads-names f) "num_threads" refl gw l (goes-saying (h t xs m f k) (λ _ c n. clausal-names t xs b T₁ (r .rank) (r .next) c n))
+  module _ (l : length s < w) (v : ℕ) (gv : Goes Any s (b .next) (passes (bytes "schedule")) v) where
+    pub clause-static : v ≤ length s → (r : ℕ) → Goes (λ c. static ≡ c) s v (readStatic peek-in skip-in) r
+        → ClauseAt T s b T (scheduled b r)
+    clause-static i r g t xs m f k =
+        goes-other reads-threads (reads-other f) "num_threads" refl gw l (goes-word (readStatic peek-in skip-in) (reads-names f) "schedule" refl gv i
+        (goes-saying g (λ _ c e. clausal-static t xs b T m r c e)))
 
--- by the number that the code has for one time more
-pub threads-again : {T s : List ℕ} {b : Directed} {T′ : List ℕ} {next rank n m k : ℕ} → k ≡ m
-    → ClauseAt T s b T′ (record { next = next; rank = rank; threads = m; processors = n })
-    → ClauseAt T s b T′ (record { next = next; rank = rank; threads = k; processors = n })
-threads-again {T} {s} {b} {T′} {next} {rank} {n} e = subst
-    (λ (x : ℕ). ClauseAt T s b T′ (record { next = next; rank = rank; threads = x; processors = n })) (sym e)
+    pub clause-names : length s < v → (T₁ : List ℕ) (r : Headed) → NamesAt T s (b .next) (b .rank) T₁ r
+        → ClauseAt T s b T₁ (listed b (r .next) (r .rank))
+    clause-names i T₁ r h t xs m f k =
+        goes-other reads-threads (reads-other f) "num_threads" refl gw l (goes-other (readStatic peek-in skip-in) (reads-names f) "schedule" refl gv i
+        (goes-saying (h t xs m f k) (λ _ c n. clausal-names t xs b T₁ (r .rank) (r .next) c n)))
+
+-- by the numbers that the code has for one time more
+pub once-more : {T s : List ℕ} {b : Directed} {T′ : List ℕ} {next rank n a c x y : ℕ} → x ≡ a → y ≡ c
+    → ClauseAt T s b T′ (record { next = next; rank = rank; threads = a; processors = n; statics = c })
+    → ClauseAt T s b T′ (record { next = next; rank = rank; threads = x; processors = n; statics = y })
+once-more {T} {s} {b} {T′} {next} {rank} {n} e d = subst₂
+    (λ (x y : ℕ). ClauseAt T s b T′ (record { next = next; rank = rank; threads = x; processors = n; statics = y })) (sym e) (sym d)
 
 -- ---- clauses one after the other
 
@@ -194,10 +240,12 @@ frees-append t xs (y ∷ ys) zs =
 abbrev names-in : Clause → List (List ℕ)
 names-in (clause k x ys) = x ∷ ys
 names-in (threads p) = []
+names-in static = []
 
 abbrev clause-to : List (List ℕ) → Clause → List Entry → List Entry
 clause-to xs (clause k x ys) t = claims-to xs (class-by k) (x ∷ ys) t
 clause-to xs (threads p) t = t
+clause-to xs static t = t
 
 clausal-more : (t : List Entry) (xs : List (List ℕ)) (b : Directed) (T₁ T₂ : List ℕ) (r₁ r₂ : Directed) (c : Clause) (cs : List Clause)
     → Clausal t xs b T₁ r₁ (c ∷ []) → Clausal (clause-to xs c t) (xs ++ names-in c) r₁ T₂ r₂ cs → Clausal t xs b T₂ r₂ (c ∷ cs)
@@ -212,8 +260,9 @@ clausal-more t xs b T₁ T₂ r₁ r₂ (clause k x ys) cs h q =
           ∙ ap (λ (y : Bool). max (max (b .rank) (order y true)) (order (frees t zs (clauseNames cs)) (all few (threads-in cs)))) one
           ∙ both-ranks (b .rank) (frees t xs (x ∷ ys)) true (frees t zs (clauseNames cs)) (all few (threads-in cs))
           ∙ ap (λ (y : Bool). max (b .rank) (order y (all few (threads-in cs)))) (sym (frees-append t xs (x ∷ ys) (clauseNames cs)));
-      threads-are = q .threads-are ∙ ap (λ (n : ℕ). counted n (threads-in cs)) (h .threads-are);
+      threads-are = q .threads-are ∙ ap (λ (n : ℕ). counted n (length (threads-in cs))) (h .threads-are);
       processors-are = q .processors-are ∙ ap (λ (n : ℕ). last-threads n (threads-in cs)) (h .processors-are);
+      statics-are = q .statics-are ∙ ap (λ (n : ℕ). counted n (statics-in cs)) (h .statics-are);
       marked = subst (λ (l : List (List ℕ)). Marked T₂ (clauses-to zs cs u) l) (append-assoc xs (x ∷ ys) (clauseNames cs)) (q .marked);
     }
 clausal-more t xs b T₁ T₂ r₁ r₂ (threads p) cs h q =
@@ -223,8 +272,18 @@ clausal-more t xs b T₁ T₂ r₁ r₂ (threads p) cs h q =
           q .rank-is ∙ (λ i. max (h .rank-is i) (order (frees t (e i) (clauseNames cs)) (all few (threads-in cs))))
           ∙ ap (λ (y : Bool). max (max (b .rank) (order true y)) (order (frees t xs (clauseNames cs)) (all few (threads-in cs)))) (and-true (few p))
           ∙ both-ranks (b .rank) true (few p) (frees t xs (clauseNames cs)) (all few (threads-in cs));
-      threads-are = q .threads-are ∙ ap (λ (n : ℕ). counted n (threads-in cs)) (h .threads-are);
+      threads-are = q .threads-are ∙ ap (λ (n : ℕ). counted n (length (threads-in cs))) (h .threads-are);
       processors-are = q .processors-are ∙ ap (λ (n : ℕ). last-threads n (threads-in cs)) (h .processors-are);
+      statics-are = q .statics-are ∙ ap (λ (n : ℕ). counted n (statics-in cs)) (h .statics-are);
+      marked = subst (λ (l : List (List ℕ)). Marked T₂ (clauses-to l cs t) (l ++ clauseNames cs)) e (q .marked);
+    }
+clausal-more t xs b T₁ T₂ r₁ r₂ static cs h q =
+    let e = append-nil xs in
+    record {
+      rank-is = q .rank-is ∙ (λ i. max (h .rank-is i) (order (frees t (e i) (clauseNames cs)) (all few (threads-in cs)))) ∙ omega arith;
+      threads-are = q .threads-are ∙ ap (λ (n : ℕ). counted n (length (threads-in cs))) (h .threads-are);
+      processors-are = q .processors-are ∙ ap (λ (n : ℕ). last-threads n (threads-in cs)) (h .processors-are);
+      statics-are = q .statics-are ∙ ap (λ (n : ℕ). counted n (statics-in cs)) (h .statics-are);
       marked = subst (λ (l : List (List ℕ)). Marked T₂ (clauses-to l cs t) (l ++ clauseNames cs)) e (q .marked);
     }
 
@@ -233,6 +292,7 @@ one-marked : (t : List Entry) (xs : List (List ℕ)) (b : Directed) (T : List �
 one-marked t xs b T r (clause k x ys) p = subst (λ (l : List (List ℕ)). Marked T (claims-to xs (class-by k) (x ∷ ys) t) (xs ++ (x ∷ l)))
     (append-nil ys) (p .marked)
 one-marked t xs b T r (threads n) p = p .marked
+one-marked t xs b T r static p = p .marked
 
 -- clauses at a place: none, one that is broken, or one and others
 module _ (s : List ℕ) (b : Directed) where
@@ -250,7 +310,7 @@ module _ (s : List ℕ) (b : Directed) where
       (λ (y : Bool). choose y (λ _. done [] (drop (b .next) s)) (λ _. next (readClause peek-in skip-in f (drop (b .next) s)) (reads-more f))) e
 
   pub clauses-lost : (T : List ℕ) → length s < b .next
-      → Clauses T s b T (record { next = length s + 1; rank = b .rank; threads = b .threads; processors = b .processors })
+      → Clauses T s b T (listed b (length s + 1) (b .rank))
   clauses-lost T l t xs m f k = record { lands = λ i. absurd (omega arith); from = λ i. absurd (omega arith); lost = λ i. refl }
 
   pub clauses-done : (T : List ℕ) → b .next ≤ length s → ends ≡ true → Clauses T s b T b

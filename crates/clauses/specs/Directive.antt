@@ -2,13 +2,13 @@
 use mathlib.Core.Path.{_≡_}
 use mathlib.Core.Bool.{Bool, true, cond, not, _&&_}
 use mathlib.Core.List.{List, [], _∷_, _++_, map}
-use Prim.Native.Nat.{ℕ, _+_, _-_, _≤_, _<_, max, min}
+use Prim.Native.Nat.{ℕ, zero, suc, _+_, _-_, _≤_, _<_, max, min}
 use lib.ListN.{length, getD}
 use Rattle.rules.specs.Loop.{Class}
 use Rattle.syntax.specs.declared.ClauseKind.{ClauseKind}
 use Rattle.syntax.specs.Bytes.{all, any, same, between}
-use Rattle.syntax.specs.Grammar.{number, Clause, clause, threads}
-use Rattle.syntax.specs.Known.{Entry, known, nowhere, class-by, threads-in}
+use Rattle.syntax.specs.Grammar.{number, Clause, clause, threads, static}
+use Rattle.syntax.specs.Known.{Entry, known, nowhere, class-by, threads-in, statics-in}
 use Rattle.syntax.specs.Conditions.{clauseNames}
 use Rattle.syntax.specs.Reader.{readName, readListed, readClause, readClauses, peek-in, skip-in}
 use Rattle.lexer.specs.Places.{Goes}
@@ -70,15 +70,16 @@ abbrev pub clauses-to : List (List ℕ) → List Clause → List Entry → List 
 clauses-to xs [] t = t
 clauses-to xs (clause k x ys ∷ cs) t = clauses-to (xs ++ (x ∷ ys)) cs (claims-to xs (class-by k) (x ∷ ys) t)
 clauses-to xs (threads p ∷ cs) t = clauses-to xs cs t
+clauses-to xs (static ∷ cs) t = clauses-to xs cs t
 
 -- "P 1 to 8"
 abbrev pub few : List ℕ → Bool
 few p = between 1 8 (number p)
 
--- how often `num_threads` stands, up to 2, after n times
-abbrev pub counted : ℕ → List (List ℕ) → ℕ
-counted n [] = n
-counted n (p ∷ ps) = counted (min (n + 1) 2) ps
+-- how often a clause stands, up to 2, after n times and m times more
+abbrev pub counted : ℕ → ℕ → ℕ
+counted n zero = n
+counted n (suc m) = counted (min (n + 1) 2) m
 
 -- the number that `num_threads` gives last, up to 2^31
 abbrev pub last-threads : ℕ → List (List ℕ) → ℕ
@@ -89,6 +90,7 @@ last-threads n (p ∷ ps) = last-threads (min (number p) 2147483648) ps
 abbrev pub Naming : List Entry → List (List ℕ) → ℕ → List ℕ → ℕ → Clause → Type 0
 Naming t xs most T′ rank (clause k y ys) = Claiming t xs most (class-by k) T′ rank (y ∷ ys)
 Naming t xs most T′ rank (threads p) = ⊥
+Naming t xs most T′ rank static = ⊥
 
 abbrev pub NamesAt : List ℕ → List ℕ → ℕ → ℕ → List ℕ → Headed → Type 0
 NamesAt T s at most T′ r =
@@ -98,8 +100,9 @@ NamesAt T s at most T′ r =
 -- clauses cs, after others that came to b
 pub record Clausal (t : List Entry) (xs : List (List ℕ)) (b : Directed) (T′ : List ℕ) (r : Directed) (cs : List Clause) : Type 0 where
   pub rank-is : r .rank ≡ max (b .rank) (order (frees t xs (clauseNames cs)) (all few (threads-in cs)))
-  pub threads-are : r .threads ≡ counted (b .threads) (threads-in cs)
+  pub threads-are : r .threads ≡ counted (b .threads) (length (threads-in cs))
   pub processors-are : r .processors ≡ last-threads (b .processors) (threads-in cs)
+  pub statics-are : r .statics ≡ counted (b .statics) (statics-in cs)
   pub marked : Marked T′ (clauses-to xs cs t) (xs ++ clauseNames cs)
 
 abbrev pub ClauseAt : List ℕ → List ℕ → Directed → List ℕ → Directed → Type 0
@@ -116,7 +119,7 @@ Clauses T s b T′ r =
 
 -- no clause comes before its first
 abbrev pub none-before : ℕ → Directed
-none-before at = record { next = at; rank = 0; threads = 0; processors = 0 }
+none-before at = record { next = at; rank = 0; threads = 0; processors = 0; statics = 0 }
 
 abbrev pub Directive : List ℕ → List ℕ → ℕ → List ℕ → Directed → Type 0
 Directive T s at T′ r = Clauses T s (none-before at) T′ r

@@ -1,12 +1,14 @@
 // The directive (document 01, The loop text, 3), after its first words.
 ghost use mathlib.Core.Path.{_≡_};
+ghost use mathlib.Core.Bool.{_&&_};
 ghost use Prim.Native.Nat.{_≤_, _<_, _+_, min};
+ghost use lib.Dec.{eqb, leb};
 ghost use lib.ListN.{length};
 ghost use Rattle.syntax.specs.Bytes.{between};
 ghost use Rattle.rules.specs.Numbers.{class-number};
-ghost use Rattle.syntax.specs.Grammar.{number};
-ghost use Rattle.syntax.specs.Known.{class-by};
-ghost use Rattle.syntax.specs.Reader.{readKind, readThreads, peek-in, skip-in};
+ghost use Rattle.syntax.specs.Grammar.{number, static};
+ghost use Rattle.syntax.specs.Known.{class-by, grouping-by};
+ghost use Rattle.syntax.specs.Reader.{readKind, readThreads, readStatic, peek-in, skip-in};
 ghost use Rattle.lexer.specs.Places.{Goes};
 ghost use Rattle.names.specs.Table.{nameWords};
 ghost use Rattle.heading.specs.Lists.{Keeps, Standing};
@@ -21,6 +23,7 @@ use lexer::pass;
 use names::Table;
 use names::classify;
 use names::find;
+use rules::Grouping;
 use syntax::ClauseKind;
 
 // ---- names
@@ -162,19 +165,52 @@ fn few(processors: u32) -> bool
     processors <= 8
 }
 
-// One more, up to 2.
-fn again(threads: u32) -> u32
-    ensures { λ r. ⌜ r ≡ min (threads + 1) 2 ⌝ }
+// What follows `schedule`, which is `(static)`: the place after it (document 02, Point 3).
+fn static_at(s: &[u8], at: usize) -> usize
+    requires { ⌜ length (now s) ≤ 2048 ⌝ }
+    ensures { λ r. ⌜ Goes (λ c. static ≡ c) (now (s .entry)) at (readStatic peek-in skip-in) r ⌝ }
 {
-    if threads < 1 { 1 } else { 2 }
+    let open = pass(s, at, b"(");
+    let word = pass(s, open, b"static");
+    pass(s, word, b")")
 }
 
-// What clauses come to: the place after them, the highest rank, how often `num_threads` stands, up to 2, and the number that it gives last, up to 2^31.
+// One more, up to 2.
+fn again(times: u32) -> u32
+    ensures { λ r. ⌜ r ≡ min (times + 1) 2 ⌝ }
+{
+    if times < 1 { 1 } else { 2 }
+}
+
+// What clauses come to: the place after them, the highest rank, how often `num_threads` stands, up to 2, and the number that it gives last, up to 2^31;
+// how often `schedule(static)` stands, up to 2.
 pub struct Directed {
     pub next: usize,
     pub rank: u32,
     pub threads: u32,
     pub processors: u32,
+    pub statics: u32,
+}
+
+// Whether `num_threads` stands once and `schedule(static)` at most once.
+pub fn stands_rightly(threads: u32, statics: u32) -> bool
+    ensures { λ r. ⌜ r ≡ eqb threads 1 && leb statics 1 ⌝ }
+{
+    if threads != 1 {
+        return false;
+    }
+    statics <= 1
+}
+
+// How a text's iterations are grouped in which `schedule(static)` stands so often.
+pub fn grouping_of(statics: u32) -> Grouping
+    ensures { λ r. ⌜ r ≡ grouping-by statics ⌝ }
+{
+    if statics == 0 {
+        Grouping::Iterations
+    } else {
+        Grouping::Blocks
+    }
 }
 
 // A clause after others.
@@ -188,6 +224,7 @@ fn clause_at(s: &[u8], table: &mut Table, before: Directed) -> Directed
     let rank = before.rank;
     let threads = before.threads;
     let processors = before.processors;
+    let statics = before.statics;
     let word = pass(s, at, b"num_threads");
     if word <= s.len() {
         let n = threads_at(s, word);
@@ -196,6 +233,17 @@ fn clause_at(s: &[u8], table: &mut Table, before: Directed) -> Directed
             rank: ranked(rank, true, few(n.number)),
             threads: again(threads),
             processors: n.number,
+            statics,
+        };
+    }
+    let other = pass(s, at, b"schedule");
+    if other <= s.len() {
+        return Directed {
+            next: static_at(s, other),
+            rank,
+            threads,
+            processors,
+            statics: again(statics),
         };
     }
     let c = names_at(s, at, table, rank);
@@ -204,6 +252,7 @@ fn clause_at(s: &[u8], table: &mut Table, before: Directed) -> Directed
         rank: c.rank,
         threads,
         processors,
+        statics,
     }
 }
 
@@ -220,6 +269,7 @@ fn clauses(s: &[u8], table: &mut Table, before: Directed) -> Directed
             rank: before.rank,
             threads: before.threads,
             processors: before.processors,
+            statics: before.statics,
         };
     }
     if is_end(s, at) {
@@ -245,6 +295,7 @@ pub fn directive(s: &[u8], at: usize, table: &mut Table) -> Directed
         rank: 0,
         threads: 0,
         processors: 0,
+        statics: 0,
     };
     clauses(s, table, none)
 }

@@ -38,6 +38,7 @@ carried H C′ O′ st rp n j place depth os b late len code opened shallow stac
   cells-so-far = rp .cells-so-far;
   filled = rp .filled;
   processors = rp .processors;
+  grouping = rp .grouping;
   from = rp .from;
   count = rp .count;
   few = rp .few;

@@ -8,6 +8,8 @@ use borrow.Author.Tests.{le-leb, leb-true}
 use lib.Dec.{leb}
 use lib.ListN.{length, drop, replicate, length-append, replicate-append-replicate}
 use lib.IntN.{ℤ, pos}
+use Rattle.rules.specs.declared.Grouping.{Grouping}
+use Rattle.rules.specs.declared.Grouping.the-variants.{Iterations}
 use Rattle.syntax.specs.Bytes.{bytes, all, between}
 use Rattle.syntax.specs.Grammar.{number, Declared, one, array, Line, declare, close}
 use Rattle.syntax.specs.Known.{Entry, declaredSize, total, entries, cells, State, heading, after}
@@ -103,18 +105,19 @@ filled-more I t ds b h =
     ++ replicate (4096 - sym c i) (pos 0))
 
 -- a line before the statements leaves no code and no open ifs
-pub heading-code : (j : ℕ) (t : List Entry) (p : ℕ) → (codeOf (heading j t p) ≡ []) × (placesOf (heading j t p) ≡ [])
+pub heading-code : (j : ℕ) (t : List Entry) (p : ℕ) (γ : Grouping) → (codeOf (heading j t p γ) ≡ []) × (placesOf (heading j t p γ) ≡ [])
 unfolding codeOf codeLines codeOpens codeStmts places
-heading-code j t p = (refl, refl)
+heading-code j t p γ = (refl, refl)
 
 -- what a line before `do` leaves
-pub headed : (H : Held) (st : State) → Represents H st → st .stage < 4 → (T′ : List ℕ) → Keeps (H .table) T′ → (I′ : List ℤ) (n j c m p : ℕ) (t : List Entry)
+pub headed : (H : Held) (st : State) → Represents H st → st .stage < 4 → (T′ : List ℕ) → Keeps (H .table) T′ → (I′ : List ℤ) (n j c m p : ℕ) (δ γ : Grouping)
+    (t : List Entry)
     → Tabled T′ t → (j < 3 → Unclaimed T′ (length t)) → c ≡ cells t → I′ ≡ loaded t ++ replicate (4096 - cells t) (pos 0) → m ≡ p
-    → Represents (held (before-do n j c m) T′ I′ (H .code) (H .opens)) (heading j t p)
+    → δ ≡ γ → Represents (held (before-do n j c m δ) T′ I′ (H .code) (H .opens)) (heading j t p γ)
 unfolding words
-headed H st rp early T′ kp I′ n j c m p t table unclaimed cells-are filled processors =
+headed H st rp early T′ kp I′ n j c m p δ γ t table unclaimed cells-are filled processors grouping =
     let (v, w) = kp (rp .short) in
-    let (x, y) = heading-code j t p in
+    let (x, y) = heading-code j t p γ in
     record {
       stage = refl;
       table = table;
@@ -125,6 +128,7 @@ headed H st rp early T′ kp I′ n j c m p t table unclaimed cells-are filled p
       cells-so-far = cells-are;
       filled = filled;
       processors = processors;
+      grouping = grouping;
       from = refl;
       count = refl;
       few = omega arith;
@@ -144,7 +148,7 @@ module _ (k : ℕ) (s : List ℕ) (H : Held) (T′ : List ℕ) (a : ℕ) (g : Go
   leaves q = held q T′ (H .initial) (H .code) (H .opens)
 
   abbrev progress : Progress
-  progress = before-do n 1 (r .cells) 0
+  progress = before-do n 1 (r .cells) 0 Iterations
 
   module _ (st : State) (rp : Represents H st) (fo : may-follow (st .stage) 1 ≡ true) where
     abbrev t : List Entry
@@ -175,10 +179,11 @@ module _ (k : ℕ) (s : List ℕ) (H : Held) (T′ : List ℕ) (a : ℕ) (g : Go
         let sum = e .cells z ∙ ap (λ (c : ℕ). c + total declaredSize (d ∷ ds)) c in
         let m = length-append t (entries (cells t) (d ∷ ds)) in
         let l = entries-length (cells t) (d ∷ ds) in
-        headed H st rp (omega (arith, early)) T′ kp (H .initial) n 1 (r .cells) 0 0 u
+        headed H st rp (omega (arith, early)) T′ kp (H .initial) n 1 (r .cells) 0 0 Iterations Iterations u
         (subst (λ (c : ℕ). Tabled T′ (t ++ entries c (d ∷ ds))) c (e .table z))
         (λ _. subst (Unclaimed T′) (omega (arith, m, l)) (e .unclaimed z (rp .unclaimed (omega (arith, early)))))
         (sum ∙ sym (cells-more t (d ∷ ds))) (filled-more (H .initial) t (d ∷ ds) (omega (arith, sum, few)) (rp .filled)) refl
+        refl
 
     concludes : (f : ℕ) → 3 * length s + 4 ≤ f → Concludes (numberOf st) good (whole (readDeclare peek-in skip-in f) s) n
     concludes f b =

@@ -5,13 +5,14 @@ use mathlib.Core.List.{List, [], _∷_, _++_, map}
 use mathlib.Core.Option.{Option, none, some}
 use Prim.Native.Nat.{ℕ, _+_, _-_, _*_, _≤_, _<_}
 use native.Mathlib.Omega.{arith}
-use borrow.Author.Tests.{eq-eqb, ne-eqb, eqb-true, le-leb, leb-true}
+use borrow.Author.Tests.{eqb-true, le-leb, leb-true}
 use lib.Dec.{leb, eqb}
 use lib.ListN.{length, drop, replicate}
 use lib.IntN.{ℤ, pos}
+use Rattle.rules.specs.declared.Grouping.{Grouping}
 use Rattle.syntax.specs.Bytes.{bytes, all, choose}
 use Rattle.syntax.specs.Grammar.{number, Clause, Line, direct}
-use Rattle.syntax.specs.Known.{Entry, classify, threads-in, processors-by, State, after}
+use Rattle.syntax.specs.Known.{Entry, classify, threads-in, processors-by, statics-in, grouping-by, State, after}
 use Rattle.syntax.specs.Conditions.{digits, inLine, rightly, small, clauseNames, names, limits, fits, may-follow}
 use Rattle.syntax.specs.Text.{initial, loaded}
 use Rattle.syntax.specs.Reader.{Parsed, broken, done, Reader, next, kind, finish, expects, wants, readClauses, readOpening, peek-in, skip-in}
@@ -24,7 +25,7 @@ use Rattle.names.specs.Table.{Tabled}
 use Rattle.heading.specs.Lists.{order, Keeps}
 use Rattle.clauses.specs.Directive.{frees, few, Clausal, none-before, Directive}
 use Rattle.clauses.specs.declared.Directed.{Directed}
-use Rattle.clauses.proofs.ClassesGiven.{frees-are, classes-are, unmarked, counted-once, last-once}
+use Rattle.clauses.proofs.ClassesGiven.{frees-are, classes-are, unmarked, counted-once, counted-most, counted-grouping, last-once}
 use Rattle.heading.proofs.Lists.{good-order}
 use Rattle.lines.specs.declared.Progress.{Progress}
 use Rattle.lines.specs.Progress.{Held, held, before-do, Represents, numberOf, numbered, whole, Concludes, Numbers}
@@ -71,12 +72,13 @@ loaded-classify cs (e ∷ t) = λ i. kept (e .given) i ++ loaded-classify cs t i
 
 module _ (k : ℕ) (s : List ℕ) (H : Held) (T′ : List ℕ) (x y a : ℕ) (gx : Goes Any s 0 (passes (bytes "!$omp")) x)
     (gy : Goes Any s x (passes (bytes "parallel")) y)
-    (g : Goes Any s y (passes (bytes "do")) a) (r : Directed) (h : Directive (H .table) s a T′ r) (kp : Keeps (H .table) T′) (n : ℕ) where
+    (g : Goes Any s y (passes (bytes "do")) a) (r : Directed) (h : Directive (H .table) s a T′ r) (kp : Keeps (H .table) T′) (n : ℕ) (γ : Grouping)
+    (eg : γ ≡ grouping-by (r .statics)) where
   abbrev leaves : Progress → Held
   leaves q = held q T′ (H .initial) (H .code) (H .opens)
 
   abbrev progress : Progress
-  progress = before-do n 3 (H .progress .cells) (r .processors)
+  progress = before-do n 3 (H .progress .cells) (r .processors) γ
 
   module _ (st : State) (rp : Represents H st) (fo : may-follow (st .stage) 3 ≡ true) where
     abbrev t : List Entry
@@ -98,9 +100,15 @@ module _ (k : ℕ) (s : List ℕ) (H : Held) (T′ : List ℕ) (x y a : ℕ) (gx
     reads : (f : ℕ) → 3 * length s + 4 ≤ f → Goes Found s a (readClauses peek-in skip-in f) (r .next)
     reads f b = h t [] (unmarked (H .table) t (rp .table) (rp .unclaimed early)) f (omega arith)
 
-    -- by how often `num_threads` stands
-    once : (cs : List Clause) → Found cs → eqb (r .threads) 1 ≡ fits (st .opens) (direct cs)
-    once cs e = ap (λ (m : ℕ). eqb m 1) (e .threads-are) ∙ counted-once (threads-in cs)
+    -- by how often `num_threads` and `schedule(static)` stand
+    abbrev rightly-so : Bool
+    rightly-so = eqb (r .threads) 1 && leb (r .statics) 1
+
+    once : (cs : List Clause) → Found cs → rightly-so ≡ fits (st .opens) (direct cs)
+    once cs e =
+        let a = ap (λ (m : ℕ). eqb m 1) (e .threads-are) ∙ counted-once (length (threads-in cs)) in
+        let b = ap (λ (m : ℕ). leb m 1) (e .statics-are) ∙ counted-most (statics-in cs) in
+        λ i. a i && b i
 
     -- the words before the clauses
     opened : (f : ℕ) → (a ≤ length s → Concludes (numberOf st) good (ending (readClauses peek-in skip-in f) direct (drop a s)) n) → (length s < a → n ≡ 2)
@@ -115,9 +123,9 @@ module _ (k : ℕ) (s : List ℕ) (H : Held) (T′ : List ℕ) (x y a : ℕ) (gx
         (λ j. lost (omega (arith, g .lost j))) refl)
         (λ i. lost (omega (arith, g .lost (omega (arith, gy .lost i))))) refl)
 
-    module _ (z : r .threads ≡ 1) (hn : Numbers s (r .next) (r .rank) n) where
+    module _ (z : rightly-so ≡ true) (hn : Numbers s (r .next) (r .rank) n) where
       fitting : (cs : List Clause) → Found cs → fits (st .opens) (direct cs) ≡ true
-      fitting cs e = sym (once cs e) ∙ eq-eqb (r .threads) 1 z
+      fitting cs e = sym (once cs e) ∙ z
 
       rank-is : (cs : List Clause) → Found cs → numbered (r .rank) ≡ numberOf st (direct cs)
       rank-is cs e =
@@ -130,13 +138,14 @@ module _ (k : ℕ) (s : List ℕ) (H : Held) (T′ : List ℕ) (x y a : ℕ) (gx
       represents cs e zero-rank =
           let o : r .rank ≡ order (frees t [] (clauseNames cs)) (all few (threads-in cs)) = e .rank-is ∙ omega arith in
           let (free-all, in-limits) = good-order (frees t [] (clauseNames cs)) (all few (threads-in cs)) (sym o ∙ zero-rank) in
-          let one = eqb-true (length (threads-in cs)) 1 (fitting cs e) in
+          let one = eqb-true (length (threads-in cs)) 1 (both-true (eqb (length (threads-in cs)) 1) _ (fitting cs e) .0) in
           headed H st rp (omega (arith, early)) T′ kp (H .initial) n 3 (H .progress .cells) (r .processors) (processors-by (threads-in cs))
-          (map (classify cs) t)
+          γ (grouping-by (statics-in cs)) (map (classify cs) t)
           (subst (Tabled T′) (classes-are (H .table) t cs (rp .table) (rp .unclaimed early) free-all) (e .marked .table))
           (λ m. absurd (omega arith)) (rp .cells-so-far ∙ sym (classify-cells cs t))
           (rp .filled ∙ (λ i. sym (loaded-classify cs t) i ++ replicate (4096 - sym (classify-cells cs t) i) (pos 0)))
           (omega (arith, e .processors-are, last-once (threads-in cs) one, most (threads-in cs) in-limits))
+          (eg ∙ ap grouping-by (e .statics-are) ∙ counted-grouping (statics-in cs))
         where
           most : (ps : List (List ℕ)) → all few ps ≡ true → processors-by ps ≤ 8
           most [] h = omega arith
@@ -149,12 +158,12 @@ module _ (k : ℕ) (s : List ℕ) (H : Held) (T′ : List ℕ) (x y a : ℕ) (gx
           (readClauses peek-in skip-in f (drop a s)) (reads f b .lands m))
           (λ i. hn .beyond (omega (arith, reads f b .lost i)))
 
-    module _ (z : r .threads ≡ 1 → ⊥) (two : n ≡ 2) where
+    module _ (z : rightly-so ≡ false) (two : n ≡ 2) where
       broken-form : (cs : List Clause) → Found cs → numberOf st (direct cs) ≡ 2
       unfolding numberOf
       broken-form cs e = ap (λ (c : Bool). choose (not c) (λ _. 2) (λ _. choose (not (names st (direct cs))) (λ _. 3)
           (λ _. choose (not (limits st (direct cs))) (λ _. 4) (λ _. 0))))
-          (sym (once cs e) ∙ ne-eqb (r .threads) 1 z)
+          (sym (once cs e) ∙ z)
 
       ends : (p : Parsed (List ℕ) (List Clause)) → Lands Found s p (r .next)
           → Concludes (numberOf st) good (next p (λ cs v. next (finish peek-in skip-in v) (λ _. done (direct cs)))) n
@@ -169,11 +178,13 @@ module _ (k : ℕ) (s : List ℕ) (H : Held) (T′ : List ℕ) (x y a : ℕ) (gx
       refuses : (f : ℕ) → 3 * length s + 4 ≤ f → Concludes (numberOf st) good (whole (readOpening peek-in skip-in f) s) n
       refuses f b = opened f (λ m. ends (readClauses peek-in skip-in f (drop a s)) (reads f b .lands m)) (λ i. two)
 
-  -- `num_threads` stands once, or not
-  pub direct-line : r .threads ≡ 1 → Numbers s (r .next) (r .rank) n → (q : Progress) → q ≡ progress → Takes (readOpening peek-in skip-in) 3 s k H (leaves q)
+  -- the clauses that may stand so often do, or not
+  pub direct-line : eqb (r .threads) 1 && leb (r .statics) 1 ≡ true → Numbers s (r .next) (r .rank) n → (q : Progress) → q ≡ progress
+      → Takes (readOpening peek-in skip-in) 3 s k H (leaves q)
   direct-line z hn q e =
       subst (λ (x : Progress). Takes (readOpening peek-in skip-in) 3 s k H (leaves x)) (sym e) (λ st rp sane fo. concludes st rp fo z hn)
 
-  pub direct-broken : (r .threads ≡ 1 → ⊥) → n ≡ 2 → (q : Progress) → q ≡ progress → Takes (readOpening peek-in skip-in) 3 s k H (leaves q)
+  pub direct-broken : eqb (r .threads) 1 && leb (r .statics) 1 ≡ false → n ≡ 2 → (q : Progress) → q ≡ progress
+      → Takes (readOpening peek-in skip-in) 3 s k H (leaves q)
   direct-broken z two q e =
       subst (λ (x : Progress). Takes (readOpening peek-in skip-in) 3 s k H (leaves x)) (sym e) (λ st rp sane fo. refuses st rp fo z two)

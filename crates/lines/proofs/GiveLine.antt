@@ -9,6 +9,7 @@ use borrow.Author.Tests.{eqb-true}
 use lib.ListN.{length, drop, replicate, length-map}
 use lib.IntN.{ℤ, pos}
 use lib.Seq.{sets}
+use Rattle.rules.specs.declared.Grouping.the-variants.{Iterations}
 use Rattle.syntax.specs.Bytes.{bytes, all}
 use Rattle.syntax.specs.Grammar.{Item, item, Line, give}
 use Rattle.syntax.specs.Known.{Entry, known, find, give-to, copies, values, total, cells, State, after}
@@ -63,7 +64,7 @@ module _ (k : ℕ) (s : List ℕ) (H : Held) (T′ : List ℕ) (I′ : List ℤ)
   leaves q = held q T′ I′ (H .code) (H .opens)
 
   abbrev progress : Progress
-  progress = before-do n 2 (H .progress .cells) 0
+  progress = before-do n 2 (H .progress .cells) 0 Iterations
 
   module _ (st : State) (rp : Represents H st) (sane : Sane st) (fo : may-follow (st .stage) 2 ≡ true) where
     abbrev t : List Entry
@@ -108,9 +109,9 @@ module _ (k : ℕ) (s : List ℕ) (H : Held) (T′ : List ℕ) (I′ : List ℤ)
     unfolding after
     represents x i is e z =
         let vs = values (i ∷ is) in
-        headed H st rp (omega (arith, early)) T′ kp I′ n 2 (H .progress .cells) 0 0 (map (give-to x vs) t) (e .table z)
+        headed H st rp (omega (arith, early)) T′ kp I′ n 2 (H .progress .cells) 0 0 Iterations Iterations (map (give-to x vs) t) (e .table z)
         (λ _. subst (Unclaimed T′) (sym (length-map t (give-to x vs))) (e .unclaimed z (rp .unclaimed (omega (arith, early)))))
-        (rp .cells-so-far ∙ sym (give-cells x vs t)) (filled-so x i is e z) refl
+        (rp .cells-so-far ∙ sym (give-cells x vs t)) (filled-so x i is e z) refl refl
 
     -- the items are some, and none has 0 copies
     Full : List ℕ × List Item → Type 0

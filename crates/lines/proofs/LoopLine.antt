@@ -51,6 +51,7 @@ module _ (k : ℕ) (s : List ℕ) (H : Held) (T′ : List ℕ) (a : ℕ) (g : Go
     stage = 4;
     cells = H .progress .cells;
     processors = H .progress .processors;
+    grouping = H .progress .grouping;
     from = m;
     count = r .count;
     place = 0;
@@ -83,6 +84,7 @@ module _ (k : ℕ) (s : List ℕ) (H : Held) (T′ : List ℕ) (a : ℕ) (g : Go
           cells-so-far = rp .cells-so-far;
           filled = rp .filled;
           processors = rp .processors;
+          grouping = rp .grouping;
           from = em ∙ l .from z;
           count = l .count z;
           few = l .few z;

@@ -6,6 +6,7 @@ use Prim.Native.Nat.{ℕ, zero, suc, _+_, _-_, _*_, _≤_, _<_}
 use lib.Dec.{eqb}
 use lib.ListN.{length, getD, take, drop, replicate}
 use lib.IntN.{ℤ, pos}
+use Rattle.rules.specs.declared.Grouping.{Grouping}
 use Rattle.syntax.specs.Bytes.{choose}
 use Rattle.syntax.specs.Grammar.{Line}
 use Rattle.syntax.specs.Known.{Open, State, cells}
@@ -35,14 +36,32 @@ abbrev pub held : Progress → List ℕ → List ℤ → List ℕ → List ℕ �
 held p T I C O = record { progress = p; table = T; initial = I; code = C; opens = O }
 
 -- how far a text was read by a line before `do`
-abbrev pub before-do : ℕ → ℕ → ℕ → ℕ → Progress
-before-do number stage cells processors =
-    record { number = number; stage = stage; cells = cells; processors = processors; from = pos 0; count = 0; place = 0; depth = 0 }
+abbrev pub before-do : ℕ → ℕ → ℕ → ℕ → Grouping → Progress
+before-do number stage cells processors grouping = record {
+  number = number;
+  stage = stage;
+  cells = cells;
+  processors = processors;
+  grouping = grouping;
+  from = pos 0;
+  count = 0;
+  place = 0;
+  depth = 0;
+}
 
 -- and by a line after it
 abbrev pub moved : Progress → ℕ → ℕ → ℕ → ℕ → Progress
-moved p number stage place depth =
-    record { number = number; stage = stage; cells = p .cells; processors = p .processors; from = p .from; count = p .count; place = place; depth = depth }
+moved p number stage place depth = record {
+  number = number;
+  stage = stage;
+  cells = p .cells;
+  processors = p .processors;
+  grouping = p .grouping;
+  from = p .from;
+  count = p .count;
+  place = place;
+  depth = depth;
+}
 
 -- ---- what was read
 
@@ -66,6 +85,7 @@ pub record Represents (H : Held) (s : State) : Type 0 where
   pub cells-so-far : H .progress .cells ≡ cells (s .table)
   pub filled : H .initial ≡ loaded (s .table) ++ replicate (4096 - cells (s .table)) (pos 0)
   pub processors : H .progress .processors ≡ s .processors
+  pub grouping : H .progress .grouping ≡ s .grouping
   pub from : H .progress .from ≡ s .from
   pub count : H .progress .count ≡ s .count
   pub few : H .progress .count ≤ 65535

@@ -15,6 +15,8 @@ ghost use Rattle.lines.specs.Progress.{held, before-do, moved, Numbers, 
 use assignments::assignment;
 use bounds::do_line;
 use clauses::directive;
+use clauses::grouping_of;
+use clauses::stands_rightly;
 use code::JUMP;
 use conditions::condition;
 use declarations::integers;
@@ -22,15 +24,17 @@ use lexer::is_end;
 use lexer::pass;
 use names::Table;
 use parts::Got;
+use rules::Grouping;
 use values::data_values;
 
 // How far a text was read: 0 or the number of its first bad line; which of 1 to 7 stood last; how many cells, processors and iterations there are,
-// and the first value of the loop's variable; how many instructions are emitted, and how many ifs are open.
+// how iterations are grouped, and the first value of the loop's variable; how many instructions are emitted, and how many ifs are open.
 pub struct Progress {
     pub number: u32,
     pub stage: u32,
     pub cells: u32,
     pub processors: u32,
+    pub grouping: Grouping,
     pub from: i32,
     pub count: u64,
     pub place: usize,
@@ -54,14 +58,21 @@ fn number_of(s: &[u8], next: usize, rank: u32) -> u32
 }
 
 // How far a text was read by a line before `do`.
-pub fn before_do(number: u32, stage: u32, cells: u32, processors: u32) -> Progress
-    ensures { λ r. ⌜ r ≡ before-do number stage cells processors ⌝ }
+pub fn before_do(
+    number: u32,
+    stage: u32,
+    cells: u32,
+    processors: u32,
+    grouping: Grouping,
+) -> Progress
+    ensures { λ r. ⌜ r ≡ before-do number stage cells processors grouping ⌝ }
 {
     Progress {
         number,
         stage,
         cells,
         processors,
+        grouping,
         from: 0,
         count: 0,
         place: 0,
@@ -78,7 +89,13 @@ pub fn integer_line(s: &[u8], p: Progress, table: &mut Table) -> Progress
 {
     let a = pass(s, 0, b"integer");
     let r = integers(s, a, table, p.cells, 0);
-    before_do(number_of(s, r.next, r.rank), 1, r.cells, 0)
+    before_do(
+        number_of(s, r.next, r.rank),
+        1,
+        r.cells,
+        0,
+        Grouping::Iterations,
+    )
 }
 
 // ---- 2. data
@@ -90,10 +107,16 @@ pub fn data_line(s: &[u8], p: Progress, table: &mut Table, initial: &mut [i32]) 
 {
     let a = pass(s, 0, b"data");
     let r = data_values(s, a, table, initial);
-    before_do(number_of(s, r.next, r.rank), 2, p.cells, 0)
+    before_do(
+        number_of(s, r.next, r.rank),
+        2,
+        p.cells,
+        0,
+        Grouping::Iterations,
+    )
 }
 
-// ---- 3. the directive, with `num_threads` exactly once
+// ---- 3. the directive, with `num_threads` exactly once and `schedule(static)` at most once
 
 pub fn directive_line(s: &[u8], p: Progress, table: &mut Table) -> Progress
     requires { ⌜ (length (now s) ≤ 2048) × Standing (now table) ⌝ }
@@ -104,10 +127,17 @@ pub fn directive_line(s: &[u8], p: Progress, table: &mut Table) -> Progress
     let b = pass(s, a, b"parallel");
     let c = pass(s, b, b"do");
     let r = directive(s, c, table);
-    if r.threads != 1 {
-        return before_do(2, 3, p.cells, r.processors);
+    let grouping = grouping_of(r.statics);
+    if stands_rightly(r.threads, r.statics) {
+        return before_do(
+            number_of(s, r.next, r.rank),
+            3,
+            p.cells,
+            r.processors,
+            grouping,
+        );
     }
-    before_do(number_of(s, r.next, r.rank), 3, p.cells, r.processors)
+    before_do(2, 3, p.cells, r.processors, grouping)
 }
 
 // ---- 4. do
@@ -121,11 +151,13 @@ pub fn loop_line(s: &[u8], p: Progress, table: &mut Table) -> Progress
     let r = do_line(s, a, table);
     let cells = p.cells;
     let processors = p.processors;
+    let grouping = p.grouping;
     Progress {
         number: number_of(s, r.next, r.rank),
         stage: 4,
         cells,
         processors,
+        grouping,
         from: r.from,
         count: r.count,
         place: 0,
@@ -141,6 +173,7 @@ pub fn onward(p: Progress, number: u32, stage: u32, place: usize, depth: usize) 
 {
     let cells = p.cells;
     let processors = p.processors;
+    let grouping = p.grouping;
     let from = p.from;
     let count = p.count;
     Progress {
@@ -148,6 +181,7 @@ pub fn onward(p: Progress, number: u32, stage: u32, place: usize, depth: usize) 
         stage,
         cells,
         processors,
+        grouping,
         from,
         count,
         place,

@@ -1,28 +1,31 @@
 -- What a run that came to its end leaves, word by word.
-use mathlib.Core.Path.{_∙_}
+use mathlib.Core.Path.{_≡_, _∙_, subst}
 use mathlib.Core.Logic.{inl, inr, _↔_}
 use mathlib.Core.List.{List}
 use Prim.Native.Nat.{ℕ, _<_}
 use native.Mathlib.Omega.{arith}
 use lib.ListN.{getD}
 use lib.IntN.{ℤ}
+use Rattle.int32.specs.Integers.{value}
 use Rattle.rules.specs.Loop.{Loop, Partition}
-use Rattle.rules.specs.Blocks.{singles}
+use Rattle.rules.specs.Log.{written}
+use Rattle.rules.specs.Merge.{block, total}
 use Rattle.rules.specs.Steps.{State, Stopped}
 use Rattle.shadow.proofs.Shows.{Shows, tables-right}
 use Rattle.shadow.specs.Tables.{table}
+use Rattle.tables.specs.Layout.{row-at, own-at, sum-word}
+use Rattle.findings.specs.Findings.{private-of}
 use Rattle.findings.proofs.Logged.{logged-pairs, logged-cells, logged-marks, logged-obstacle}
 use Rattle.trial.specs.declared.Worker.{Worker}
 use Rattle.trial.specs.declared.Setting.{Setting}
-use Rattle.trial.specs.Standing.{dealt}
-use Rattle.trial.specs.Running.{nobody, Run, AllOver}
+use Rattle.trial.specs.Running.{dealt, nobody, Run, AllOver}
 use Rattle.outcome.specs.Leaves.{Leaves}
 use Rattle.trial.proofs.Turns.{run-turn, turn-end, turn-fault}
 use Rattle.outcome.proofs.ReadingOff.{is-fault}
 
 module _ (code : List ℕ) (g : Setting) (l : Loop) (M : List ℤ) (W : List ℕ) (ws : List Worker) (s : State) (r : Run code g l M W ws s) (o : AllOver g ws) where
   abbrev δ : Partition
-  δ = dealt l (g .processors)
+  δ = dealt g
 
   shows : Shows l δ (s .log) (table l δ (s .log))
   shows = let h = r .running .standing in tables-right l δ (h .suits .proper) (s .log) (h .orderly .inside) (h .orderly .ascending)
@@ -46,18 +49,20 @@ module _ (code : List ℕ) (g : Setting) (l : Loop) (M : List ℤ) (W : List ℕ
           )
 
   pub run-leaves : Leaves code g l s M W ws
-  unfolding singles
   run-leaves =
       let h = r .running .standing in
       let rows = h .words .rows in
+      let e = h .suits .processors in
       record {
         cells = h .cells;
-        private = λ c q b d. let w = rows c b .own q d in rw (w .wrote, w .value) (shows .block-last c q);
-        sums = λ c q b d. rows c b .own q d .sum ∙ shows .sums c q;
-        marked = λ c b. logged-marks l δ (s .log) W (h .words) shows c b;
+        private = λ c q b d. subst (λ (k : ℕ). private-of W (own-at (row-at k c) q) ≡ written c (block δ q (s .log))) e
+            (let w = rows c b .own q (omega (arith, d, e)) in rw (w .wrote, w .value) (shows .block-last c q));
+        sums = λ c q b d. subst (λ (k : ℕ). value (sum-word W (own-at (row-at k c) q)) ≡ total l c (block δ q (s .log))) e
+            (rows c b .own q (omega (arith, d, e)) .sum ∙ shows .sums c q);
+        marked = λ c b. rw e at (logged-marks l δ (s .log) W (h .words) shows c b);
         records = r .crew;
         pair-count = logged-pairs l δ (s .log) W (h .words) shows;
         cell-count = logged-cells l δ (s .log) W (h .words) shows;
         faults = stops;
-        obstacles = λ c b. logged-obstacle l δ (s .log) W (h .words) shows c b;
+        obstacles = λ c b. rw e at (logged-obstacle l δ (s .log) W (h .words) shows c b);
       }

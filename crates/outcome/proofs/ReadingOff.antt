@@ -13,7 +13,6 @@ use Rattle.int32.specs.Integers.{value}
 use Rattle.rules.specs.Cells.{cellOf, listed}
 use Rattle.rules.proofs.CellsLaws.{cell-listed, listed-same, listed-cells}
 use Rattle.rules.specs.Loop.{Act, fault, Loop, Partition}
-use Rattle.rules.specs.Blocks.{singles}
 use Rattle.rules.specs.Log.{only}
 use Rattle.rules.specs.Obstacles.{ObstacleAt, Obstructed}
 use Rattle.rules.specs.Steps.{State, Faulty, IsFault}
@@ -25,8 +24,8 @@ use Rattle.tables.proofs.Held.{rows-apart}
 use Rattle.findings.proofs.Logged.{logged-obstacle, logged-merged, logged-entry}
 use Rattle.trial.specs.declared.Worker.{Worker}
 use Rattle.trial.specs.declared.Setting.{Setting}
-use Rattle.trial.specs.Standing.{dealt, Standing, Kept}
-use Rattle.trial.specs.Running.{nobody, Run, AllOver}
+use Rattle.trial.specs.Standing.{Standing, Kept}
+use Rattle.trial.specs.Running.{dealt, nobody, Run, AllOver}
 use Rattle.outcome.specs.ReadOff.{Fails}
 use Rattle.trial.proofs.Turns.{run-turn, turn-end, turn-fault}
 use Rattle.trial.proofs.StandingLaws.{standing-size}
@@ -68,17 +67,13 @@ set-all f M₀ c M h e g k =
 abbrev pub blocked-at : List ℕ → ℕ → ℕ → Bool
 blocked-at W k c = blocked-of W (row-at k c)
 
-module _ (k : ℕ) (l : Loop) (M : List ℤ) (W : List ℕ) (s : State) (h : Standing k l M W s) where
-  abbrev δ : Partition
-  δ = dealt l k
-
+module _ (k : ℕ) (l : Loop) (δ : Partition) (M : List ℤ) (W : List ℕ) (s : State) (h : Standing k l δ M W s) where
   shows : Shows l δ (s .log) (table l δ (s .log))
   shows = tables-right l δ (h .suits .proper) (s .log) (h .orderly .inside) (h .orderly .ascending)
 
   -- a cell's obstacle
   pub standing-obstacle : (c : ℕ) → c < length M → ObstacleAt (l .class c) (λ i. only (δ .group) i (s .log)) c ↔ (blocked-at W k c ≡ true)
-  unfolding singles
-  standing-obstacle c b = logged-obstacle l δ (s .log) W (h .words) shows c (omega (arith, standing-size k l M W s h))
+  standing-obstacle c b = rw (h .suits .processors) at (logged-obstacle l δ (s .log) W (h .words) shows c (omega (arith, standing-size k l δ M W s h)))
 
   pub standing-obstructed : (c : ℕ) → c < length M → blocked-at W k c ≡ true → Obstructed l (δ .group) (s .log)
   standing-obstructed c b e = (c, standing-obstacle c b .1 e)
@@ -87,31 +82,31 @@ module _ (k : ℕ) (l : Loop) (M : List ℤ) (W : List ℕ) (s : State) (h : Sta
   standing-free f o =
       let x = obstructed-right l δ (s .log) (table l δ (s .log)) (h .orderly .inside) shows in
       let (c, b, y) = x .0 o in
-      let d : c < length M = omega (arith, b, standing-size k l M W s h) in
+      let d : c < length M = omega (arith, b, standing-size k l δ M W s h) in
       let t = standing-obstacle c d .0 (shows .obstacle (l .class c) c .0 y) in
       let z : _≡_ {A = ℕ} 0 1 = cc (f c d, t) in
       omega arith
 
   -- the merge of a cell
   pub standing-merged : (c : ℕ) → c < length M → findings.merged W (row-at k c) k (cellOf M c) ≡ merge.merged l δ s c
-  unfolding singles
   standing-merged c b =
-      let lt : c < l .size = omega (arith, standing-size k l M W s h) in
+      let lt : c < l .size = omega (arith, standing-size k l δ M W s h) in
       ap (findings.merged W (row-at k c) k) (ap (λ (m : List ℤ). cellOf m c) (h .cells) ∙ cell-listed (l .size) (s .cells) c lt)
+      ∙ ap (λ (q : ℕ). findings.merged W (row-at q c) q (s .cells c)) (sym (h .suits .processors))
       ∙ logged-merged l δ (h .suits .plus) (h .suits .nought) (h .suits .proper) s W (h .words) shows c lt
 
-  pub standing-kept : Kept k l M W
-  standing-kept = record { suits = h .suits; size = standing-size k l M W s h; log = s .log; words = h .words }
+  pub standing-kept : Kept k l δ M W
+  standing-kept = record { suits = h .suits; size = standing-size k l δ M W s h; log = s .log; words = h .words }
 
 -- the values at entry
-module _ (k : ℕ) (l : Loop) (M : List ℤ) (W : List ℕ) (h : Kept k l M W) where
+module _ (k : ℕ) (l : Loop) (δ : Partition) (M : List ℤ) (W : List ℕ) (h : Kept k l δ M W) where
   pub kept-room : (c : ℕ) → c < length M → row-at k c < length W
-  unfolding singles
-  kept-room c b = omega (arith, h .words .size, rows-apart k c (l .size) (omega (arith, h .size)))
+  kept-room c b =
+      let w : row-at k (l .size) ≤ length W = rw (h .suits .processors) at (h .words .size) in
+      omega (arith, w, rows-apart k c (l .size) (omega (arith, h .size)))
 
   pub kept-entry : (c : ℕ) → c < length M → value (entry-word W (row-at k c)) ≡ l .entry c
-  unfolding singles
-  kept-entry c b = logged-entry l (dealt l k) (h .log) W (h .words) c (omega (arith, h .size))
+  kept-entry c b = rw (h .suits .processors) at (logged-entry l δ (h .log) W (h .words) c (omega (arith, h .size)))
 
 -- ---- faults
 
@@ -120,13 +115,13 @@ is-fault a n t e = rw e tt
 
 -- after the end, a fault in the records is a fault met
 pub fails-right : (code : List ℕ) (g : Setting) (l : Loop) (M : List ℤ) (W : List ℕ) (ws : List Worker) (s : State) → Run code g l M W ws s
-    → AllOver g ws → (r : Bool) → Fails (g .processors) ws r → Faulty (dealt l (g .processors)) s ↔ (r ≡ true)
-unfolding singles
+    → AllOver g ws → (r : Bool) → Fails (g .processors) ws r → Faulty (dealt g) s ↔ (r ≡ true)
 fails-right code g l M W ws s u o r f = (to r refl, from)
   where
-    to : (b : Bool) → r ≡ b → Faulty (dealt l (g .processors)) s → r ≡ true
+    to : (b : Bool) → r ≡ b → Faulty (dealt g) s → r ≡ true
     to true e x = e
-    to false e (q, b, (lt, _)) =
+    to false e (q, d, (lt, _)) =
+        let b : q < g .processors = omega (arith, d, u .running .standing .suits .processors) in
         let t = run-turn code g l M W ws s q u b in
         let z = f .none e q b in
         absurd (elim (o q b) [
@@ -134,13 +129,13 @@ fails-right code g l M W ws s u o r f = (to r refl, from)
           | inr y ↦ omega (arith, turn-end code g l M W s q (getD ws q nobody) t, t .held .at)
         ])
 
-    from : r ≡ true → Faulty (dealt l (g .processors)) s
+    from : r ≡ true → Faulty (dealt g) s
     from e =
         let (q, b, y) = f .some e in
         let t = run-turn code g l M W ws s q u b in
         let lt = u .halted q b y in (
           q,
-          b,
+          omega (arith, b, u .running .standing .suits .processors),
           (
             lt,
             is-fault (s .places q .act) (getD ws q nobody .fault) (getD ws q nobody .line)

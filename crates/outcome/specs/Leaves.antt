@@ -19,21 +19,20 @@ use Rattle.tables.specs.Layout.{row-at, own-at, pairs-word, cells-word, sum-wor
 use Rattle.findings.specs.Findings.{marks-of, blocked-of, private-of}
 use Rattle.trial.specs.declared.Worker.{Worker}
 use Rattle.trial.specs.declared.Setting.{Setting}
-use Rattle.trial.specs.Standing.{dealt}
-use Rattle.trial.specs.Running.{Held, nobody}
+use Rattle.trial.specs.Running.{dealt, Held, nobody}
 
 -- of a state over k processors: M the cells, W the words, ws the records
 pub record Leaves (code : List ℕ) (g : Setting) (l : Loop) (s : State) (M : List ℤ) (W : List ℕ) (ws : List Worker) : Type 0 where
   pub cells : M ≡ listed (l .size) (s .cells)
   -- what each processor wrote last, and what it added
   pub private : (c q : ℕ) → c < l .size → q < g .processors
-      → private-of W (own-at (row-at (g .processors) c) q) ≡ written c (block (dealt l (g .processors)) q (s .log))
+      → private-of W (own-at (row-at (g .processors) c) q) ≡ written c (block (dealt g) q (s .log))
   pub sums : (c q : ℕ) → c < l .size → q < g .processors
-      → value (sum-word W (own-at (row-at (g .processors) c) q)) ≡ total l c (block (dealt l (g .processors)) q (s .log))
-  pub marked : (c : ℕ) → c < l .size → marks-of W (row-at (g .processors) c) ≡ marks (dealt l (g .processors) .group) c (s .log)
+      → value (sum-word W (own-at (row-at (g .processors) c) q)) ≡ total l c (block (dealt g) q (s .log))
+  pub marked : (c : ℕ) → c < l .size → marks-of W (row-at (g .processors) c) ≡ marks (dealt g .group) c (s .log)
   pub records : (q : ℕ) → q < g .processors → Held code g l (getD ws q nobody) (s .places q)
   pub pair-count : pairs-word W ≡ pairs l (s .log)
   pub cell-count : cells-word W ≡ written-cells l (s .log)
-  pub faults : (q : ℕ) → q < g .processors → Stopped (dealt l (g .processors)) s q ↔ (0 < getD ws q nobody .fault)
+  pub faults : (q : ℕ) → q < g .processors → Stopped (dealt g) s q ↔ (0 < getD ws q nobody .fault)
   pub obstacles : (c : ℕ) → c < l .size
-      → ObstacleAt (l .class c) (λ i. only (dealt l (g .processors) .group) i (s .log)) c ↔ (blocked-of W (row-at (g .processors) c) ≡ true)
+      → ObstacleAt (l .class c) (λ i. only (dealt g .group) i (s .log)) c ↔ (blocked-of W (row-at (g .processors) c) ≡ true)

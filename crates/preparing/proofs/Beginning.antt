@@ -13,8 +13,9 @@ use Rattle.syntax.proofs.Sane.{accepted-sane}
 use Rattle.code.specs.Instr.{words}
 use Rattle.code.specs.Compile.{codeOf}
 use Rattle.tables.specs.Layout.{row-at}
-use Rattle.trial.specs.Standing.{dealt}
+use Rattle.trial.specs.Running.{dealt}
 use Rattle.trial.specs.Start.{Starts, CanTry}
+use Rattle.setup.specs.Settings.{settingOf}
 use Rattle.setup.proofs.Setting.{starts-by}
 use Rattle.preparing.specs.declared.Ready.{Ready}
 use Rattle.answers.specs.Answers.{needed, fitNumber, runNumber}
@@ -87,13 +88,16 @@ module _ (text : List ℕ) (r : Ready) (K C : List ℕ) (a : Accepted text r K C
       le-trans : {x y z : ℕ} → x ≤ y → y ≤ z → x ≤ z
       le-trans p q = omega arith
 
+  pub setting-is : r .setting ≡ settingOf s
+  setting-is = λ i. record { processors = pr .processors i; grouping = pr .grouping i; iterations = pr .iterations i; from = pr .from i }
+
   pub begins : Starts (take (r .end - 0) (drop 0 K)) (r .setting) (loopOf s M) M C w
   begins = starts-by text s (a .verdict) M sized C (pr .few-cells) (pr .classes) w enough (take (r .end - 0) (drop 0 K)) (r .setting)
-      (code-as text r K C a) (pr .processors) (pr .iterations) (pr .from)
+      (code-as text r K C a) setting-is
 
   pub can-try : CanTry (take (r .end - 0) (drop 0 K)) (r .setting) M C ps w
   can-try = (loopOf s M, begins, f .names)
 
-  pub as-dealt : dealt (loopOf s M) (r .setting .processors) ≡ partitionOf s
-  unfolding loopOf partitionOf
-  as-dealt = ap (λ (p : ℕ). dealt (loopOf s M) p) (pr .processors)
+  pub as-dealt : dealt (r .setting) ≡ partitionOf s
+  unfolding partitionOf
+  as-dealt = ap dealt setting-is

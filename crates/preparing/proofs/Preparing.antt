@@ -47,12 +47,14 @@ module _ (text : List ℕ) (d : Reading) (T : List ℕ) (I : List ℤ) (K : List
 
     pub prepared-fine : (r : Ready) (C₀ C : List ℕ) → length C₀ ≡ 4096 → Classifies T (d .progress .cells) C₀ C → r .number ≡ 0
         → r .cells ≡ d .progress .cells → r .setting .processors ≡ d .progress .processors
+        → r .setting .grouping ≡ d .progress .grouping
         → r .setting .iterations ≡ d .progress .count → r .setting .from ≡ d .progress .from → r .end ≡ 2 * d .progress .place → Prepared (read text) r K C
     unfolding Prepared
-    prepared-fine r C₀ C long cl en ec ep ei ef ee = subst (λ (v : Verdict). Prepared v r K C) (sym (f .verdict)) (record {
+    prepared-fine r C₀ C long cl en ec ep eg ei ef ee = subst (λ (v : Verdict). Prepared v r K C) (sym (f .verdict)) (record {
       number = en;
       cells-are = ec ∙ f .represents .cells-so-far;
       processors = ep ∙ f .represents .processors;
+      grouping = eg ∙ f .represents .grouping;
       iterations = ei ∙ f .represents .count;
       from = ef ∙ f .represents .from;
       short = omega (arith, ee, few-places);

@@ -16,6 +16,7 @@ pub record Prepares (s : State) (r : Ready) (K C : List ℕ) : Type 0 where
   pub number : r .number ≡ 0
   pub cells-are : r .cells ≡ cells (s .table)
   pub processors : r .setting .processors ≡ s .processors
+  pub grouping : r .setting .grouping ≡ s .grouping
   pub iterations : r .setting .iterations ≡ s .count
   pub from : r .setting .from ≡ s .from
   pub short : r .end ≤ 4096

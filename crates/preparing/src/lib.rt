@@ -4,6 +4,7 @@ ghost use lib.ListN.{length};
 ghost use Rattle.syntax.specs.Text.{read as readText};
 ghost use Rattle.code.specs.Compile.{codeWords};
 ghost use Rattle.preparing.specs.Prepared.{Prepared};
+use rules::Grouping;
 use trial::Setting;
 
 // What is made ready for a run: a refusal's number (0: none) and line, N, the setting, and where the code ends.
@@ -31,12 +32,14 @@ pub fn prepare(text: &[u8], code: &mut [u32], classes: &mut [u32]) -> Ready
             cells: 0,
             setting: Setting {
                 processors: 0,
+                grouping: Grouping::Iterations,
                 iterations: 0,
                 from: 0,
             },
             end: 0,
         };
     }
+    let grouping = p.grouping;
     setup::classes(&table, p.cells as usize, classes);
     Ready {
         number: 0,
@@ -44,6 +47,7 @@ pub fn prepare(text: &[u8], code: &mut [u32], classes: &mut [u32]) -> Ready
         cells: p.cells,
         setting: Setting {
             processors: p.processors,
+            grouping: grouping,
             iterations: p.count as u32,
             from: p.from,
         },

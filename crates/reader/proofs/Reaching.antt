@@ -8,6 +8,7 @@ use borrow.Author.Tests.{leb-true, leb-false}
 use lib.Dec.{leb}
 use lib.ListN.{length, getD, take, drop, length-take, length-replicate, getD-replicate}
 use lib.IntN.{ℤ, pos}
+use Rattle.rules.specs.declared.Grouping.the-variants.{Iterations}
 use Rattle.rules.specs.Cells.{listed}
 use Rattle.syntax.specs.Bytes.{lines}
 use Rattle.syntax.specs.Known.{State, nothing}
@@ -62,7 +63,7 @@ module _ (T : List ℕ) (I : List ℤ) (C O : List ℕ) (h : Fresh T I C) where
   unfolding codeOf codeLines codeOpens codeStmts places
   code-none = (refl, refl)
 
-  represents-nothing : 8 ≤ length O → Represents (held (before-do 0 0 0 0) T I C O) nothing
+  represents-nothing : 8 ≤ length O → Represents (held (before-do 0 0 0 0 Iterations) T I C O) nothing
   unfolding loaded words
   represents-nothing b = record {
     stage = refl;
@@ -74,6 +75,7 @@ module _ (T : List ℕ) (I : List ℤ) (C O : List ℕ) (h : Fresh T I C) where
     cells-so-far = refl;
     filled = h .initial;
     processors = refl;
+    grouping = refl;
     from = refl;
     count = refl;
     few = omega arith;
@@ -87,7 +89,7 @@ module _ (T : List ℕ) (I : List ℤ) (C O : List ℕ) (h : Fresh T I C) where
   pub initial-long : length I ≡ 4096
   initial-long = ap length (h .initial) ∙ length-replicate 4096 (pos 0)
 
-  pub reached-none : (s : List ℕ) (n : ℕ) (p : Progress) → p ≡ before-do 0 0 0 0 → n ≡ length s → 8 ≤ length O → Reached s n (held p T I C O) 0 1
+  pub reached-none : (s : List ℕ) (n : ℕ) (p : Progress) → p ≡ before-do 0 0 0 0 Iterations → n ≡ length s → 8 ≤ length O → Reached s n (held p T I C O) 0 1
   reached-none s n p e en b = record {
     size = en;
     within = omega arith;

@@ -32,6 +32,7 @@ use lines::integer_line;
 use lines::loop_line;
 use lines::onward;
 use names::Table;
+use rules::Grouping;
 
 // A line that is bad by its form or its place.
 fn broken_line(p: Progress) -> Progress
@@ -153,7 +154,7 @@ fn read_lines(s: &[u8], table: &mut Table, initial: &mut [i32], code: &mut [u32]
     let mut opens = [0; 8];
     let mut at = 0;
     let mut line = 1;
-    let mut p = before_do(0, 0, 0, 0);
+    let mut p = before_do(0, 0, 0, 0, Grouping::Iterations);
     while at <= n {
         let e = line_end(s, at);
         let last = n <= e + 1;
@@ -176,7 +177,7 @@ fn too_long() -> Reading
 {
     Reading {
         line: 0,
-        progress: before_do(1, 0, 0, 0),
+        progress: before_do(1, 0, 0, 0, Grouping::Iterations),
     }
 }
 

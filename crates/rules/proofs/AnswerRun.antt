@@ -1,12 +1,13 @@
 -- Run's answer is the one that the serial run settles.
-use mathlib.Core.Path.{_≡_, refl, ap, fun-ext}
+use mathlib.Core.Path.{_≡_, refl, sym, _∙_, ap, fun-ext}
 use mathlib.Core.List.{List}
 use Prim.Native.Nat.{ℕ}
 use lib.IntN.{ℤ}
 use Rattle.rules.specs.Loop.{Loop, Partition}
 use Rattle.rules.specs.Proper.{Proper}
 use Rattle.rules.specs.Cells.{listed}
-use Rattle.rules.specs.Answer.{TrialPasses, SerialPasses, trial-passes?, serial-passes?, run-by, run, settled-by, settled}
+use Rattle.rules.specs.Serial.{serial}
+use Rattle.rules.specs.Answer.{AlikeButForTheWord, TrialPasses, SerialPasses, trial-passes?, serial-passes?, again, run-by, run, settled-by, settled}
 use Rattle.rules.proofs.Order.{passes}
 use Rattle.rules.proofs.Passed.{same-of-passed}
 
@@ -22,3 +23,17 @@ module _ (l : Loop) (δ : Partition) (h : Proper l δ) (ps : List ℕ) where
   pub run-settles : run l δ ps ≡ settled l (δ .group)
   unfolding run settled
   run-settles = by-cases (trial-passes? l δ ps) (serial-passes? l (δ .group))
+
+-- but for the word passed or rerun, the serial run settles what it would with an obstacle
+module _ (l : Loop) where
+  wordless-by : (γ : ℕ → ℕ) (d : Dec (SerialPasses l γ)) → AlikeButForTheWord (settled-by l γ d) (again l (serial l .outcome))
+  unfolding settled-by again
+  wordless-by γ (yes s) = rw (s .faultless) (record { answer = refl; cells = refl })
+  wordless-by γ (no f) = record { answer = refl; cells = refl }
+
+  pub settled-alike : (γ ε : ℕ → ℕ) → AlikeButForTheWord (settled l γ) (settled l ε)
+  unfolding settled
+  settled-alike γ ε =
+      let a = wordless-by γ (serial-passes? l γ) in
+      let b = wordless-by ε (serial-passes? l ε) in
+      record { answer = a .answer ∙ sym (b .answer); cells = a .cells ∙ sym (b .cells) }

@@ -20,6 +20,8 @@ pub mod SumLaws
 pub mod MergeRun
 pub mod Passed
 pub mod AnswerRun
+-- Neighbours tested together.
+pub mod CoarserRun
 -- Laws for callers.
 pub mod BlocksLaws
 pub mod CellsLaws

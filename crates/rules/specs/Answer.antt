@@ -36,6 +36,18 @@ pub record Ending : Type 0 where
   pub answer : Answer
   pub cells : List ℤ
 
+-- an answer without the word passed or rerun: the two counts, or the fault
+abbrev pub wordless : Answer → Answer
+wordless (passed a b) = rerun a b
+wordless (rerun a b) = rerun a b
+wordless (faulted n t i) = faulted n t i
+
+-- Document 02, Point 3: "Of what Run answers and leaves in the cells, the processor count may change that result alone": the counts or the fault
+-- are equal, and all cells
+pub record AlikeButForTheWord (e f : Ending) : Type 0 where
+  pub answer : wordless (e .answer) ≡ wordless (f .answer)
+  pub cells : e .cells ≡ f .cells
+
 -- a run carried to its end met neither a fault nor an obstacle
 pub record TrialPasses (l : Loop) (δ : Partition) (ps : List ℕ) : Type 0 where
   pub faultless : ¬ Faulty δ (trial l δ ps)

@@ -12,9 +12,8 @@ pub mod Proper
 -- what they are written with
 pub mod Choose
 pub mod Cells
--- what contracts of other crates are written with
 pub mod Owner
--- devices: laws that the decisions need, decisions, whose types say what they decide, and the numbers of the classes
+-- devices: laws that the decisions need, decisions, whose types say what they decide, and the numbers of classes and groups
 pub mod ChooseLaws
 pub mod LogLaws
 pub mod Decide

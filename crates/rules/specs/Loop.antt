@@ -28,7 +28,8 @@ pub record Loop : Type 0 where
 
 -- Neighbouring iterations form groups: group g has those from `cut g` up to below `cut (suc g)`. Processor p has the groups from
 -- `share p` up to below `share (suc p)`. What an iteration wrote itself, marks and obstacles go by groups. In document 01 each
--- iteration is a group of its own (`Blocks`), and "group" below may be read as "iteration".
+-- iteration is a group of its own (`Blocks`), and "group" below may be read as "iteration"; with the clause of document 02, Point 3, each
+-- processor's block is one, and it may be read as "block".
 pub record Partition : Type 0 where
   pub processors : ℕ  -- "P the processors"
   pub groups : ℕ

@@ -87,7 +87,7 @@ unfoldable pub sum : ℕ → (ℕ → ℕ) → ℕ
 sum zero f = 0
 sum (suc n) f = f n + sum n f
 
--- "the different pairs of iteration and cell ... among listed writes and updates"
+-- "the different pairs of iteration and cell ... among listed writes and updates"; document 02, Point 3: "The write counts are still by iteration"
 unfoldable pub pairs : Loop → Log → ℕ
 pairs l g = sum (l .iterations) (λ i. count (l .size) (λ c. touches c (each i g)))
 

@@ -1,8 +1,16 @@
--- A device: the number of a class where the code keeps it in words, in the table of names and in the shadow tables.
+-- Devices: the numbers of classes and groups as the code has them.
 use Prim.Native.Nat.{ℕ}
+use Rattle.rules.specs.declared.Grouping.{Grouping}
+use Rattle.rules.specs.declared.Grouping.the-variants.{Iterations, Blocks}
 use Rattle.rules.specs.Loop.{Class, shared, lastprivate, reduction}
 
+-- of a class, in the table of names and in the shadow tables
 abbrev pub class-number : Class → ℕ
 class-number shared = 0
 class-number lastprivate = 1
 class-number reduction = 2
+
+-- of the group of iteration i, which processor p has (`tested-group`, proofs/BlocksLaws)
+abbrev pub grouped : Grouping → ℕ → ℕ → ℕ
+grouped Iterations i p = i
+grouped Blocks i p = p

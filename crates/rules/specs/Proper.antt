@@ -21,7 +21,7 @@ Sized k (fault n t) = Unit {0}
 Sized k done = Unit {0}
 
 pub record Proper (l : Loop) (δ : Partition) : Type 0 where
-  -- groups follow one another and cover the iterations: with single iterations, by definition
+  -- groups follow one another and cover the iterations: with single iterations by definition, with blocks as processors' shares below
   pub cut-first : δ .cut 0 ≡ 0
   pub cut-grows : (g : ℕ) → δ .cut g ≤ δ .cut (suc g)
   pub cut-last : (g : ℕ) → δ .groups ≤ g → δ .cut g ≡ l .iterations

@@ -39,7 +39,8 @@ abbrev pub moved : ℕ → Access → Act → (ℕ → ℤ) → State → State
 moved p e a m s = record { cells = m; log = e ∷ s .log; places = put (s .places) p (record { at = s .places p .at; act = a }) }
 
 module _ (l : Loop) (δ : Partition) where
-  -- "Shared cells are read ... in place. Other cells are read as written earlier in this iteration, else as at entry"
+  -- "Shared cells are read ... in place. Other cells are read as written earlier in this iteration, else as at entry"; document 02, Point 3:
+  -- "private reads give what the block wrote before, else the entry value"
   abbrev pub given : Class → State → ℕ → ℕ → ℤ
   given shared s i c = s .cells c
   given lastprivate s i c = latest l c (only (δ .group) (δ .group i) (s .log))

@@ -2,7 +2,8 @@
 // proofs/Theorem.antt; the code here has the numbers of iterations, groups and processors, and deals the iterations out.
 ghost use mathlib.Core.Path.{_≡_};
 ghost use Prim.Native.Nat.{_≤_, _<_};
-ghost use Rattle.rules.specs.Blocks.{blockStart, single};
+ghost use Rattle.rules.specs.Blocks.{blockStart};
+ghost use Rattle.rules.specs.Numbers.{grouped};
 
 // The index of an iteration, from 0. It is never used for a processor's number.
 pub struct Iteration(pub u32);
@@ -13,11 +14,20 @@ pub struct Group(pub u32);
 // The number of a processor, from 0. It is never used for an iteration's index.
 pub struct Processor(pub u32);
 
-// The group of an iteration: each is a group of its own.
-pub fn group_of(i: Iteration) -> Group
-    ensures { λ r. ⌜ r .0 ≡ single (i .0) ⌝ }
+// How a text's iterations are grouped: each is a group of its own, or a processor's block is one (document 02, Point 3).
+pub enum Grouping {
+    Iterations,
+    Blocks,
+}
+
+// The group of an iteration of a processor.
+pub fn group_of(grouping: Grouping, i: Iteration, p: Processor) -> Group
+    ensures { λ r. ⌜ r .0 ≡ grouped grouping (i .0) (p .0) ⌝ }
 {
-    Group(i.0)
+    match grouping {
+        Grouping::Iterations => Group(i.0),
+        Grouping::Blocks => Group(p.0),
+    }
 }
 
 // The numbers of the classes, as `class-number` of specs/Numbers.antt gives them.

@@ -1,4 +1,4 @@
--- The examples of document 01, and of document 02, Point 1, as rows of one table: what the definitions give, and what the documents say. Loops are given by
+-- The examples of document 01, and of document 02, Points 1 to 3, as rows of one table: what the definitions give, and what the documents say. Loops are given by
 -- their texts.
 use mathlib.Core.Path.{_≡_, refl}
 use mathlib.Core.List.{List, [], _∷_, _++_, map}
@@ -10,7 +10,8 @@ use lib.ListN.{length, replicate}
 use Rattle.int32.specs.Integers.{word, value, wrap, sum, difference, negation, product, quotient, rdiv, bySigns, evenOf, nearer, nearest, related}
 use Rattle.rules.specs.Choose.{pick, below, put}
 use Rattle.rules.specs.Cells.{cellOf, listed}
-use Rattle.rules.specs.Blocks.{blockStart, singles}
+use Rattle.rules.specs.Owner.{owner}
+use Rattle.rules.specs.Blocks.{blockStart, singles, blocks, tested}
 use Rattle.rules.specs.Log.{only, written}
 use Rattle.rules.specs.Decide.{change, either?, both?, not?, find as find?, kind?, has?, exposed?, ordinary?, over, one?, two?}
 use Rattle.rules.specs.Marks.{mark1?, mark2?, mark4?, weight, marks}
@@ -86,6 +87,32 @@ scattering =
 abbrev netting : String → String → List String → List ℕ
 netting names bounds body = text (names ∷ "!$omp parallel do num_threads(2) reduction(+:s)" ∷ bounds ∷ (body ++ ("end do" ∷ [])))
 
+-- Document 02, Point 3: a loop of these names, clauses, bounds and statements
+abbrev dealing : String → String → String → List String → List ℕ
+dealing names clauses bounds body =
+    bytes names ++ (10 ∷ (bytes "!$omp parallel do " ++ (bytes clauses ++ (10 ∷ text (bounds ∷ (body ++ ("end do" ∷ [])))))))
+
+-- a recurrence, which meets between neighbouring iterations
+abbrev recurring : String → List ℕ
+recurring clauses = dealing "integer a(5)" clauses "do i = 2, 5" ("a(i) = a(i - 1)" ∷ [])
+
+-- iteration 1 writes z and iteration 2 reads it, or the other way round
+abbrev written-first : String → List ℕ
+written-first clauses = dealing "integer z, y" clauses "do i = 1, 2" ("if (i == 1) then" ∷ "z = 7" ∷ "else" ∷ "y = z" ∷ "end if" ∷ [])
+
+abbrev read-first : String → List ℕ
+read-first clauses = dealing "integer z, y" clauses "do i = 1, 2" ("if (i == 1) then" ∷ "y = z" ∷ "else" ∷ "z = 7" ∷ "end if" ∷ [])
+
+-- an update and an ordinary access in one block
+abbrev mixing : List ℕ
+mixing = dealing "integer s, t" "num_threads(1) schedule(static) reduction(+:s)" "do i = 1, 2" ("s = s + i" ∷ "t = s" ∷ [])
+
+-- the clause's words as names
+abbrev wording : List ℕ
+wording =
+    dealing "integer schedule, static" "shared(schedule) num_threads(2) schedule(static) lastprivate(static)" "do i = 1, 1"
+    ("static = schedule" ∷ [])
+
 -- a text, and blanks up to n bytes
 abbrev up-to : ℕ → List ℕ → List ℕ
 up-to n t = t ++ replicate (n - length t) 32
@@ -120,6 +147,9 @@ lent t n = cellsLoaded (read t) (replicate n (minus 1))
 abbrev looked : List ℕ → ℕ → List ℕ → Shown
 looked t n ps = views (viewShown (read t) (lent t n) 8192 ps (replicate (n + n) 7))
 
+abbrev looked-on : List ℕ → List ℤ → List ℕ → Shown
+looked-on t m ps = views (viewShown (read t) m 8192 ps (replicate (length m + length m) 7))
+
 abbrev ran-on : List ℕ → List ℤ → List ℕ → Shown
 ran-on t m ps = ends (runOf (read t) m 8192 ps) (cellsRun (read t) m 8192 ps)
 
@@ -137,6 +167,13 @@ stepped t n ps = by-steps (read t) (lent t n) ps
 -- Run of a statement or two over these bounds, on s alone
 abbrev net : String → List String → ℤ → Shown
 net bounds body z = ran-on (netting "integer s" bounds body) (z ∷ []) []
+
+-- cells before the recurrence, and after it
+abbrev fives : List ℤ
+fives = pos 4 ∷ pos 5 ∷ pos 5 ∷ pos 5 ∷ pos 5 ∷ []
+
+abbrev fours : List ℤ
+fours = pos 4 ∷ pos 4 ∷ pos 4 ∷ pos 4 ∷ pos 4 ∷ []
 
 pub rows : List Row
 rows =
@@ -194,6 +231,36 @@ rows =
     ∷ row (number (rdiv (pos 2147483645) (pos 2))) (number (pos 1073741822))
     ∷ row (number (rdiv (minus 2147483648) (minus 1))) (number (minus 2147483648))
     ∷ row (net "do i = 1, 1" ("s = rdiv(s, 2)" ∷ []) (minus 5)) (ends (Passed 1 1) (minus 2 ∷ []))
+    -- document 02, Point 3: the word by blocks, for one processor and two, under schedules of both
+    ∷ row (ran-on (recurring "num_threads(1) schedule(static)") fives (0 ∷ 0 ∷ [])) (ends (Passed 4 4) fours)
+    ∷ row (ran-on (recurring "num_threads(2) schedule(static)") fives (1 ∷ 0 ∷ [])) (ends (Rerun 4 4) fours)
+    ∷ row (ran-on (recurring "num_threads(1)") fives []) (ends (Rerun 4 4) fours)
+    ∷ row (by-steps (read (recurring "num_threads(1) schedule(static)")) fives (0 ∷ 0 ∷ [])) (ends (Passed 4 4) fours)
+    ∷ row (by-steps (read (recurring "num_threads(2) schedule(static)")) fives (1 ∷ 0 ∷ [])) (ends (Rerun 4 4) fours)
+    -- marks by block: written and then read, read and then written
+    ∷ row (looked-on (written-first "num_threads(1) schedule(static)") (pos 3 ∷ pos 4 ∷ []) (0 ∷ 0 ∷ 0 ∷ [])) (views (7 ∷ 1 ∷ 4 ∷ 0 ∷ []))
+    ∷ row (looked-on (written-first "num_threads(1)") (pos 3 ∷ pos 4 ∷ []) (0 ∷ 0 ∷ 0 ∷ [])) (views (7 ∷ 3 ∷ 4 ∷ 0 ∷ []))
+    ∷ row (looked-on (read-first "num_threads(1) schedule(static)") (pos 3 ∷ pos 4 ∷ []) (0 ∷ 0 ∷ 0 ∷ 0 ∷ [])) (views (7 ∷ 5 ∷ 3 ∷ 1 ∷ []))
+    ∷ row (looked-on (read-first "num_threads(1)") (pos 3 ∷ pos 4 ∷ []) (0 ∷ 0 ∷ 0 ∷ 0 ∷ [])) (views (7 ∷ 3 ∷ 3 ∷ 1 ∷ []))
+    -- a lastprivate cell as an earlier iteration of the block left it; in another block it is the entry value, and an obstacle
+    ∷ row (ran-on (written-first "schedule(static) num_threads(1) lastprivate(z)") (pos 3 ∷ pos 4 ∷ []) []) (ends (Passed 2 2) (pos 7 ∷ pos 7 ∷ []))
+    ∷ row (ran-on (written-first "schedule(static) num_threads(2) lastprivate(z)") (pos 3 ∷ pos 4 ∷ []) (1 ∷ [])) (ends (Rerun 2 2) (pos 7 ∷ pos 7 ∷ []))
+    ∷ row (looked-on (written-first "schedule(static) num_threads(1) lastprivate(z)") (pos 3 ∷ pos 4 ∷ []) (0 ∷ 0 ∷ 0 ∷ 0 ∷ []))
+    (views (3 ∷ 1 ∷ 7 ∷ 1 ∷ []))
+    -- n below P: every iteration is a block of its own
+    ∷ row (ran-on (written-first "num_threads(8) schedule(static)") (pos 3 ∷ pos 4 ∷ []) []) (ends (Rerun 2 2) (pos 7 ∷ pos 7 ∷ []))
+    -- with one processor only a reduction cell that is updated and accessed otherwise is in the way
+    ∷ row (ran-on mixing (pos 5 ∷ pos 0 ∷ []) []) (ends (Rerun 4 2) (pos 8 ∷ pos 8 ∷ []))
+    -- write counts by iteration
+    ∷ row (ran-on (dealing "integer z" "num_threads(2) schedule(static) lastprivate(z)" "do i = 1, 6" ("z = i" ∷ [])) (pos 0 ∷ []) (1 ∷ 0 ∷ []))
+    (ends (Passed 6 1) (pos 6 ∷ []))
+    -- the clause: twice, with another word, with more, empty; its words as names
+    ∷ row (checked (recurring "num_threads(2) SCHEDULE ( Static ) shared(a)")) (checks (Sizes 5 2))
+    ∷ row (checked (recurring "schedule(static) num_threads(2) schedule(static)")) (checks (Refused 2 2))
+    ∷ row (checked (recurring "num_threads(2) schedule(dynamic)")) (checks (Refused 2 2))
+    ∷ row (checked (recurring "num_threads(2) schedule(static, 1)")) (checks (Refused 2 2))
+    ∷ row (checked (recurring "num_threads(2) schedule()")) (checks (Refused 2 2))
+    ∷ row (checked wording) (checks (Sizes 2 2))
     ∷ row (checked []) (checks (Refused 2 1))
     ∷ row (checked (up-to 2048 rising)) (checks (Sizes 3 2))
     ∷ row (checked (up-to 2049 rising)) (checks (Refused 1 0))
@@ -202,7 +269,8 @@ rows =
 -- every row gives what the documents say
 pub examples : map (λ (r : Row). r .got) rows ≡ map (λ (r : Row). r .want) rows
 unfolding rows rising writing writing-last adding idle reading aiming scattering
-    word value wrap sum difference negation product quotient rdiv bySigns evenOf nearer nearest integers.same related blockStart singles cellOf listed pick below put only written
+    word value wrap sum difference negation product quotient rdiv bySigns evenOf nearer nearest integers.same related
+    blockStart singles blocks tested owner cellOf listed pick below put only written
     change either? both? not? find? kind? has? exposed? ordinary? over one? two? mark1? mark2? mark4? weight marks clash? stale? mixed? obstacle-at? obstructed?
     go-on step steps through through-all run-out run-on trial is-fault? stopped? faulty? along from serial finished? highest updated add total sum-of
     block gathered merged touches count merge.sum pairs written-cells

@@ -19,10 +19,11 @@ use Rattle.syntax.specs.Text.{Verdict, refused, good, read}
 use Rattle.syntax.specs.Meaning.{loopOf, partitionOf}
 use Rattle.syntax.proofs.TestLaws.{either-holds, neither-holds}
 use Rattle.syntax.proofs.ProperLoop.{accepted-proper}
-use Rattle.trial.specs.Standing.{dealt, Standing, Kept}
+use Rattle.trial.specs.Standing.{Standing, Kept}
 use Rattle.trial.specs.Standing.{Stands}
 use Rattle.outcome.specs.ReadOff.{Merges, CanRestore, Restores}
 use Rattle.outcome.proofs.ReadingOff.{standing-kept}
+use Rattle.serial.specs.Serving.{by-one}
 use Rattle.serial.proofs.Verdicts.{run-passed, run-again}
 use Rattle.trying.specs.declared.Tried.{Tried}
 use Rattle.answers.specs.declared.Served.{Served}
@@ -109,28 +110,25 @@ module _ (text : List ℕ) (M : List ℤ) (W ps : List ℕ) where
       settles-so : settles s M ≡ run l δ ps
       settles-so = sym (order-decides-nothing l δ (accepted-proper text s M (m .verdict)) ps)
 
-      dealt-is : dealt l (s .processors) ≡ δ
-      unfolding loopOf partitionOf
-      dealt-is = refl
-
-      standing : Standing (s .processors) l M₁ W₁ (trial l δ ps)
+      standing : Standing (s .processors) l δ M₁ W₁ (trial l δ ps)
+      unfolding partitionOf
       standing = m .tries .run .running .standing
 
       pub stands-so : Stands (t .processors) M₁ W₁
-      stands-so = subst (λ (k : ℕ). Stands k M₁ W₁) (sym (m .tries .processors)) (l, trial l δ ps, standing)
+      stands-so = subst (λ (k : ℕ). Stands k M₁ W₁) (sym (m .tries .processors)) (l, δ, trial l δ ps, standing)
 
-      kept : Kept (s .processors) l M₁ W₁
-      kept = standing-kept (s .processors) l M₁ W₁ (trial l δ ps) standing
+      kept : Kept (s .processors) l δ M₁ W₁
+      kept = standing-kept (s .processors) l δ M₁ W₁ (trial l δ ps) standing
 
       pub can-restore : CanRestore (t .processors) M₁ W₁
-      can-restore = subst (λ (k : ℕ). CanRestore k M₁ W₁) (sym (m .tries .processors)) (l, kept)
+      can-restore = subst (λ (k : ℕ). CanRestore k M₁ W₁) (sym (m .tries .processors)) (l, δ, kept)
 
       entry-is : listed (l .size) (l .entry) ≡ M
       unfolding loopOf
       entry-is = ap (λ (k : ℕ). listed k (cellOf M)) (sym (fit .cells-are)) ∙ listed-cells M
 
       pub restored : (M₂ : List ℤ) → Restores (t .processors) M₁ W₁ M₂ → M₂ ≡ M
-      restored M₂ rs = subst (λ (k : ℕ). Restores k M₁ W₁ M₂) (m .tries .processors) rs l kept ∙ entry-is
+      restored M₂ rs = subst (λ (k : ℕ). Restores k M₁ W₁ M₂) (m .tries .processors) rs l δ kept ∙ entry-is
 
       -- ---- neither fault nor obstacle
 
@@ -151,8 +149,8 @@ module _ (text : List ℕ) (M : List ℤ) (W ps : List ℕ) where
             by-number s 0 (Passed a b) M₂ W₂ (m .verdict) (m .fits)
             ((λ i. Passed ((ea ∙ m .tries .leaves .pair-count) i) ((eb ∙ m .tries .leaves .cell-count) i))
             ∙ sym (ap (λ (e : Ending). answered s (e .answer)) q))
-            (subst (λ (k : ℕ). Merges k M₁ W₁ M₂) (m .tries .processors) mg l (trial l δ ps) standing
-            ∙ ap (λ (d : Partition). listed (l .size) (merged l d (trial l δ ps))) dealt-is ∙ sym (ap (λ (e : Ending). e .cells) q))
+            (subst (λ (k : ℕ). Merges k M₁ W₁ M₂) (m .tries .processors) mg l δ (trial l δ ps) standing
+            ∙ sym (ap (λ (e : Ending). e .cells) q))
             ew
 
       -- ---- a fault or an obstacle
@@ -175,7 +173,7 @@ module _ (text : List ℕ) (M : List ℤ) (W ps : List ℕ) where
           where
             go : (x : Served) → CanConclude x M₃ W₃
             go (Finished a b) = tt
-            go (Faulted n k v) = (l, serves .kept)
+            go (Faulted n k v) = (l, by-one l, serves .kept)
             go (Refused n k) = tt
 
         module _ (yes : t .faulty || t .obstructed ≡ true) (long : length W₃ ≡ length W₁) (r′ : Ran) (M₄ : List ℤ) (W₄ : List ℕ)
@@ -200,4 +198,4 @@ module _ (text : List ℕ) (M : List ℤ) (W ps : List ℕ) where
               go (failed n k i) e q =
                   let c = subst (λ (x : Served). ConcludesBy x M₃ W₃ r′ M₄ W₄) e cn in
                   by-number s 0 r′ M₄ W₄ (m .verdict) (m .fits) (c .0 ∙ sym (ap (λ (x : Ending). answered s (x .answer)) q))
-                  (c .1 l (serves .kept) ∙ sym (ap (λ (x : Ending). x .cells) q)) (zeros (c .2))
+                  (c .1 l (by-one l) (serves .kept) ∙ sym (ap (λ (x : Ending). x .cells) q)) (zeros (c .2))

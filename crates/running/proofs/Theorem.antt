@@ -1,185 +1,245 @@
--- The number of processors decides nothing either: demand 3, "Two accepted texts alike in all but the number of processors get the same answer and
--- final cells".
+-- What the clauses may decide of Run's answer. Document 01, demand 3: "Two accepted texts alike in all but the number of processors get the same answer
+-- and final cells" (`alike-texts`). Document 02, Point 3: "Of what Run answers and leaves in the cells, the processor count may change that result
+-- alone, and only in these texts", which have the clause `schedule(static)` (`alike-but-for-the-word`). And a text that passes without this clause passes
+-- with it (`passes-with-the-clause-too`).
 use mathlib.Core.Path.{_≡_, refl, sym, _∙_, ap}
-use mathlib.Core.Bool.{Bool, true, cond, _&&_}
-use mathlib.Core.Logic.{inl, inr}
-use mathlib.Core.List.{List, [], _∷_, map}
-use Prim.Native.Nat.{ℕ, _+_, _≤_, _<_}
+use mathlib.Core.Bool.{cond}
+use mathlib.Core.List.{List, [], _∷_}
+use Prim.Native.Nat.{ℕ, suc, _≤_}
 use native.Mathlib.Omega.{arith}
-use borrow.Author.Tests.{leb-true, eqb-true}
-use lib.Dec.{eqb}
 use lib.ListN.{length}
 use lib.IntN.{ℤ}
-use Rattle.rules.specs.Answer.{Answer, passed, rerun, faulted}
-use Rattle.rules.specs.Blocks.{singles}
+use Rattle.rules.specs.declared.Grouping.{Grouping}
+use Rattle.rules.specs.declared.Grouping.the-variants.{Iterations, Blocks}
+use Rattle.rules.specs.Answer.{Answer, passed, rerun, faulted, Ending, wordless, AlikeButForTheWord, settled}
+use Rattle.rules.specs.Blocks.{singles, tested}
 use Rattle.rules.specs.Loop.{Class}
+use Rattle.rules.specs.Numbers.{grouped}
+use Rattle.rules.proofs.AnswerRun.{settled-alike}
+use Rattle.rules.proofs.CoarserRun.{has-passed, settled-coarser}
 use Rattle.syntax.specs.Bytes.{any, same}
-use Rattle.syntax.specs.Grammar.{number, Clause, clause, threads, declare, give, direct, loop, assign, when, otherwise, end-if, inside, end-do, close}
-use Rattle.syntax.specs.Known.{Entry, Open, State, nothing, with-class, threads-in, processors-by, class-by, class-in, classify, heading, otherwise-after, end-if-after, after}
-use Rattle.syntax.specs.Conditions.{several, may-miss, may-follow, stands}
+use Rattle.syntax.specs.Grammar.{number, Clause, clause, threads, static}
+use Rattle.syntax.specs.Known.{State, nothing, threads-in, processors-by, statics-in, grouping-by, class-by, class-in}
 use Rattle.syntax.specs.Follows.{Program, InOrder, Follows, learnt}
 use Rattle.syntax.specs.Text.{Verdict, good, read}
 use Rattle.syntax.specs.Meaning.{loopOf, partitionOf}
-use Rattle.syntax.proofs.Spelling.{both-true}
-use Rattle.syntax.proofs.TestLaws.{either-holds}
 use Rattle.syntax.proofs.Theorem.{accepted-complete}
-use Rattle.lines.proofs.Verdicts.{follows-most}
 use Rattle.answers.specs.Answers.{runNumber, taken, answered, settles, runOf, cellsRun}
-use Rattle.answers.specs.declared.Ran.the-variants.{Refused}
+use Rattle.answers.specs.declared.Ran.{Ran}
+use Rattle.answers.specs.declared.Ran.the-variants.{Passed, Rerun, Faulted, Refused}
+use Rattle.running.proofs.Redirected.{redirected, reclaused, Redirects, relearnt}
 
--- what is known of a text, with another number of processors
-abbrev pub dealing : ℕ → State → State
-dealing p s = record {
-  stage = s .stage;
-  table = s .table;
-  processors = p;
-  variable = s .variable;
-  from = s .from;
-  count = s .count;
-  opens = s .opens;
-  inner = s .inner;
-}
+-- ---- what the theorems speak of
 
-settles-alike : (s : State) (p : ℕ) (M : List ℤ) → settles (dealing p s) M ≡ settles s M
-unfolding loopOf partitionOf singles
-settles-alike s p M = refl
-
-answered-alike : (s : State) (p : ℕ) (a : Answer) → answered s a ≡ answered (dealing p s) a
-answered-alike s p (passed a b) = refl
-answered-alike s p (rerun a b) = refl
-answered-alike s p (faulted n t i) = refl
-
--- over the same cells, each with enough workspace and a schedule of its own processors
-pub processors-decide-nothing : (text text′ : List ℕ) (s : State) (p : ℕ) → read text ≡ good s → read text′ ≡ good (dealing p s)
-    → (M : List ℤ) (w w′ : ℕ) (ps ps′ : List ℕ)
-    → runNumber s (length M) w ps ≡ 0 → runNumber (dealing p s) (length M) w′ ps′ ≡ 0
-    → (runOf (read text) M w ps ≡ runOf (read text′) M w′ ps′) × (cellsRun (read text) M w ps ≡ cellsRun (read text′) M w′ ps′)
-unfolding runOf cellsRun
-processors-decide-nothing text text′ s p e e′ M w w′ ps ps′ z z′ = (
-  ap (λ (v : Verdict). runOf v M w ps) e ∙ ap (λ (n : ℕ). taken n (answered s (settles s M .answer)) (Refused n 0)) z
-      ∙ (λ i. answered s (sym (settles-alike s p M) i .answer)) ∙ answered-alike s p (settles (dealing p s) M .answer)
-      ∙ sym (ap (λ (v : Verdict). runOf v M w′ ps′) e′ ∙ ap (λ (n : ℕ). taken n (answered (dealing p s) (settles (dealing p s) M .answer)) (Refused n 0)) z′),
-  ap (λ (v : Verdict). cellsRun v M w ps) e ∙ ap (λ (n : ℕ). taken n (settles s M .cells) M) z ∙ (λ i. sym (settles-alike s p M) i .cells)
-      ∙ sym (ap (λ (v : Verdict). cellsRun v M w′ ps′) e′ ∙ ap (λ (n : ℕ). taken n (settles (dealing p s) M .cells) M) z′),
-)
-
--- ---- texts alike in all but the number of processors
-
--- the same clauses, with other digits in num_threads
+-- the same clauses, with other digits in `num_threads`
 abbrev pub rethreaded : List ℕ → List Clause → List Clause
 rethreaded d [] = []
 rethreaded d (clause k x xs ∷ cs) = clause k x xs ∷ rethreaded d cs
 rethreaded d (threads p ∷ cs) = threads d ∷ rethreaded d cs
+rethreaded d (static ∷ cs) = static ∷ rethreaded d cs
+
+-- the same clauses, without `schedule(static)`
+abbrev pub unscheduled : List Clause → List Clause
+unscheduled [] = []
+unscheduled (clause k x xs ∷ cs) = clause k x xs ∷ unscheduled cs
+unscheduled (threads p ∷ cs) = threads p ∷ unscheduled cs
+unscheduled (static ∷ cs) = unscheduled cs
 
 -- the same lines, with such a directive
 abbrev pub redealt : List ℕ → Program → Program
-redealt d [] = []
-redealt d ((k, direct cs) ∷ p) = (k, direct (rethreaded d cs)) ∷ redealt d p
-redealt d ((k, declare x xs) ∷ p) = (k, declare x xs) ∷ redealt d p
-redealt d ((k, give x i is) ∷ p) = (k, give x i is) ∷ redealt d p
-redealt d ((k, loop v l m j n) ∷ p) = (k, loop v l m j n) ∷ redealt d p
-redealt d ((k, inside t) ∷ p) = (k, inside t) ∷ redealt d p
-redealt d ((k, end-do j) ∷ p) = (k, end-do j) ∷ redealt d p
-redealt d ((k, close) ∷ p) = (k, close) ∷ redealt d p
+redealt d p = reclaused (rethreaded d) p
 
--- where a line stands
-comes : (s : State) (n : ℕ) (f : Bool) → may-follow (s .stage) n && f ≡ true → may-follow (s .stage) n ≡ true
-comes s n f h = both-true (may-follow (s .stage) n) f h .0
+-- an answer without the word passed or rerun: the write counts, the fault or the refusal
+abbrev pub but-for-the-word : Ran → Ran
+but-for-the-word (Passed a b) = Rerun a b
+but-for-the-word (Rerun a b) = Rerun a b
+but-for-the-word (Faulted n t v) = Faulted n t v
+but-for-the-word (Refused n k) = Refused n k
 
-not-again : (m : ℕ) → 3 ≤ m → may-follow m 3 ≡ true → ⊥
-not-again m b h =
-    let e : m ≡ 3 = omega (arith, follows-most m 3 h) in
-    let z : _≡_ {A = ℕ} 0 1 = ap (λ (x : Bool). cond x 1 0) (sym (ap (λ (j : ℕ). may-follow j 3) e) ∙ h) in omega arith
+-- ---- by what is known of the texts
 
--- after the directive
-late : (q : ℕ) (d : List ℕ) (s : State) (p : Program) → 3 ≤ s .stage → InOrder s p → learnt (dealing q s) (redealt d p) ≡ dealing q (learnt s p)
-unfolding learnt stands after
-late q d s [] b o = refl
-late q d s ((k, declare x xs) ∷ p) b o = absurd (omega (arith, follows-most (s .stage) 1 (comes s 1 _ (o .0))))
-late q d s ((k, give x i is) ∷ p) b o = absurd (omega (arith, follows-most (s .stage) 2 (comes s 2 _ (o .0))))
-late q d s ((k, direct cs) ∷ p) b o = absurd (not-again (s .stage) b (comes s 3 _ (o .0)))
-late q d s ((k, loop v l m j n) ∷ p) b o = late q d (after k (loop v l m j n) s) p (omega arith) (o .3)
-late q d s ((k, inside (assign r e)) ∷ p) b o = late q d (after k (inside (assign r e)) s) p (omega arith) (o .3)
-late q d s ((k, inside (when x r y)) ∷ p) b o = late q d (after k (inside (when x r y)) s) p (omega arith) (o .3)
-late q d s ((k, inside otherwise) ∷ p) b o =
-    ap (λ (u : State). learnt u (redealt d p)) (turned (s .opens)) ∙ late q d (otherwise-after s (s .opens)) p (stage (s .opens)) (o .3)
-  where
-    turned : (os : List Open) → otherwise-after (dealing q s) os ≡ dealing q (otherwise-after s os)
-    turned [] = refl
-    turned (x ∷ os) = refl
+-- what is known, with another number of processors, and without `schedule(static)`
+abbrev pub dealing : ℕ → State → State
+dealing p = redirected (λ _. p) (λ γ. γ)
 
-    stage : (os : List Open) → 3 ≤ otherwise-after s os .stage
-    stage [] = omega arith
-    stage (x ∷ os) = omega arith
-late q d s ((k, inside (end-if j)) ∷ p) b o =
-    ap (λ (u : State). learnt u (redealt d p)) (turned (s .opens)) ∙ late q d (end-if-after s (s .opens)) p (stage (s .opens)) (o .3)
-  where
-    turned : (os : List Open) → end-if-after (dealing q s) os ≡ dealing q (end-if-after s os)
-    turned [] = refl
-    turned (x ∷ os) = refl
+abbrev pub ungrouping : State → State
+ungrouping = redirected (λ p. p) (λ _. Iterations)
 
-    stage : (os : List Open) → 3 ≤ end-if-after s os .stage
-    stage [] = omega arith
-    stage (x ∷ os) = omega arith
-late q d s ((k, end-do j) ∷ p) b o = late q d (after k (end-do j) s) p (omega arith) (o .3)
-late q d s ((k, close) ∷ p) b o = late q d (after k close s) p (omega arith) (o .3)
+-- Run of an accepted text that gets past 5 to 7
+module _ (text : List ℕ) (s : State) (e : read text ≡ good s) (M : List ℤ) (w : ℕ) (ps : List ℕ) (z : runNumber s (length M) w ps ≡ 0) where
+  answer-is : runOf (read text) M w ps ≡ answered s (settles s M .answer)
+  unfolding runOf
+  answer-is = ap (λ (v : Verdict). runOf v M w ps) e ∙ ap (λ (n : ℕ). taken n (answered s (settles s M .answer)) (Refused n 0)) z
 
--- before it: a line after it can't come yet
-too-far : (m n : ℕ) → m < 3 → 4 ≤ n → may-follow m n ≡ true → ⊥
-too-far m n a b h = elim (either-holds (eqb n (m + 1)) _ h) [
-  | inl x ↦ omega (arith, eqb-true n (m + 1) x)
-  | inr y ↦ elim (either-holds (several m && eqb n m) _ y) [
-    | inl x ↦ omega (arith, eqb-true n m (both-true (several m) (eqb n m) x .1))
-    | inr x ↦
-        let (g, f) = both-true (may-miss (m + 1)) (eqb n (m + 2)) x in
-        let e : m + 1 ≡ 3 = omega (arith, eqb-true n (m + 2) f) in
-        let z : _≡_ {A = ℕ} 0 1 = ap (λ (c : Bool). cond c 1 0) (sym (ap may-miss e) ∙ g) in
-        omega arith
-  ]
-]
+  cells-are : cellsRun (read text) M w ps ≡ settles s M .cells
+  unfolding cellsRun
+  cells-are = ap (λ (v : Verdict). cellsRun v M w ps) e ∙ ap (λ (n : ℕ). taken n (settles s M .cells) M) z
 
--- the directive gives the same classes, and another P
+answered-alike : (P : ℕ → ℕ) (G : Grouping → Grouping) (s : State) (a : Answer) → answered s a ≡ answered (redirected P G s) a
+answered-alike P G s (passed a b) = refl
+answered-alike P G s (rerun a b) = refl
+answered-alike P G s (faulted n t i) = refl
+
+-- without the clause obstacles are judged iteration by iteration, for every number of processors
+ungrouped : (γ : Grouping) (n p q : ℕ) → γ ≡ Iterations → tested γ n p .group ≡ tested γ n q .group
+unfolding tested singles
+ungrouped Iterations n p q e = refl
+ungrouped Blocks n p q e = let z : _≡_ {A = ℕ} 1 0 = ap (λ (g : Grouping). grouped g 0 1) e in absurd (omega arith)
+
+settles-alike : (s : State) (p : ℕ) (M : List ℤ) → s .grouping ≡ Iterations → settles s M ≡ settles (dealing p s) M
+unfolding loopOf partitionOf
+settles-alike s p M e = ap (settled (loopOf s M)) (ungrouped (s .grouping) (s .count) (s .processors) p e)
+
+-- over the same cells, each with enough workspace and a schedule of its own processors
+pub processors-decide-nothing : (text text′ : List ℕ) (s : State) (p : ℕ) → s .grouping ≡ Iterations → read text ≡ good s
+    → read text′ ≡ good (dealing p s) → (M : List ℤ) (w w′ : ℕ) (ps ps′ : List ℕ)
+    → runNumber s (length M) w ps ≡ 0 → runNumber (dealing p s) (length M) w′ ps′ ≡ 0
+    → (runOf (read text) M w ps ≡ runOf (read text′) M w′ ps′) × (cellsRun (read text) M w ps ≡ cellsRun (read text′) M w′ ps′)
+processors-decide-nothing text text′ s p q e e′ M w w′ ps ps′ z z′ =
+    let s′ = dealing p s in
+    let a = settles-alike s p M q in (
+      answer-is text s e M w ps z ∙ ap (λ (x : Ending). answered s (x .answer)) a ∙ answered-alike (λ _. p) (λ γ. γ) s (settles s′ M .answer)
+          ∙ sym (answer-is text′ s′ e′ M w′ ps′ z′),
+      cells-are text s e M w ps z ∙ ap (λ (x : Ending). x .cells) a ∙ sym (cells-are text′ s′ e′ M w′ ps′ z′),
+    )
+
+word-aside : (s : State) (a : Answer) → but-for-the-word (answered s a) ≡ answered s (wordless a)
+word-aside s (passed a b) = refl
+word-aside s (rerun a b) = refl
+word-aside s (faulted n t i) = refl
+
+settles-but-for-the-word : (P : ℕ → ℕ) (G : Grouping → Grouping) (s : State) (M : List ℤ) → AlikeButForTheWord (settles s M) (settles (redirected P G s) M)
+unfolding loopOf
+settles-but-for-the-word P G s M = settled-alike (loopOf s M) (partitionOf s .group) (partitionOf (redirected P G s) .group)
+
+-- with the clause or without it, in either text
+pub clauses-decide-the-word : (P : ℕ → ℕ) (G : Grouping → Grouping) (text text′ : List ℕ) (s : State) → read text ≡ good s
+    → read text′ ≡ good (redirected P G s) → (M : List ℤ) (w w′ : ℕ) (ps ps′ : List ℕ)
+    → runNumber s (length M) w ps ≡ 0 → runNumber (redirected P G s) (length M) w′ ps′ ≡ 0
+    → (but-for-the-word (runOf (read text) M w ps) ≡ but-for-the-word (runOf (read text′) M w′ ps′))
+    × (cellsRun (read text) M w ps ≡ cellsRun (read text′) M w′ ps′)
+clauses-decide-the-word P G text text′ s e e′ M w w′ ps ps′ z z′ =
+    let s′ = redirected P G s in
+    let a = settles-but-for-the-word P G s M in (
+      ap but-for-the-word (answer-is text s e M w ps z) ∙ word-aside s (settles s M .answer) ∙ ap (answered s) (a .answer)
+          ∙ answered-alike P G s (wordless (settles s′ M .answer))
+          ∙ sym (ap but-for-the-word (answer-is text′ s′ e′ M w′ ps′ z′) ∙ word-aside s′ (settles s′ M .answer)),
+      cells-are text s e M w ps z ∙ a .cells ∙ sym (cells-are text′ s′ e′ M w′ ps′ z′),
+    )
+
+-- an answer that is passed
+abbrev if-passed : Ran → Answer
+if-passed (Passed a b) = passed a b
+if-passed (Rerun a b) = rerun 0 0
+if-passed (Faulted n t v) = rerun 0 0
+if-passed (Refused n k) = rerun 0 0
+
+answered-passed : (s : State) (x : Answer) (a b : ℕ) → answered s x ≡ Passed a b → x ≡ passed a b
+answered-passed s (passed c d) a b h = ap if-passed h
+answered-passed s (rerun c d) a b h = let z : _≡_ {A = ℕ} 0 1 = ap (λ (r : Ran). has-passed (if-passed r)) h in absurd (omega arith)
+answered-passed s (faulted n t i) a b h = let z : _≡_ {A = ℕ} 0 1 = ap (λ (r : Ran). has-passed (if-passed r)) h in absurd (omega arith)
+
+settles-too : (s : State) (M : List ℤ) (a b : ℕ) → settles (ungrouping s) M .answer ≡ passed a b → settles s M ≡ settles (ungrouping s) M
+unfolding loopOf partitionOf tested singles
+settles-too s M a b h = settled-coarser (loopOf s M) (partitionOf s .group) a b h
+
+-- ---- texts alike in all but the number of processors
+
+-- the directive gives the same classes and the same grouping, and another P
 same-class : (d : List ℕ) (cs : List Clause) (x : List ℕ) → class-in (rethreaded d cs) x ≡ class-in cs x
 unfolding class-in
 same-class d [] x = refl
 same-class d (clause k y ys ∷ cs) x = ap (λ (c : Class). cond (any (same x) (y ∷ ys)) (class-by k) c) (same-class d cs x)
 same-class d (threads p ∷ cs) x = same-class d cs x
+same-class d (static ∷ cs) x = same-class d cs x
 
-same-classes : (d : List ℕ) (cs : List Clause) (t : List Entry) → map (classify (rethreaded d cs)) t ≡ map (classify cs) t
-same-classes d cs [] = refl
-same-classes d cs (e ∷ t) = λ i. with-class (same-class d cs (e .name) i) e ∷ same-classes d cs t i
+same-statics : (d : List ℕ) (cs : List Clause) → statics-in (rethreaded d cs) ≡ statics-in cs
+same-statics d [] = refl
+same-statics d (clause k y ys ∷ cs) = same-statics d cs
+same-statics d (threads p ∷ cs) = same-statics d cs
+same-statics d (static ∷ cs) = ap suc (same-statics d cs)
 
 other-processors : (d : List ℕ) (cs : List Clause) → 1 ≤ length (threads-in cs) → processors-by (threads-in (rethreaded d cs)) ≡ number d
 other-processors d [] h = absurd (omega arith)
 other-processors d (clause k y ys ∷ cs) h = other-processors d cs h
 other-processors d (threads p ∷ cs) h = refl
+other-processors d (static ∷ cs) h = other-processors d cs h
 
-comes-once : (s : State) (cs : List Clause) → stands s (direct cs) ≡ true → 1 ≤ length (threads-in cs)
-unfolding stands
-comes-once s cs h = omega (arith, eqb-true (length (threads-in cs)) 1 (both-true (may-follow (s .stage) 3) _ h .1))
+rethreads : (d : List ℕ) → Redirects (rethreaded d) (λ _. number d) (λ γ. γ)
+rethreads d = record { classes = same-class d; processors = other-processors d; grouping = λ cs. ap grouping-by (same-statics d cs) }
 
-directed : (d : List ℕ) (s : State) (cs : List Clause) → 1 ≤ length (threads-in cs)
-    → heading 3 (map (classify (rethreaded d cs)) (s .table)) (processors-by (threads-in (rethreaded d cs))) ≡ dealing (number d) (heading 3 (map (classify cs) (s .table)) (processors-by (threads-in cs)))
-directed d s cs h = λ i. heading 3 (same-classes d cs (s .table) i) (other-processors d cs h i)
+-- what each then makes known, and that Run takes it
+module _ {f : List Clause → List Clause} {P : ℕ → ℕ} {G : Grouping → Grouping} (r : Redirects f P G) (text′ : List ℕ) (p : Program)
+    (o : InOrder nothing p) where
+  read-so : Follows text′ (reclaused f p) → read text′ ≡ good (redirected P G (learnt nothing p))
+  read-so h = accepted-complete text′ (reclaused f p) h ∙ ap good (relearnt f P G r p o)
 
-early : (d : List ℕ) (s : State) (p : Program) → s .stage < 3 → InOrder s p → learnt s (redealt d p) ≡ dealing (number d) (learnt s p)
-unfolding learnt stands after
-early d s [] b o = absurd (omega (arith, leb-true 6 (s .stage) o))
-early d s ((k, declare x xs) ∷ p) b o = early d (after k (declare x xs) s) p (omega arith) (o .3)
-early d s ((k, give x i is) ∷ p) b o = early d (after k (give x i is) s) p (omega arith) (o .3)
-early d s ((k, direct cs) ∷ p) b o =
-    ap (λ (u : State). learnt u (redealt d p)) (directed d s cs (comes-once s cs (o .0))) ∙ late (number d) d (after k (direct cs) s) p (omega arith) (o .3)
-early d s ((k, loop v l m j n) ∷ p) b o = absurd (too-far (s .stage) 4 b (omega arith) (comes s 4 _ (o .0)))
-early d s ((k, inside t) ∷ p) b o = absurd (too-far (s .stage) 5 b (omega arith) (comes s 5 _ (o .0)))
-early d s ((k, end-do j) ∷ p) b o = absurd (too-far (s .stage) 6 b (omega arith) (comes s 6 _ (o .0)))
-early d s ((k, close) ∷ p) b o = absurd (too-far (s .stage) 7 b (omega arith) (comes s 7 _ (o .0)))
+  fits-so : (m w : ℕ) (ps : List ℕ) → runNumber (learnt nothing (reclaused f p)) m w ps ≡ 0 → runNumber (redirected P G (learnt nothing p)) m w ps ≡ 0
+  fits-so m w ps z = sym (ap (λ (u : State). runNumber u m w ps) (relearnt f P G r p o)) ∙ z
 
--- both texts follow the subset, by the same lines but for the digits of num_threads
-pub alike-texts : (text text′ : List ℕ) (p : Program) (d : List ℕ) → Follows text p → Follows text′ (redealt d p) → (M : List ℤ) (w w′ : ℕ) (ps ps′ : List ℕ)
+-- both texts follow the subset, by the same lines but for the digits of `num_threads`, and without the clause `schedule(static)`
+pub alike-texts : (text text′ : List ℕ) (p : Program) (d : List ℕ) → Follows text p → Follows text′ (redealt d p)
+    → learnt nothing p .grouping ≡ Iterations → (M : List ℤ) (w w′ : ℕ) (ps ps′ : List ℕ)
     → runNumber (learnt nothing p) (length M) w ps ≡ 0 → runNumber (learnt nothing (redealt d p)) (length M) w′ ps′ ≡ 0
     → (runOf (read text) M w ps ≡ runOf (read text′) M w′ ps′) × (cellsRun (read text) M w ps ≡ cellsRun (read text′) M w′ ps′)
-alike-texts text text′ p d f f′ M w w′ ps ps′ z z′ =
-    let e = early d nothing p (omega arith) (f .ordered) in
-    processors-decide-nothing text text′ (learnt nothing p) (number d) (accepted-complete text p f)
-    (accepted-complete text′ (redealt d p) f′ ∙ ap good e) M w w′ ps ps′ z
-    (sym (ap (λ (u : State). runNumber u (length M) w′ ps′) e) ∙ z′)
+alike-texts text text′ p d f f′ q M w w′ ps ps′ z z′ =
+    let o = f .ordered in
+    processors-decide-nothing text text′ (learnt nothing p) (number d) q (accepted-complete text p f) (read-so (rethreads d) text′ p o f′) M w w′ ps ps′
+    z (fits-so (rethreads d) text′ p o (length M) w′ ps′ z′)
+
+-- the same with the clause, or without it: only the word passed or rerun may differ
+pub alike-but-for-the-word : (text text′ : List ℕ) (p : Program) (d : List ℕ) → Follows text p → Follows text′ (redealt d p)
+    → (M : List ℤ) (w w′ : ℕ) (ps ps′ : List ℕ)
+    → runNumber (learnt nothing p) (length M) w ps ≡ 0 → runNumber (learnt nothing (redealt d p)) (length M) w′ ps′ ≡ 0
+    → (but-for-the-word (runOf (read text) M w ps) ≡ but-for-the-word (runOf (read text′) M w′ ps′))
+    × (cellsRun (read text) M w ps ≡ cellsRun (read text′) M w′ ps′)
+alike-but-for-the-word text text′ p d f f′ M w w′ ps ps′ z z′ =
+    let o = f .ordered in
+    clauses-decide-the-word (λ _. number d) (λ γ. γ) text text′ (learnt nothing p) (accepted-complete text p f) (read-so (rethreads d) text′ p o f′)
+    M w w′ ps ps′ z (fits-so (rethreads d) text′ p o (length M) w′ ps′ z′)
+
+-- ---- texts alike in all but the clause
+
+-- the directive without it gives the same classes and the same P
+unscheduled-class : (cs : List Clause) (x : List ℕ) → class-in (unscheduled cs) x ≡ class-in cs x
+unfolding class-in
+unscheduled-class [] x = refl
+unscheduled-class (clause k y ys ∷ cs) x = ap (λ (c : Class). cond (any (same x) (y ∷ ys)) (class-by k) c) (unscheduled-class cs x)
+unscheduled-class (threads p ∷ cs) x = unscheduled-class cs x
+unscheduled-class (static ∷ cs) x = unscheduled-class cs x
+
+unscheduled-threads : (cs : List Clause) → threads-in (unscheduled cs) ≡ threads-in cs
+unscheduled-threads [] = refl
+unscheduled-threads (clause k y ys ∷ cs) = unscheduled-threads cs
+unscheduled-threads (threads p ∷ cs) = ap (λ (ps : List (List ℕ)). p ∷ ps) (unscheduled-threads cs)
+unscheduled-threads (static ∷ cs) = unscheduled-threads cs
+
+unscheduled-none : (cs : List Clause) → statics-in (unscheduled cs) ≡ 0
+unscheduled-none [] = refl
+unscheduled-none (clause k y ys ∷ cs) = unscheduled-none cs
+unscheduled-none (threads p ∷ cs) = unscheduled-none cs
+unscheduled-none (static ∷ cs) = unscheduled-none cs
+
+unschedules : Redirects unscheduled (λ p. p) (λ _. Iterations)
+unschedules = record {
+  classes = unscheduled-class;
+  processors = λ cs h. ap processors-by (unscheduled-threads cs);
+  grouping = λ cs. ap grouping-by (unscheduled-none cs);
+}
+
+-- where the text without the clause passes, the text with it passes, with the same counts and cells
+pub passes-with-the-clause-too : (text text′ : List ℕ) (p : Program) → Follows text p → Follows text′ (reclaused unscheduled p)
+    → (M : List ℤ) (w w′ : ℕ) (ps ps′ : List ℕ)
+    → runNumber (learnt nothing p) (length M) w ps ≡ 0 → runNumber (learnt nothing (reclaused unscheduled p)) (length M) w′ ps′ ≡ 0
+    → (a b : ℕ) → runOf (read text′) M w′ ps′ ≡ Passed a b
+    → (runOf (read text) M w ps ≡ Passed a b) × (cellsRun (read text) M w ps ≡ cellsRun (read text′) M w′ ps′)
+passes-with-the-clause-too text text′ p f f′ M w w′ ps ps′ z z′ a b h =
+    let s = learnt nothing p in
+    let e = accepted-complete text p f in
+    let e′ = read-so unschedules text′ p (f .ordered) f′ in
+    let y = fits-so unschedules text′ p (f .ordered) (length M) w′ ps′ z′ in
+    let n = answered-passed (ungrouping s) (settles (ungrouping s) M .answer) a b (sym (answer-is text′ (ungrouping s) e′ M w′ ps′ y) ∙ h) in
+    let t = settles-too s M a b n in (
+      answer-is text s e M w ps z ∙ ap (answered s) (ap (λ (x : Ending). x .answer) t ∙ n),
+      cells-are text s e M w ps z ∙ ap (λ (x : Ending). x .cells) t ∙ sym (cells-are text′ (ungrouping s) e′ M w′ ps′ y),
+    )

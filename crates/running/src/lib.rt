@@ -10,7 +10,8 @@ use outcome::is_rejected;
 use serving::run_serially;
 
 // Demand 3. No order of the steps decides what it answers and leaves: on the right the schedule is looked at for number 7 alone. Nor does the number of
-// processors: for texts alike in all but P the right sides are the same (`alike-texts`, proofs/Theorem.antt).
+// processors: for texts alike in all but P the right sides are the same (`alike-texts`, proofs/Theorem.antt), but that in those with the clause
+// `schedule(static)` the word passed or rerun may differ (`alike-but-for-the-word`).
 pub fn run(text: &[u8], cells: &mut [i32], workspace: &mut [u32], schedule: &[u8]) -> Ran
     ensures { λ r. ⌜ r ≡ runOf (readText (now (text .entry))) (now (cells .entry)) (length (now (workspace .entry))) (now (schedule .entry)) ⌝ }
     ensures { λ _. ⌜ now (cells .exit) ≡ cellsRun (readText (now (text .entry))) (now (cells .entry)) (length (now (workspace .entry))) (now (schedule .entry)) ⌝ }

@@ -22,20 +22,20 @@ use Rattle.tables.specs.Logged.{Logged}
 use Rattle.noting.proofs.Logging.{logged-read, logged-write, logged-update, logged-ready}
 use Rattle.stepping.specs.declared.Role.{Role}
 use Rattle.stepping.specs.Access.{Accessible, seen-by, stored-by, added-by, seen, read-words, stored, written-words, added, updated-words}
-use Rattle.trial.specs.Standing.{dealt}
+use Rattle.serial.specs.Serving.{by-one}
 use Rattle.trial.proofs.AccessLaws.{listed-set}
 use Rattle.serial.proofs.Serving.{alone, Serially, Serves}
 
 -- the one processor has all iterations
-owned : (l : Loop) (i : ℕ) (M : List ℤ) (W : List ℕ) (m : ℕ → ℤ) (g : Log) → Serially l i M W m g → (j : ℕ) → j < l .iterations → worker l (dealt l 1) j ≡ 0
+owned : (l : Loop) (i : ℕ) (M : List ℤ) (W : List ℕ) (m : ℕ → ℤ) (g : Log) → Serially l i M W m g → (j : ℕ) → j < l .iterations → worker l (by-one l) j ≡ 0
 unfolding singles
 owned l i M W m g h j b =
     let p = h .suits .proper in
-    home l (dealt l 1) p 0 j (omega (arith, bound-first l (dealt l 1) p)) (omega (arith, bound-last l (dealt l 1) p 1 (omega arith))) .owned
+    home l (by-one l) p 0 j (omega (arith, bound-first l (by-one l) p)) (omega (arith, bound-last l (by-one l) p 1 (omega arith))) .owned
 
 module _ (l : Loop) (i c : ℕ) (M : List ℤ) (W : List ℕ) (m : ℕ → ℤ) (g : Log) (s : Serves l i c M W m g) (v : ℤ) where
   abbrev δ : Partition
-  δ = dealt l 1
+  δ = by-one l
 
   abbrev x : Role
   x = alone v (l .iterations)
@@ -53,6 +53,7 @@ module _ (l : Loop) (i c : ℕ) (M : List ℤ) (W : List ℕ) (m : ℕ → ℤ) 
       let u = t .suits in
       record {
         few = omega arith;
+        among = omega arith;
         low = omega (arith, s .inside, u .cells-most);
         inside = omega (arith, s .inside, ap length (t .cells), listed-length (l .size) m);
         ready = logged-ready l δ g W (t .words) (u .proper) (t .inside) (t .ascending) (u .cells-most) (u .iterations-most) (u .iterations-most) c 0

@@ -3,6 +3,7 @@ use mathlib.Core.Path.{_≡_}
 use mathlib.Core.List.{List, []}
 use Prim.Native.Nat.{ℕ, suc, _-_, _<_}
 use lib.IntN.{ℤ}
+use Rattle.rules.specs.declared.Grouping.the-variants.{Iterations}
 use Rattle.rules.specs.Choose.{pick, below}
 use Rattle.rules.specs.Cells.{listed}
 use Rattle.rules.specs.Loop.{Loop}
@@ -16,19 +17,20 @@ use Rattle.stepping.specs.declared.Manner.the-variants.{InPlace}
 use Rattle.stepping.specs.declared.Role.{Role}
 use Rattle.stepping.specs.Step.{Scene, at}
 use Rattle.stepping.proofs.Happening.{rest}
-use Rattle.trial.specs.Standing.{dealt, Suits, Coded}
+use Rattle.trial.specs.Standing.{Suits, Coded}
+use Rattle.serial.specs.Serving.{by-one}
 
 -- what is fixed for the one processor of a run of n iterations, with the loop's variable from v on
 abbrev pub alone : ℤ → ℕ → Role
-alone v n = record { manner = InPlace; processors = 1; number = record { 0 = 0 }; from = v; end = record { 0 = n } }
+alone v n = record { manner = InPlace; grouping = Iterations; processors = 1; number = record { 0 = 0 }; from = v; end = record { 0 = n } }
 
 -- the cells are m and the words those of the accesses g, of which none is of an iteration after i
 pub record Serially (l : Loop) (i : ℕ) (M : List ℤ) (W : List ℕ) (m : ℕ → ℤ) (g : Log) : Type 0 where
-  pub suits : Suits 1 l
+  pub suits : Suits 1 l (by-one l)
   pub cells : M ≡ listed (l .size) m
-  pub words : Logged l (dealt l 1) g W
+  pub words : Logged l (by-one l) g W
   pub inside : Inside (l .iterations) (l .size) g
-  pub ascending : Ascending l (dealt l 1) g
+  pub ascending : Ascending l (by-one l) g
   pub upto : (j : ℕ) → i < j → each j g ≡ []
 
 -- and iteration i may access cell c

@@ -1,26 +1,32 @@
 -- The serial run may begin where the trial may.
+use mathlib.Core.Path.{refl}
 use mathlib.Core.List.{List}
 use Prim.Native.Nat.{ℕ, _+_, _*_, _≤_}
 use native.Mathlib.Nat.{mul-le-mul-left}
 use native.Mathlib.Omega.{arith}
 use lib.IntN.{ℤ}
-use Rattle.rules.specs.Loop.{Loop}
+use Rattle.rules.specs.Loop.{Loop, Partition}
+use Rattle.rules.specs.Blocks.{singles}
 use Rattle.rules.proofs.BlocksLaws.{singles-proper}
 use Rattle.trial.specs.declared.Setting.{Setting}
 use Rattle.trial.specs.Standing.{Suits}
+use Rattle.trial.specs.Running.{dealt}
 use Rattle.trial.specs.Start.{Starts}
-use Rattle.serial.specs.Serving.{Serials}
+use Rattle.serial.specs.Serving.{by-one, Serials}
 
 -- one processor suits where several do
-pub suits-one : (k : ℕ) (l : Loop) → Suits k l → Suits 1 l
-suits-one k l h =
+pub suits-one : (k : ℕ) (l : Loop) (δ : Partition) → Suits k l δ → Suits 1 l (by-one l)
+unfolding singles
+suits-one k l δ h =
     let p = h .proper in
     record {
       proper = singles-proper l 1 (omega arith) (p .sums) (p .sized) (p .plus-assoc) (p .plus-comm) (p .plus-zero) (p .zero-zero);
+      processors = refl;
       plus = h .plus;
       nought = h .nought;
       cells-most = h .cells-most;
       iterations-most = h .iterations-most;
+      groups-most = h .iterations-most;
       some = omega arith;
       most = omega arith;
     }
@@ -35,7 +41,7 @@ serials-of code g l M C n h =
       coded = h .coded;
       iterations = h .iterations;
       entry = record {
-        suits = suits-one (g .processors) l (e .suits);
+        suits = suits-one (g .processors) l (dealt g) (e .suits);
         cells = e .cells;
         number = e .number;
         classes = e .classes;

@@ -27,8 +27,8 @@ use Rattle.stepping.specs.Carrying.{is-open, Reached, CanCarry, Carries}
 use Rattle.stepping.proofs.Happening.{rest, can-reach, Continues, Happens, happens}
 use Rattle.stepping.proofs.Opened.{opened-yes, opened-no}
 use Rattle.trial.specs.declared.Setting.{Setting}
-use Rattle.trial.specs.Standing.{dealt, Coded}
-use Rattle.serial.specs.Serving.{Serials, outcome-of, IsSerial}
+use Rattle.trial.specs.Standing.{Coded}
+use Rattle.serial.specs.Serving.{by-one, Serials, outcome-of, IsSerial}
 use Rattle.serial.proofs.Serving.{alone, Serially, Serves, onward, Serving, Serial-at}
 use Rattle.serial.proofs.AccessLaws.{serves-accessible, serves-seen, serves-read, serves-write, serves-update, serially-next}
 use Rattle.stepping.proofs.Happening as happening
@@ -184,7 +184,7 @@ module _ (code : List ℕ) (v : ℤ) (l : Loop) (r : Role) (e : r ≡ alone v (l
 -- ---- the start and the end
 
 pub serial-start : (code : List ℕ) (x : Setting) (l : Loop) (M : List ℤ) (C : List ℕ) (n : ℕ) → Serials code x l M C n → (W : List ℕ)
-    → Logged l (dealt l 1) [] W → (a : List ℤ) → Holding a 0
+    → Logged l (by-one l) [] W → (a : List ℤ) → Holding a 0
     → Serial-at code (x .from) l (scene M W a (record { depth = 0; place = 0; iteration = record { 0 = 0 }; fault = 0; line = 0 }))
 unfolding serial only
 serial-start code x l M C n h W w a o =
@@ -215,11 +215,11 @@ pub serial-end : (code : List ℕ) (v : ℤ) (l : Loop) (z : Scene) → Serial-a
     → IsSerial l (z .cells) (z .words) (z .point)
 serial-end code v l z (m, g, s) h =
     let e = ended code v l z m g s h in
-    let w = tables-right l (dealt l 1) (s .stands .suits .proper) g (s .stands .inside) (s .stands .ascending) in
+    let w = tables-right l (by-one l) (s .stands .suits .proper) g (s .stands .inside) (s .stands .ascending) in
     record {
       cells = rw e (s .stands .cells);
       outcome = rw e;
-      pairs = rw e (logged-pairs l (dealt l 1) g (z .words) (s .stands .words) w);
-      written = rw e (logged-cells l (dealt l 1) g (z .words) (s .stands .words) w);
+      pairs = rw e (logged-pairs l (by-one l) g (z .words) (s .stands .words) w);
+      written = rw e (logged-cells l (by-one l) g (z .words) (s .stands .words) w);
       kept = record { suits = s .stands .suits; size = ap length (s .stands .cells) ∙ listed-length (l .size) m; log = g; words = s .stands .words };
     }

@@ -5,7 +5,8 @@ use Prim.Native.Nat.{ℕ}
 use lib.IntN.{ℤ}
 use Rattle.rules.specs.Choose.{pick}
 use Rattle.rules.specs.Cells.{listed}
-use Rattle.rules.specs.Loop.{Loop}
+use Rattle.rules.specs.Loop.{Loop, Partition}
+use Rattle.rules.specs.Blocks.{singles}
 use Rattle.rules.specs.Merge.{written-cells}
 use Rattle.rules.specs.Serial.{Outcome, finished, failed, serial}
 use Rattle.tables.specs.Layout.{pairs-word, cells-word}
@@ -15,11 +16,15 @@ use Rattle.trial.specs.Standing.{Coded, Kept}
 use Rattle.trial.specs.Start.{Entry}
 use Rattle.rules.specs.Merge as merge
 
+-- each iteration by itself, all on one processor
+abbrev pub by-one : Loop → Partition
+by-one l = singles (l .iterations) 1
+
 -- the code and the setting are the loop's, and the cells those at entry
 pub record Serials (code : List ℕ) (s : Setting) (l : Loop) (M : List ℤ) (C : List ℕ) (n : ℕ) : Type 0 where
   pub coded : Coded code (s .from) l
   pub iterations : l .iterations ≡ s .iterations
-  pub entry : Entry 1 l M C n
+  pub entry : Entry 1 l (by-one l) M C n
 
 abbrev pub CanSerial : List ℕ → Setting → List ℤ → List ℕ → ℕ → Type 0
 CanSerial code s M C n = (l : Loop) × Serials code s l M C n
@@ -34,7 +39,7 @@ pub record IsSerial (l : Loop) (M : List ℤ) (W : List ℕ) (t : Point) : Type 
   pub outcome : outcome-of t ≡ serial l .outcome
   pub pairs : pairs-word W ≡ merge.pairs l (serial l .log)
   pub written : cells-word W ≡ written-cells l (serial l .log)
-  pub kept : Kept 1 l M W
+  pub kept : Kept 1 l (by-one l) M W
 
 abbrev pub RunsSerially : List ℕ → Setting → List ℤ → List ℕ → ℕ → List ℤ → List ℕ → Point → Type 0
 RunsSerially code s M C n M′ W′ t = (l : Loop) → Serials code s l M C n → IsSerial l M′ W′ t

@@ -2,6 +2,7 @@
 // write counts.
 ghost use lib.ListN.{length};
 ghost use Rattle.serial.specs.Serving.{CanSerial, RunsSerially};
+use rules::Grouping;
 use rules::Iteration;
 use rules::Processor;
 use stepping::Extent;
@@ -29,6 +30,7 @@ pub fn run(
     let end = Iteration(setting.iterations);
     let role = Role {
         manner: Manner::InPlace,
+        grouping: Grouping::Iterations,
         processors: 1,
         number: only,
         from: setting.from,

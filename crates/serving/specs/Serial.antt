@@ -11,6 +11,7 @@ use Rattle.syntax.specs.Known.{State}
 use Rattle.syntax.specs.Text.{Verdict, refused, good}
 use Rattle.syntax.specs.Meaning.{loopOf}
 use Rattle.trial.specs.Standing.{Kept}
+use Rattle.serial.specs.Serving.{by-one}
 use Rattle.answers.specs.declared.Served.{Served}
 use Rattle.answers.specs.declared.Served.the-variants.{Finished, Faulted, Refused}
 use Rattle.answers.specs.Answers.{runNumber, taken}
@@ -26,7 +27,7 @@ pub record Serves (s : State) (M : List ℤ) (r : Served) (M′ : List ℤ) (W�
   pub answer : r ≡ servedBy s M (serial (loopOf s M) .outcome)
   pub cells : M′ ≡ listed (loopOf s M .size) (serial (loopOf s M) .cells)
   -- the words keep the cells at entry, in the rows of tables for one processor
-  pub kept : Kept 1 (loopOf s M) M′ W′
+  pub kept : Kept 1 (loopOf s M) (by-one (loopOf s M)) M′ W′
 
 abbrev pub ServesBy : State → ℕ → List ℤ → List ℕ → Served → List ℤ → List ℕ → Type 0
 ServesBy s zero M W r M′ W′ = Serves s M r M′ W′

@@ -1,5 +1,5 @@
 -- An accepted text meets what a run asks.
-use mathlib.Core.Path.{_≡_, refl, sym, _∙_, ap, subst}
+use mathlib.Core.Path.{_≡_, refl, sym, _∙_, ap, subst₂}
 use mathlib.Core.List.{List, [], append-nil}
 use Prim.Native.Nat.{ℕ, _≤_, _<_}
 use native.Mathlib.Omega.{arith}
@@ -9,6 +9,7 @@ use lib.IntN.{ℤ, pos, _+ℤ_}
 use Rattle.rules.specs.Cells.{cellOf, listed}
 use Rattle.rules.proofs.CellsLaws.{listed-cells}
 use Rattle.rules.specs.Numbers.{class-number}
+use Rattle.rules.proofs.BlocksLaws.{tested-processors, tested-groups}
 use Rattle.syntax.specs.Known.{State, cells}
 use Rattle.syntax.specs.Text.{good, read}
 use Rattle.syntax.specs.Meaning.{class-of, loopOf, partitionOf}
@@ -24,6 +25,7 @@ use Rattle.tables.specs.Layout.{row-at}
 use Rattle.trial.specs.declared.Setting.{Setting}
 use Rattle.trial.specs.Standing.{Suits, Coded}
 use Rattle.trial.specs.Start.{Entry, Starts}
+use Rattle.setup.specs.Settings.{settingOf}
 
 -- a finished text has every kind of line
 late : (text : List ℕ) (s : State) → read text ≡ good s → 6 ≤ s .stage
@@ -48,14 +50,17 @@ module _ (text : List ℕ) (s : State) (e : read text ≡ good s) (M : List ℤ)
     fits = λ i b. sane .loop (omega (arith, late text s e)) .values-fit i b;
   }
 
-  suits : Suits (s .processors) (loopOf s M)
+  suits : Suits (s .processors) (loopOf s M) (partitionOf s)
   unfolding loopOf partitionOf
   suits = record {
     proper = accepted-proper text s M e;
+    processors = tested-processors (s .grouping) (s .count) (s .processors);
     plus = refl;
     nought = refl;
     cells-most = sane .table .few-cells;
     iterations-most = sane .loop (omega (arith, late text s e)) .few-iterations;
+    groups-most = tested-groups (s .grouping) (s .count) (s .processors) 65535 (sane .loop (omega (arith, late text s e)) .few-iterations)
+        (omega (arith, sane .few-processors (omega (arith, late text s e))));
     some = sane .some-processors (omega (arith, late text s e));
     most = sane .few-processors (omega (arith, late text s e));
   }
@@ -68,7 +73,7 @@ module _ (text : List ℕ) (s : State) (e : read text ≡ good s) (M : List ℤ)
   module _ (size : length M ≡ cells (s .table)) (C : List ℕ) (long : cells (s .table) ≤ length C)
       (cl : (c : ℕ) → c < cells (s .table) → getD C c 0 ≡ class-number (class-of (s .table) c)) (n : ℕ)
       (room : row-at (s .processors) (cells (s .table)) ≤ n) where
-    entry : Entry (s .processors) (loopOf s M) M C n
+    entry : Entry (s .processors) (loopOf s M) (partitionOf s) M C n
     unfolding loopOf
     entry = record {
       suits = suits;
@@ -79,11 +84,9 @@ module _ (text : List ℕ) (s : State) (e : read text ≡ good s) (M : List ℤ)
     }
 
     -- the code and the numbers that the reader found
-    pub starts-by : (K : List ℕ) (g : Setting) → K ≡ words (codeOf s) → g .processors ≡ s .processors → g .iterations ≡ s .count → g .from ≡ s .from
-        → Starts K g (loopOf s M) M C n
-    unfolding loopOf
-    starts-by K g ek ep ei ef = record {
-      coded = subst (λ (k : List ℕ). Coded k (g .from) (loopOf s M)) (sym ek) (subst (λ (m : ℤ). Coded (words (codeOf s)) m (loopOf s M)) (sym ef) coded);
-      iterations = sym ei;
-      entry = subst (λ (k : ℕ). Entry k (loopOf s M) M C n) (sym ep) entry;
-    }
+    starts : Starts (words (codeOf s)) (settingOf s) (loopOf s M) M C n
+    unfolding loopOf partitionOf
+    starts = record { coded = coded; iterations = refl; entry = entry }
+
+    pub starts-by : (K : List ℕ) (g : Setting) → K ≡ words (codeOf s) → g ≡ settingOf s → Starts K g (loopOf s M) M C n
+    starts-by K g ek eg = subst₂ (λ (k : List ℕ) (x : Setting). Starts k x (loopOf s M) M C n) (sym ek) (sym eg) starts

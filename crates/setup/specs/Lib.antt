@@ -1,2 +1,3 @@
--- The classes of cells as numbers.
+-- What is fixed in a run of a text, and the classes of its cells as numbers.
+pub mod Settings
 pub mod Classes

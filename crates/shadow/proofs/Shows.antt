@@ -87,7 +87,7 @@ module _ (l : Loop) (δ : Partition) (h : Proper l δ) where
   within-groups x j b = none-of (δ .group) j (λ i a. omega (arith, group-below i a)) x
 
   -- then groups ascend too
-  latest-group : (i : ℕ) → i < l .iterations → {g : Log} → Inside (l .iterations) (l .size) g → Latest (λ i. i) (worker l δ) i g
+  pub latest-group : (i : ℕ) → i < l .iterations → {g : Log} → Inside (l .iterations) (l .size) g → Latest (λ i. i) (worker l δ) i g
       → Latest (δ .group) (whose δ) (δ .group i) g
   unfolding only
   latest-group i a inside-nil t j e b = refl

@@ -7,7 +7,7 @@ use lib.IntN.{ℤ}
 use Rattle.int32.specs.Integers.{sum}
 use Rattle.rules.specs.Choose.{pick}
 use Rattle.rules.specs.Cells.{cellOf}
-use Rattle.rules.specs.Blocks.{single}
+use Rattle.rules.specs.Numbers.{grouped}
 use Rattle.tables.specs.Layout.{row-at, own-at, class-word}
 use Rattle.noting.specs.Changes.{Ready, read-noted, counted, written, updated, own-seen}
 use Rattle.stepping.specs.declared.Manner.{Manner}
@@ -21,9 +21,14 @@ row-of x c = row-at (x .processors) c
 abbrev pub own-of : Role → ℕ → ℕ
 own-of x c = own-at (row-of x c) (x .number .0)
 
+-- the group of its iteration i
+abbrev pub group-of : Role → ℕ → ℕ
+group-of x i = grouped (x .grouping) i (x .number .0)
+
 -- the processor can access cell c
 pub record Accessible (x : Role) (M : List ℤ) (W : List ℕ) (c : ℕ) : Type 0 where
   pub few : x .processors ≤ 8
+  pub among : x .number .0 < x .processors
   pub low : c < 4096
   pub inside : c < length M
   pub ready : Ready W (row-of x c) (own-of x c)
@@ -46,16 +51,16 @@ added-by InPlace M c v = set M c (sum (cellOf M c) v)
 -- ---- iteration i accesses cell c
 
 abbrev pub seen : Role → ℕ → List ℤ → List ℕ → ℕ → ℤ
-seen x i M W c = seen-by (x .manner) M W (row-of x c) (own-of x c) (single i) c
+seen x i M W c = seen-by (x .manner) M W (row-of x c) (own-of x c) (group-of x i) c
 
 abbrev pub read-words : Role → ℕ → List ℕ → ℕ → List ℕ
-read-words x i W c = read-noted W (row-of x c) (own-of x c) (single i)
+read-words x i W c = read-noted W (row-of x c) (own-of x c) (group-of x i)
 
 abbrev pub stored : Role → List ℤ → List ℕ → ℕ → ℤ → List ℤ
 stored x M W c v = stored-by (x .manner) (class-word W (row-of x c)) M c v
 
 abbrev pub written-words : Role → ℕ → List ℕ → ℕ → ℤ → List ℕ
-written-words x i W c v = written (counted W (row-of x c) (own-of x c) i) (row-of x c) (own-of x c) (single i) v
+written-words x i W c v = written (counted W (row-of x c) (own-of x c) i) (row-of x c) (own-of x c) (group-of x i) v
 
 abbrev pub added : Role → List ℤ → ℕ → ℤ → List ℤ
 added x M c v = added-by (x .manner) M c v

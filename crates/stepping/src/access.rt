@@ -39,7 +39,8 @@ pub fn read_cell(role: Role, i: Iteration, cells: &[i32], w: &mut [u32], cell: u
 {
     let p = role.number;
     let manner = role.manner;
-    let group = rules::group_of(i);
+    let grouping = role.grouping;
+    let group = rules::group_of(grouping, i, p);
     let row = tables::row_of(cell, role.processors);
     let own = tables::own_of(row, p);
     let x = seen(manner, cells, w, cell, row, own, group);
@@ -78,7 +79,8 @@ pub fn write_cell(
 {
     let p = role.number;
     let manner = role.manner;
-    let group = rules::group_of(i);
+    let grouping = role.grouping;
+    let group = rules::group_of(grouping, i, p);
     let row = tables::row_of(cell, role.processors);
     let own = tables::own_of(row, p);
     let class = tables::class_of(w, row);

@@ -11,6 +11,7 @@ ghost use Rattle.stepping.specs.Step.{unstopped, scene, CanMake, Makes, 
 ghost use Rattle.stepping.specs.Carrying.{opened, CanCarry, Carries};
 use machine::Advanced;
 use operands::Move;
+use rules::Grouping;
 use rules::Iteration;
 use rules::Processor;
 
@@ -28,10 +29,11 @@ pub enum Extent {
     ToTheEnd,
 }
 
-// What is fixed for a processor: how its accesses work, for how many processors the tables are laid out, its number, the first value of the loop's variable,
-// and the iteration that its block ends before.
+// What is fixed for a processor: how its accesses work, how its iterations are grouped, for how many processors the tables are laid out, its number, the first
+// value of the loop's variable, and the iteration that its block ends before.
 pub struct Role {
     pub manner: Manner,
+    pub grouping: Grouping,
     pub processors: u32,
     pub number: Processor,
     pub from: i32,

@@ -11,6 +11,7 @@ use lib.IntN.{ℤ, pos, negsuc, _+ℤ_}
 use borrow.Author.Tests.{leb-true}
 use Rattle.int32.specs.declared.Relation.{Relation}
 use Rattle.int32.specs.Integers.{sum, product, quotient, related}
+use Rattle.rules.specs.declared.Grouping.the-variants.{Iterations}
 use Rattle.rules.specs.Loop.{Act, read, write, update, done, shared, Loop}
 use Rattle.rules.specs.Serial.{serial}
 use Rattle.rules.specs.Merge.{pairs, written-cells}
@@ -35,12 +36,13 @@ use Rattle.int32.specs.Integers as integers
 abbrev pub unclaused : List Entry → List Entry
 unclaused = map (classify [])
 
--- all else that is known stays
+-- and each iteration by itself; all else that is known stays
 abbrev pub clauseless : State → State
 clauseless s = record {
   stage = s .stage;
   table = unclaused (s .table);
   processors = s .processors;
+  grouping = Iterations;
   variable = s .variable;
   from = s .from;
   count = s .count;

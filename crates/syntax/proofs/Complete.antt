@@ -14,7 +14,7 @@ use Rattle.int32.specs.declared.Relation.the-variants.{Equal, Unequal, Less, At
 use Rattle.syntax.specs.declared.ClauseKind.{ClauseKind}
 use Rattle.syntax.specs.declared.ClauseKind.the-variants.{Shared, Lastprivate, Reduction}
 use Rattle.syntax.specs.Bytes.{bytes, Token, digits, sign, word-of}
-use Rattle.syntax.specs.Grammar.{Lead, bare, plus, minus, Expr, expr, Ref, single, element, Declared, one, array, Item, item, Clause, clause, threads, assign, when, otherwise, end-if, Line, declare, give, direct, loop, inside, end-do, close, showLead, showRel, showMore, showList, showName, show, showRef, showDeclared, showSigned, showItem, showKind, showClause, showClauses, showLine}
+use Rattle.syntax.specs.Grammar.{Lead, bare, plus, minus, Expr, expr, Ref, single, element, Declared, one, array, Item, item, Clause, clause, threads, static, assign, when, otherwise, end-if, Line, declare, give, direct, loop, inside, end-do, close, showLead, showRel, showMore, showList, showName, show, showRef, showDeclared, showSigned, showItem, showKind, showClause, showClauses, showLine}
 use Rattle.syntax.specs.Reader.{done, Reader, kind, is, sees, says, readName, isDigits, readMore, readDeclared, readDeclare, readSigned, readItem, readGive, readKind, readNames, readClause, readClauses, readDirective, readLoop, readAssign, readWhen, readEnd, readStart, readLine, first, rest, syntaxOf, parse}
 use Rattle.syntax.specs.Spelled.{Spells, here, token}
 use Rattle.syntax.proofs.CompleteExpr.{cond-true, yes-choose, no-choose, binds, and-no, Low, Top, Unsigned, splits, expect-it, want-it, name-it, digits-it, lead-it, rel-it, close-ends, completes}
@@ -122,11 +122,11 @@ module _ {S : Type 0} (peek : S → Option Token) (skip : S → S) where
       (binds _ (more-it (readName peek skip) showName (λ _. Unit {0}) tt (λ a s u h _. name-it peek skip h) f xs (skip s) m b h1 tt (closed h2))
       (binds _ (expect-it peek skip ")" h2) refl))
 
-  -- no clause with names begins with `num_threads`
-  kind-other : (k : ClauseKind) {s u : S} → Sp s (showKind k) u → says peek skip "num_threads" s ≡ false
-  kind-other Shared (token e h) = ap (is (word-of (bytes "num_threads"))) e
-  kind-other Lastprivate (token e h) = ap (is (word-of (bytes "num_threads"))) e
-  kind-other Reduction (token e h) = ap (is (word-of (bytes "num_threads"))) e
+  -- no clause with names begins with `num_threads` or `schedule`
+  kind-other : (k : ClauseKind) {s u : S} → Sp s (showKind k) u → (says peek skip "num_threads" s ≡ false) × (says peek skip "schedule" s ≡ false)
+  kind-other Shared (token e h) = (ap (is (word-of (bytes "num_threads"))) e, ap (is (word-of (bytes "schedule"))) e)
+  kind-other Lastprivate (token e h) = (ap (is (word-of (bytes "num_threads"))) e, ap (is (word-of (bytes "schedule"))) e)
+  kind-other Reduction (token e h) = (ap (is (word-of (bytes "num_threads"))) e, ap (is (word-of (bytes "schedule"))) e)
 
   kind-it : (k : ClauseKind) (s u : S) → Sp s (showKind k) u → readKind peek skip s ≡ done k u
   kind-it Shared s u (token e h) = yes-choose _ _ (ap (is (word-of (bytes "shared"))) e) (binds _ (expect-it peek skip "(" h) refl)
@@ -144,11 +144,17 @@ module _ {S : Type 0} (peek : S → Option Token) (skip : S → S) where
       splits peek skip (showKind k) h λ m h1 h2.
       let c1 = length-append (showKind k) (showList showName x xs ++ (sign (bytes ")") ∷ [])) in
       let c2 = length-append (showMore showName xs) (sign (bytes ")") ∷ []) in
-      no-choose _ _ (kind-other k h1) (binds _ (kind-it k s m h1) (names-it f k x xs m u (omega (arith, more-count showName xs)) h2))
+      no-choose _ _ (kind-other k h1 .0)
+      (no-choose _ _ (kind-other k h1 .1) (binds _ (kind-it k s m h1) (names-it f k x xs m u (omega (arith, more-count showName xs)) h2)))
   clause-it f (threads p) s u b (token e (token e2 (token e3 h))) =
       yes-choose _ _ (ap (is (word-of (bytes "num_threads"))) e)
       (binds _ (binds _ (expect-it peek skip "(" (token e2 here))
       (binds _ (digits-it peek skip (token e3 here)) (binds _ (expect-it peek skip ")" h) refl))) refl)
+  clause-it f static s u b (token e (token e2 (token e3 h))) =
+      no-choose _ _ (ap (is (word-of (bytes "num_threads"))) e)
+      (yes-choose _ _ (ap (is (word-of (bytes "schedule"))) e)
+      (binds _ (expect-it peek skip "(" (token e2 here))
+      (binds _ (want-it peek skip "static" (token e3 here)) (binds _ (expect-it peek skip ")" h) refl))))
 
   -- the clauses are over at the line's end
   abbrev over : Option Token → Bool
@@ -159,12 +165,14 @@ module _ {S : Type 0} (peek : S → Option Token) (skip : S → S) where
   clause-begins (clause Lastprivate x xs) ys (token e h) = ap over e
   clause-begins (clause Reduction x xs) ys (token e h) = ap over e
   clause-begins (threads p) ys (token e h) = ap over e
+  clause-begins static ys (token e h) = ap over e
 
   clause-long : (c : Clause) → 1 ≤ length (showClause c)
   clause-long (clause Shared x xs) = omega arith
   clause-long (clause Lastprivate x xs) = omega arith
   clause-long (clause Reduction x xs) = omega arith
   clause-long (threads p) = omega arith
+  clause-long static = omega arith
 
   clauses-it : (f : ℕ) (cs : List Clause) (s u : S) → length (showClauses cs) < f → Sp s (showClauses cs) u → over (peek u) ≡ true
       → readClauses peek skip f s ≡ done cs u

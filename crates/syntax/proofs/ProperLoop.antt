@@ -13,7 +13,7 @@ use Rattle.int32.specs.Integers.{sum, quotient, related}
 use Rattle.int32.proofs.Laws.{sum-assoc, sum-comm, sum-zero-r, sum-fits}
 use Rattle.rules.specs.Loop.{Act, read, write, update, fault, done, Class, shared, lastprivate, reduction}
 use Rattle.rules.specs.Proper.{Sums, Sized, Proper}
-use Rattle.rules.proofs.BlocksLaws.{singles-proper}
+use Rattle.rules.proofs.BlocksLaws.{tested-proper}
 use Rattle.syntax.specs.Bytes.{choose}
 use Rattle.syntax.specs.Grammar.{Expr, expr, Terms, no-terms, terms, Term, term, Factors, no-factors, factors, Factor, literal, cell, rdiv, brackets, Ref, single, element}
 use Rattle.syntax.specs.Known.{Entry, find, cells, State, Stmts, stop, set, if-then, if-else}
@@ -144,10 +144,10 @@ unfolding loopOf partitionOf
 proper-loop s h f m =
     let k : 6 ≤ s .stage = leb-true 6 (s .stage) f in
     let c : 0 < cells (s .table) = h .some-cells (omega arith) in
-    singles-proper (loopOf s m) (s .processors) (h .some-processors (omega arith))
+    tested-proper (loopOf s m) (s .processors) (h .some-processors (omega arith))
     (λ i. exec-kept (s .table) (s .variable) (s .from +ℤ pos i) (h .table) c _ (sums-kept (s .table)) (s .inner) done tt)
     (λ i. exec-kept (s .table) (s .variable) (s .from +ℤ pos i) (h .table) c _ (sized-kept (s .table)) (s .inner) done tt)
-    sum-assoc sum-comm (λ x y. sum-zero-r (sum x y) (sum-fits x y)) (sum-zero-r (pos 0) (record { sfits = omega arith }))
+    sum-assoc sum-comm (λ x y. sum-zero-r (sum x y) (sum-fits x y)) (sum-zero-r (pos 0) (record { sfits = omega arith })) (s .grouping)
 
 pub accepted-proper : (text : List ℕ) (s : State) (m : List ℤ) → accepts text ≡ good s → Proper (loopOf s m) (partitionOf s)
 accepted-proper text s m h = proper-loop s (accepted-sane text s h) (accepted-finished text s h) m

@@ -4,12 +4,14 @@ use mathlib.Core.Bool.{true, _&&_}
 use mathlib.Core.List.{List, [], _∷_}
 use Prim.Native.Nat.{ℕ, suc, _≤_, _<_}
 use native.Mathlib.Omega.{arith}
-use lib.Dec.{leb}
+use lib.Dec.{leb, eqb}
 use lib.ListN.{length, length-append}
 use borrow.Author.Tests.{leb-true, eqb-true, not-true}
+use Rattle.rules.specs.declared.Grouping.{Grouping}
+use Rattle.rules.specs.declared.Grouping.the-variants.{Iterations}
 use Rattle.syntax.specs.Bytes.{all, between}
 use Rattle.syntax.specs.Grammar.{number, Lead, Statement, assign, when, otherwise, end-if, Line, declare, give, direct, loop, inside, end-do, close}
-use Rattle.syntax.specs.Known.{Entry, cells, values, closed, turned, opened, Stmts, heading, signed, iterations, stop, set, Open, State, nothing, then-do, otherwise-after, end-if-after, stating, threads-in, processors-by, after}
+use Rattle.syntax.specs.Known.{Entry, cells, values, closed, turned, opened, Stmts, heading, signed, iterations, stop, set, Open, State, nothing, then-do, otherwise-after, end-if-after, stating, threads-in, statics-in, grouping-by, processors-by, after}
 use Rattle.syntax.specs.Conditions.{digits, inLine, names, small, limits, stands, finished, none-open}
 use Rattle.syntax.specs.Text.{read, good}
 use Rattle.syntax.specs.Follows.{Program, InOrder, learnt}
@@ -24,8 +26,9 @@ use Rattle.syntax.proofs.Accepted.{read-sound}
 
 -- ---- each line
 
-heading-sane : (j : ℕ) (t : List Entry) (p : ℕ) → j < 4 → SaneTable t → 0 < cells t → (3 ≤ j → (1 ≤ p) × (p ≤ 8)) → Sane (heading j t p)
-heading-sane j t p h k c f = record {
+heading-sane : (j : ℕ) (t : List Entry) (p : ℕ) (g : Grouping) → j < 4 → SaneTable t → 0 < cells t → (3 ≤ j → (1 ≤ p) × (p ≤ 8))
+    → Sane (heading j t p g)
+heading-sane j t p g h k c f = record {
   table = k;
   some-cells = λ _. c;
   some-processors = λ a. f a .0;
@@ -129,17 +132,18 @@ pub after-sane : (k : ℕ) (l : Line) (s : State) → stands s l ≡ true → na
 unfolding limits after
 after-sane k (declare d ds) s a n l h =
     let t = declare-sane s d ds n l (h .table) in
-    heading-sane 1 _ 0 (omega arith) t (cells-filled _ t (rw (length-append (s .table)) (omega arith))) (λ e. absurd (omega arith))
+    heading-sane 1 _ 0 Iterations (omega arith) t (cells-filled _ t (rw (length-append (s .table)) (omega arith))) (λ e. absurd (omega arith))
 after-sane k (give x i is) s a n l h =
     let p : 1 ≤ s .stage = follows-next (s .stage) 1 (in-place (give x i is) s a .0) refl in
-    heading-sane 2 _ 0 (omega arith) (give-sane s x i is n l (h .table)) (rw (give-cells x (values (i ∷ is)) (s .table)) (h .some-cells p))
+    heading-sane 2 _ 0 Iterations (omega arith) (give-sane s x i is n l (h .table)) (rw (give-cells x (values (i ∷ is)) (s .table)) (h .some-cells p))
     (λ e. absurd (omega arith))
 after-sane k (direct cs) s a n l h =
     let (f, o) = in-place (direct cs) s a in
     let q = follows-order (s .stage) 3 f .1 in
-    heading-sane 3 _ (processors-by (threads-in cs)) (omega arith) (classify-sane cs (s .table) (h .table))
+    heading-sane 3 _ (processors-by (threads-in cs)) (grouping-by (statics-in cs)) (omega arith) (classify-sane cs (s .table) (h .table))
     (rw (classify-cells cs (s .table)) (h .some-cells (omega arith)))
-    (λ _. one-thread (threads-in cs) (eqb-true (length (threads-in cs)) 1 o) (both-true (all small (inLine (direct cs))) _ l .1))
+    (λ _. one-thread (threads-in cs) (eqb-true (length (threads-in cs)) 1 (both-true (eqb (length (threads-in cs)) 1) _ o .0))
+    (both-true (all small (inLine (direct cs))) _ l .1))
 after-sane k (loop v l m j n) s a b c h = loop-sane s v l m j n k a b c h
 after-sane k (inside t) s a n l h =
     statement-sane k s h (follows-next (s .stage) 4 (in-place (inside t) s a .0) refl) t (line-sane s t n l) l

@@ -128,14 +128,23 @@ module _ {S : Type 0} (peek : S → Option Token) (skip : S → S) where
     | inl c ↦
         bound (readThreads peek skip (skip s)) _ (c .1) λ p m1 h1 k1.
         same-done (λ e u. Spells peek skip s (showClause e) u) k1 (says-sound peek skip "num_threads" s (c .0) ▸ threads-sound (skip s) m1 p h1)
-    | inr c ↦
-        bound (readKind peek skip s) _ (c .1) λ k m1 h1 k1.
-        bound (readName peek skip m1) _ k1 λ x m2 h2 k2.
-        bound (readMore peek skip f (readName peek skip) m2) _ k2 λ ys m3 h3 k3.
-        bound (expects peek skip ")" m3) _ k3 λ _ m4 h4 k4.
-        same-done (λ e u. Spells peek skip s (showClause e) u) k4
-        (kind-sound s m1 k h1
-        ▸ ((name-sound peek skip m1 h2 ▸ more-sound (readName peek skip) showName name-is f m2 m3 ys h3) ▸ expects-sound peek skip ")" m3 h4))
+    | inr c ↦ elim (chosen (says peek skip "schedule" s) _ _ (c .1)) [
+      | inl d ↦
+          bound (expects peek skip "(" (skip s)) _ (d .1) λ _ m1 h1 k1.
+          bound (wants peek skip "static" m1) _ k1 λ _ m2 h2 k2.
+          bound (expects peek skip ")" m2) _ k2 λ _ m3 h3 k3.
+          same-done (λ e u. Spells peek skip s (showClause e) u) k3
+          (says-sound peek skip "schedule" s (d .0)
+          ▸ (expects-sound peek skip "(" (skip s) h1 ▸ (wants-sound peek skip "static" m1 h2 ▸ expects-sound peek skip ")" m2 h3)))
+      | inr d ↦
+          bound (readKind peek skip s) _ (d .1) λ k m1 h1 k1.
+          bound (readName peek skip m1) _ k1 λ x m2 h2 k2.
+          bound (readMore peek skip f (readName peek skip) m2) _ k2 λ ys m3 h3 k3.
+          bound (expects peek skip ")" m3) _ k3 λ _ m4 h4 k4.
+          same-done (λ e u. Spells peek skip s (showClause e) u) k4
+          (kind-sound s m1 k h1
+          ▸ ((name-sound peek skip m1 h2 ▸ more-sound (readName peek skip) showName name-is f m2 m3 ys h3) ▸ expects-sound peek skip ")" m3 h4))
+    ]
   ]
 
   clauses-sound : (f : ℕ) → Sound peek skip (readClauses peek skip f) showClauses

@@ -7,8 +7,8 @@ use Prim.Native.Nat.{ℕ, suc, _+_}
 use lib.Dec.{ltb, leb, eqb}
 use lib.ListN.{length}
 use Rattle.syntax.specs.Bytes.{all, any, same, between}
-use Rattle.syntax.specs.Grammar.{number, Expr, expr, Terms, no-terms, terms, Term, term, Factors, no-factors, factors, Factor, literal, cell, rdiv, brackets, Ref, single, element, Declared, one, array, Item, item, Clause, clause, threads, assign, when, otherwise, end-if, Line, declare, give, direct, loop, inside, end-do, close}
-use Rattle.syntax.specs.Known.{Entry, Open, State, declaredName, declaredSize, total, signed, copies, iterations, cells, known, find, threads-in}
+use Rattle.syntax.specs.Grammar.{number, Expr, expr, Terms, no-terms, terms, Term, term, Factors, no-factors, factors, Factor, literal, cell, rdiv, brackets, Ref, single, element, Declared, one, array, Item, item, Clause, clause, threads, static, assign, when, otherwise, end-if, Line, declare, give, direct, loop, inside, end-do, close}
+use Rattle.syntax.specs.Known.{Entry, Open, State, declaredName, declaredSize, total, signed, copies, iterations, cells, known, find, threads-in, statics-in}
 
 -- ---- what a line's names and limits are judged by
 
@@ -93,6 +93,7 @@ abbrev pub clauseNames : List Clause → List (List ℕ)
 clauseNames [] = []
 clauseNames (clause k x xs ∷ cs) = x ∷ (xs ++ clauseNames cs)
 clauseNames (threads p ∷ cs) = clauseNames cs
+clauseNames (static ∷ cs) = clauseNames cs
 
 -- not "declared or given data twice, in two clauses or twice in one, ... v declared or assigned, data of the wrong count"
 abbrev pub singly : State → Line → Bool
@@ -168,11 +169,12 @@ abbrev pub none-open : List Open → Bool
 none-open [] = true
 none-open (o ∷ os) = false
 
--- `else` in an open `if`, once; `end if` where an `if` is open; `end do` where none is; "a data repeat of 0 is 2"; "`num_threads(p)` exactly once"
+-- `else` in an open `if`, once; `end if` where an `if` is open; `end do` where none is; "a data repeat of 0 is 2"; "`num_threads(p)` exactly once";
+-- "the clause `schedule(static)`, at most once"
 abbrev pub fits : List Open → Line → Bool
 fits os (declare d ds) = true
 fits os (give x i is) = all (λ j. ltb 0 (copies j)) (i ∷ is)
-fits os (direct cs) = eqb (length (threads-in cs)) 1
+fits os (direct cs) = eqb (length (threads-in cs)) 1 && leb (statics-in cs) 1
 fits os (loop v l m k n) = true
 fits os (inside (assign r e)) = true
 fits os (inside (when a r b)) = true

@@ -63,10 +63,12 @@ pub data Declared : Type 0 where
 pub data Item : Type 0 where
   item : Option (List ℕ) → Lead → List ℕ → Item
 
--- "`shared(list)`, `lastprivate(list)`, `reduction(+:list)`": "a list is one or more names parted by commas"; and "`num_threads(p)`"
+-- "`shared(list)`, `lastprivate(list)`, `reduction(+:list)`": "a list is one or more names parted by commas"; and "`num_threads(p)`".
+-- Document 02, Point 3: "the clause `schedule(static)`"
 pub data Clause : Type 0 where
   clause : ClauseKind → List ℕ → List (List ℕ) → Clause
   threads : List ℕ → Clause
+  static : Clause
 
 -- "an assignment to a cell, or `if (e rel e) then`, statements, optional `else` and statements, `end if`": each on "one line of its own".
 -- (true: `endif`)
@@ -175,6 +177,7 @@ showKind Reduction = wd "reduction" ⌢ sg "(" ⌢ sg "+" ⌢ sg ":"
 abbrev pub showClause : Clause → List Token
 showClause (clause k x xs) = showKind k ⌢ showList showName x xs ⌢ sg ")"
 showClause (threads p) = wd "num_threads" ⌢ sg "(" ⌢ showDigits p ⌢ sg ")"
+showClause static = wd "schedule" ⌢ sg "(" ⌢ wd "static" ⌢ sg ")"
 
 unfoldable pub showClauses : List Clause → List Token
 showClauses [] = []

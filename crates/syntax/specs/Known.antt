@@ -3,15 +3,17 @@
 use mathlib.Core.Bool.{Bool, true, false, cond}
 use mathlib.Core.List.{List, [], _∷_, _++_, map}
 use mathlib.Core.Option.{Option, none, some}
-use Prim.Native.Nat.{ℕ, _+_}
+use Prim.Native.Nat.{ℕ, zero, suc, _+_}
 use lib.IntN.{ℤ, pos, negsuc, negℤ, _+ℤ_, _-ℤ_}
 use lib.ListN.{replicate}
 use Rattle.int32.specs.declared.Relation.{Relation}
+use Rattle.rules.specs.declared.Grouping.{Grouping}
+use Rattle.rules.specs.declared.Grouping.the-variants.{Iterations, Blocks}
 use Rattle.rules.specs.Loop.{Class, shared, lastprivate, reduction}
 use Rattle.syntax.specs.declared.ClauseKind.{ClauseKind}
 use Rattle.syntax.specs.declared.ClauseKind.the-variants.{Shared, Lastprivate, Reduction}
 use Rattle.syntax.specs.Bytes.{any, same}
-use Rattle.syntax.specs.Grammar.{number, Lead, bare, plus, minus, Expr, Ref, Declared, one, array, Item, item, Clause, clause, threads, assign, when, otherwise, end-if, Line, declare, give, direct, loop, inside, end-do, close}
+use Rattle.syntax.specs.Grammar.{number, Lead, bare, plus, minus, Expr, Ref, Declared, one, array, Item, item, Clause, clause, threads, static, assign, when, otherwise, end-if, Line, declare, give, direct, loop, inside, end-do, close}
 
 -- ---- names
 
@@ -123,12 +125,13 @@ iterations m n = natural ((n -ℤ m) +ℤ pos 1)
 
 -- ---- the lines so far
 
--- which of 1 to 7 stood last (0 none); the names in declared order; P; v, m and the iterations; the open ifs, the innermost first; and the
--- statements so far of the part that the innermost is in
+-- which of 1 to 7 stood last (0 none); the names in declared order; P; how iterations are grouped; v, m and the iterations; the open ifs, the
+-- innermost first; and the statements so far of the part that the innermost is in
 pub record State : Type 0 where
   pub stage : ℕ
   pub table : List Entry
   pub processors : ℕ
+  pub grouping : Grouping
   pub variable : List ℕ
   pub from : ℤ
   pub count : ℕ
@@ -136,7 +139,7 @@ pub record State : Type 0 where
   pub inner : Stmts
 
 abbrev pub nothing : State
-nothing = record { stage = 0; table = []; processors = 0; variable = []; from = pos 0; count = 0; opens = []; inner = stop }
+nothing = record { stage = 0; table = []; processors = 0; grouping = Iterations; variable = []; from = pos 0; count = 0; opens = []; inner = stop }
 
 -- ---- what a good line adds
 
@@ -164,11 +167,24 @@ abbrev pub threads-in : List Clause → List (List ℕ)
 threads-in [] = []
 threads-in (clause k x xs ∷ cs) = threads-in cs
 threads-in (threads p ∷ cs) = p ∷ threads-in cs
+threads-in (static ∷ cs) = threads-in cs
 
 -- P, where it stands once
 abbrev pub processors-by : List (List ℕ) → ℕ
 processors-by [] = 0
 processors-by (p ∷ ps) = number p
+
+-- document 02, Point 3: how often `schedule(static)` stands
+abbrev pub statics-in : List Clause → ℕ
+statics-in [] = 0
+statics-in (clause k x xs ∷ cs) = statics-in cs
+statics-in (threads p ∷ cs) = statics-in cs
+statics-in (static ∷ cs) = suc (statics-in cs)
+
+-- "A text with the clause `schedule(static)` ... is tested with each processor's block as one long iteration"
+abbrev pub grouping-by : ℕ → Grouping
+grouping-by zero = Iterations
+grouping-by (suc n) = Blocks
 
 -- the class that a clause gives its names
 abbrev pub class-by : ClauseKind → Class
@@ -181,13 +197,14 @@ unfoldable pub class-in : List Clause → List ℕ → Class
 class-in [] x = shared
 class-in (clause k y ys ∷ cs) x = cond (any (same x) (y ∷ ys)) (class-by k) (class-in cs x)
 class-in (threads p ∷ cs) x = class-in cs x
+class-in (static ∷ cs) x = class-in cs x
 
 abbrev pub classify : List Clause → Entry → Entry
 classify cs e = with-class (class-in cs (e .name)) e
 
 -- a line of the part before the statements
-abbrev pub heading : ℕ → List Entry → ℕ → State
-heading k t p = record { stage = k; table = t; processors = p; variable = []; from = pos 0; count = 0; opens = []; inner = stop }
+abbrev pub heading : ℕ → List Entry → ℕ → Grouping → State
+heading k t p g = record { stage = k; table = t; processors = p; grouping = g; variable = []; from = pos 0; count = 0; opens = []; inner = stop }
 
 -- a line after `do`, of which the open ifs and the statements of the innermost part are left
 abbrev pub stating : ℕ → State → List Open → Stmts → State
@@ -195,6 +212,7 @@ stating j s os b = record {
   stage = j;
   table = s .table;
   processors = s .processors;
+  grouping = s .grouping;
   variable = s .variable;
   from = s .from;
   count = s .count;
@@ -215,13 +233,14 @@ end-if-after s (o ∷ os) = stating 5 s os (closed o (s .inner))
 
 -- line k
 unfoldable pub after : ℕ → Line → State → State
-after k (declare d ds) s = heading 1 (s .table ++ entries (cells (s .table)) (d ∷ ds)) 0
-after k (give x i is) s = heading 2 (map (give-to x (values (i ∷ is))) (s .table)) 0
-after k (direct cs) s = heading 3 (map (classify cs) (s .table)) (processors-by (threads-in cs))
+after k (declare d ds) s = heading 1 (s .table ++ entries (cells (s .table)) (d ∷ ds)) 0 Iterations
+after k (give x i is) s = heading 2 (map (give-to x (values (i ∷ is))) (s .table)) 0 Iterations
+after k (direct cs) s = heading 3 (map (classify cs) (s .table)) (processors-by (threads-in cs)) (grouping-by (statics-in cs))
 after k (loop v l m j n) s = record {
   stage = 4;
   table = s .table;
   processors = s .processors;
+  grouping = s .grouping;
   variable = v;
   from = signed l (number m);
   count = iterations (signed l (number m)) (signed j (number n));

@@ -7,7 +7,7 @@ use lib.Dec.{ltb, leb, eqb}
 use lib.IntN.{ℤ, pos, negsuc, _+ℤ_}
 use Rattle.int32.specs.Integers.{sum, difference, product, negation, quotient, related}
 use Rattle.rules.specs.Loop.{Act, read, write, update, fault, done, Class, shared, lastprivate, reduction, Loop, Partition}
-use Rattle.rules.specs.Blocks.{singles}
+use Rattle.rules.specs.Blocks.{tested}
 use Rattle.rules.specs.Cells.{cellOf}
 use Rattle.syntax.specs.Bytes.{choose, same, Token, name, other-word, digits, sign, equal}
 use Rattle.syntax.specs.Grammar.{number, Lead, bare, plus, minus, Expr, expr, Terms, no-terms, terms, Term, term, Factors, no-factors, factors, Factor, literal, cell, rdiv, brackets, Ref, single, element, showRef}
@@ -170,6 +170,6 @@ loopOf s m = record {
   zero = pos 0;
 }
 
--- each iteration by itself, over the text's processors
+-- the iterations over the text's processors, grouped as its clauses say
 unfoldable pub partitionOf : State → Partition
-partitionOf s = singles (s .count) (s .processors)
+partitionOf s = tested (s .grouping) (s .count) (s .processors)

@@ -13,7 +13,7 @@ use Rattle.int32.specs.declared.Relation.the-variants.{Equal, Unequal, Less, At
 use Rattle.syntax.specs.declared.ClauseKind.{ClauseKind}
 use Rattle.syntax.specs.declared.ClauseKind.the-variants.{Shared, Lastprivate, Reduction}
 use Rattle.syntax.specs.Bytes.{choose, same, bytes, Token, kindOf, bytesOf, sign, word-of, token-of, token-size, trimmed}
-use Rattle.syntax.specs.Grammar.{Lead, bare, plus, minus, Expr, expr, Terms, no-terms, terms, Term, term, Factors, no-factors, factors, Factor, literal, cell, rdiv, brackets, Ref, single, element, Declared, one, array, Item, item, Clause, clause, threads, assign, when, otherwise, end-if, Line, declare, give, direct, loop, inside, end-do, close}
+use Rattle.syntax.specs.Grammar.{Lead, bare, plus, minus, Expr, expr, Terms, no-terms, terms, Term, term, Factors, no-factors, factors, Factor, literal, cell, rdiv, brackets, Ref, single, element, Declared, one, array, Item, item, Clause, clause, threads, static, assign, when, otherwise, end-if, Line, declare, give, direct, loop, inside, end-do, close}
 
 -- what is read, and the place after it
 pub data Parsed (S A : Type 0) : Type 0 where
@@ -280,11 +280,20 @@ module _ {S : Type 0} (peek : S → Option Token) (skip : S → S) where
     expects ")"
     yield p
 
+  -- what follows `schedule`
+  abbrev pub readStatic : Reader S Clause
+  readStatic = do
+    expects "("
+    wants "static"
+    expects ")"
+    yield static
+
   abbrev pub readClause : ℕ → Reader S Clause
   readClause f s =
       choose (says "num_threads" s) (λ _. at (skip s) do
         p ← readThreads
-        yield (threads p)) (λ _. readListed f s)
+        yield (threads p)) (λ _.
+      choose (says "schedule" s) (λ _. readStatic (skip s)) (λ _. readListed f s))
 
   -- clauses up to the line's end
   unfoldable pub readClauses : ℕ → S → Parsed S (List Clause)

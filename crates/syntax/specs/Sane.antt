@@ -9,6 +9,7 @@ use lib.ListN.{length}
 use lib.IntN.{ℤ, pos, natAbs, _+ℤ_}
 use mir.Syntax.{w32}
 use mir.Val.{SFits}
+use Rattle.rules.specs.declared.Grouping.the-variants.{Iterations}
 use Rattle.syntax.specs.Bytes.{all}
 use Rattle.syntax.specs.Grammar.{Statement, assign, when, inside}
 use Rattle.syntax.specs.Known.{Entry, known, cells, Stmts, stop, set, if-then, if-else, Open, State}
@@ -49,7 +50,7 @@ pub record SaneTable (t : List Entry) : Type 0 where
 
 -- what names and numbers of a statement are judged by: the table and the loop's variable, which stay as they are once statements come
 abbrev pub scope : List Entry → List ℕ → State
-scope t v = record { stage = 0; table = t; processors = 0; variable = v; from = pos 0; count = 0; opens = []; inner = stop }
+scope t v = record { stage = 0; table = t; processors = 0; grouping = Iterations; variable = v; from = pos 0; count = 0; opens = []; inner = stop }
 
 -- a line of a statement: its names and numbers are in order
 pub record SaneLine (t : List Entry) (v : List ℕ) (l : Statement) : Type 0 where

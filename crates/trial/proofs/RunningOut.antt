@@ -20,8 +20,7 @@ use Rattle.stepping.specs.Carrying.{is-open, Reached, CanCarry}
 use Rattle.stepping.proofs.Opened.{opened-no}
 use Rattle.trial.specs.declared.Worker.{Worker}
 use Rattle.trial.specs.declared.Setting.{Setting}
-use Rattle.trial.specs.Standing.{dealt}
-use Rattle.trial.specs.Running.{joined, nobody, Turn, Over, roleOf, along, Ends}
+use Rattle.trial.specs.Running.{dealt, joined, nobody, Turn, Over, roleOf, along, Ends}
 use Rattle.trial.proofs.Stepping.{step-is, step-other}
 use Rattle.trial.proofs.Turns.{turn-end, turn-fault, turn-below, turn-goes, turn-went, turn-idle}
 use Rattle.stepping.specs.Carrying as carrying
@@ -109,7 +108,7 @@ module _ (l : Loop) (δ : Partition) (p : ℕ) where
 
 module _ (code : List ℕ) (g : Setting) (l : Loop) (p : ℕ) where
   abbrev δ : Partition
-  δ = dealt l (g .processors)
+  δ = dealt g
 
   abbrev x : Role
   x = roleOf g p

@@ -12,9 +12,10 @@ use mir.Val.{SFits}
 use Rattle.rules.specs.ChooseLaws.{pick-same}
 use Rattle.rules.specs.Cells.{cellOf}
 use Rattle.rules.proofs.CellsLaws.{listed-length, cell-listed}
-use Rattle.rules.specs.Loop.{fault, Class, shared, lastprivate, reduction, Loop, bound}
-use Rattle.rules.specs.Blocks.{blockStart, singles}
-use Rattle.rules.specs.Steps.{start}
+use Rattle.rules.specs.Loop.{fault, Class, shared, lastprivate, reduction, Loop, Partition, bound}
+use Rattle.rules.specs.Blocks.{blockStart}
+use Rattle.rules.proofs.BlocksLaws.{tested-bound}
+use Rattle.rules.specs.Steps.{start, steps, run-on, trial}
 use Rattle.rules.specs.Numbers.{class-number}
 use Rattle.shadow.proofs.Orderly.{start-orderly}
 use Rattle.tables.specs.Layout.{row-at}
@@ -26,10 +27,9 @@ use Rattle.tables.specs.Logged.{Logged}
 use Rattle.operands.specs.Pending.{pendings}
 use Rattle.trial.specs.declared.Worker.{Worker}
 use Rattle.trial.specs.declared.Setting.{Setting}
-use Rattle.trial.specs.Standing.{dealt, left-of}
-use Rattle.trial.specs.Running.{nobody, Run}
+use Rattle.trial.specs.Standing.{left-of}
+use Rattle.trial.specs.Running.{dealt, nobody, Run}
 use Rattle.trial.specs.Start.{Entry, Starts, Crew}
-use Rattle.trial.proofs.Turns.{bound-is}
 
 -- ---- the tables
 
@@ -38,7 +38,7 @@ class-most shared = omega arith
 class-most lastprivate = omega arith
 class-most reduction = omega arith
 
-module _ (k : ℕ) (l : Loop) (M : List ℤ) (C : List ℕ) (n : ℕ) (h : Entry k l M C n) where
+module _ (k : ℕ) (l : Loop) (δ : Partition) (M : List ℤ) (C : List ℕ) (n : ℕ) (h : Entry k l δ M C n) where
   -- how many cells there are
   pub entry-size : length M ≡ l .size
   entry-size = ap length (h .cells) ∙ listed-length (l .size) (l .entry)
@@ -62,10 +62,10 @@ module _ (k : ℕ) (l : Loop) (M : List ℤ) (C : List ℕ) (n : ℕ) (h : Entry
       let e : cellOf M c ≡ l .entry c = ap (λ (m : List ℤ). cellOf m c) (h .cells) ∙ cell-listed (l .size) (l .entry) c lt in
       rw (e, h .classes c lt) (begun-more (l .size) k (l .class) (l .entry) c W x lt (subst (SFits w32) e f))
 
-  pub entry-all : (c : ℕ) (W : List ℕ) → c ≡ length M → Begun (l .size) k (l .class) (l .entry) c W → Logged l (dealt l k) [] W
-  unfolding singles
-  entry-all c W e x = logged-nil l (dealt l k) (h .suits .plus) (h .suits .nought) W
-      (subst (λ (d : ℕ). Begun (l .size) k (l .class) (l .entry) d W) (e ∙ entry-size) x)
+  pub entry-all : (c : ℕ) (W : List ℕ) → c ≡ length M → Begun (l .size) k (l .class) (l .entry) c W → Logged l δ [] W
+  entry-all c W e x = logged-nil l δ (h .suits .plus) (h .suits .nought) W
+      (subst (λ (q : ℕ). Begun (l .size) q (l .class) (l .entry) (l .size) W) (sym (h .suits .processors))
+      (subst (λ (d : ℕ). Begun (l .size) k (l .class) (l .entry) d W) (e ∙ entry-size) x))
 
 -- ---- the records
 
@@ -78,7 +78,7 @@ crew-more ws q f b h j c = elim (ℕ-discrete j q) [
 ]
 
 pub starts-run : (code : List ℕ) (g : Setting) (l : Loop) (M : List ℤ) (C : List ℕ) (n : ℕ) → Starts code g l M C n → (W : List ℕ) (ws : List Worker)
-    → Logged l (dealt l (g .processors)) [] W → Crew g ws → Run code g l M W ws (start l (dealt l (g .processors)))
+    → Logged l (dealt g) [] W → Crew g ws → Run code g l M W ws (start l (dealt g))
 unfolding left-of pendings
 starts-run code g l M C n h W ws t r = record {
   running = record {
@@ -86,18 +86,27 @@ starts-run code g l M C n h W ws t r = record {
     iterations = h .iterations;
     standing = record {
       suits = h .entry .suits;
-      orderly = start-orderly l (dealt l (g .processors)) (h .entry .suits .proper);
+      orderly = start-orderly l (dealt g) (h .entry .suits .proper);
       cells = h .entry .cells;
       words = t;
     };
   };
-  crew = λ q b. let e : bound (dealt l (g .processors)) q ≡ blockStart (g .iterations) (g .processors) q =
-      bound-is l (g .processors) q (h .entry .suits .some) (omega arith) ∙ ap (λ (m : ℕ). blockStart m (g .processors) q) (h .iterations) in
+  crew = λ q b. let e : bound (dealt g) q ≡ blockStart (g .iterations) (g .processors) q =
+      tested-bound (g .iterations) (g .processors) (h .entry .suits .some) (g .grouping) q (omega arith) in
       rw (r q b) (record {
         holding = record { size = refl; most = omega arith };
         at = e;
         lineless = λ _. refl;
-        act = λ lt. h .coded .body (bound (dealt l (g .processors)) q) lt ∙ sym (pick-same {i = 0} refl _ _);
+        act = λ lt. h .coded .body (bound (dealt g) q) lt ∙ sym (pick-same {i = 0} refl _ _);
       });
   halted = λ q b x. absurd (omega (arith, x, ap (λ (y : Worker). y .fault) (r q b)));
 }
+
+-- ---- the whole: the schedule's steps, and then all processors to their end
+
+pub run-tried : (code : List ℕ) (g : Setting) (l : Loop) (M : List ℤ) (C : List ℕ) (n : ℕ) → Starts code g l M C n → (ps : List ℕ)
+    (M′ : List ℤ) (W′ : List ℕ) (ws : List Worker)
+    → Run code g l M′ W′ ws (run-on l (dealt g) (g .processors) (steps l (dealt g) ps (start l (dealt g)))) → Run code g l M′ W′ ws (trial l (dealt g) ps)
+unfolding trial
+run-tried code g l M C n h ps M′ W′ ws =
+    subst (λ (k : ℕ). Run code g l M′ W′ ws (run-on l (dealt g) k (steps l (dealt g) ps (start l (dealt g))))) (sym (h .entry .suits .processors))

@@ -18,14 +18,15 @@ use Rattle.shadow.proofs.Orderly.{step-keeps}
 use Rattle.tables.specs.Logged.{Logged}
 use Rattle.code.specs.Instr.{instructions, resume}
 use Rattle.operands.specs.Pending.{pendings}
-use Rattle.stepping.specs.declared.Manner.the-variants.{ByClass}
 use Rattle.stepping.specs.declared.Point.{Point}
 use Rattle.stepping.specs.declared.Role.{Role}
 use Rattle.stepping.specs.Access.{added-by}
 use Rattle.stepping.specs.Step.{Scene, scene, CanGo, Goes}
 use Rattle.stepping.proofs.Happening.{rest, can-reach, Continues, Happens, happens}
 use Rattle.stepping.proofs.Happening as happening
-use Rattle.trial.specs.Standing.{dealt, Standing, Placed, left-of, Open}
+use Rattle.trial.specs.declared.Setting.{Setting}
+use Rattle.trial.specs.Standing.{Standing, Placed, left-of}
+use Rattle.trial.specs.Running.{dealt, Open, roleOf}
 use Rattle.trial.proofs.AccessLaws.{Allowed, access-accessible, access-seen, access-stored, access-reads, access-writes, access-updates}
 
 -- ---- the step rule
@@ -64,25 +65,28 @@ module _ (l : Loop) (δ : Partition) (p : ℕ) (s : State) where
 
 -- ---- what things stand for after it
 
-module _ (code : List ℕ) (m : ℤ) (k : ℕ) (l : Loop) (M : List ℤ) (W : List ℕ) (s : State) (p : ℕ) (a : List ℤ) (t : Point)
-    (o : Open code m k l M W s p a t) (e : ℕ) where
+module _ (code : List ℕ) (g : Setting) (l : Loop) (M : List ℤ) (W : List ℕ) (s : State) (p : ℕ) (a : List ℤ) (t : Point)
+    (o : Open code g l M W s p a t) where
   abbrev δ : Partition
-  δ = dealt l k
+  δ = dealt g
+
+  abbrev m : ℤ
+  m = g .from
 
   abbrev i : ℕ
   i = t .iteration .0
 
   abbrev x : Role
-  x = record { manner = ByClass; processors = k; number = record { 0 = p }; from = m; end = record { 0 = e } }
+  x = roleOf g p
 
   abbrev z : Scene
   z = scene M W a t
 
-  here : Home l δ (o .standing .suits .proper) p i
+  here : Home l δ (o .running .standing .suits .proper) p i
   here =
-      let b = o .standing .orderly .placed p in
+      let b = o .running .standing .orderly .placed p in
       let q = o .placed .at in
-      home l δ (o .standing .suits .proper) p i (omega (arith, b, q)) (omega (arith, o .unfinished, q))
+      home l δ (o .running .standing .suits .proper) p i (omega (arith, b, q)) (omega (arith, o .unfinished, q))
 
   -- what is left
   open-act : s .places p .act ≡ rest x code z
@@ -94,36 +98,36 @@ module _ (code : List ℕ) (m : ℤ) (k : ℕ) (l : Loop) (M : List ℤ) (W : Li
       ∙ ap (λ (j : ℕ). resume (instructions code) (t .place) (pendings a (t .depth)) (m +ℤ pos j)) q
 
   -- the access is of a cell that there is
-  allowed : (c : ℕ) → c < l .size → Allowed k l M W s p i c
+  allowed : (c : ℕ) → c < l .size → Allowed g l M W s p i c
   allowed c b =
       let q = o .placed .at in
-      record { standing = o .standing; low = o .low; at = q; unfinished = omega (arith, o .unfinished, q); inside = b }
+      record { standing = o .running .standing; low = o .low; at = q; unfinished = omega (arith, o .unfinished, q); inside = b }
 
   sized : (b : Act) → rest x code z ≡ b → Sized (l .size) b
-  sized b q = subst (Sized (l .size)) (open-act ∙ q) (o .standing .orderly .sized p)
+  sized b q = subst (Sized (l .size)) (open-act ∙ q) (o .running .standing .orderly .sized p)
 
   -- the step can be made
   pub open-goes : CanGo x code z
   open-goes = record {
     holding = o .placed .holding;
-    low = omega (arith, here .inside, o .standing .suits .iterations-most);
-    fits = o .coded .fits i (here .inside);
-    reach = can-reach x code z (l .size) (sized _ refl) (λ c y. access-accessible k l M W s p i c (allowed c y) m e);
+    low = omega (arith, here .inside, o .running .standing .suits .iterations-most);
+    fits = o .running .coded .fits i (here .inside);
+    reach = can-reach x code z (l .size) (sized _ refl) (λ c y. access-accessible g l M W s p i c (allowed c y));
   }
 
   module _ (z′ : Scene) where
     abbrev After : Type 0
-    After = Standing k l (z′ .cells) (z′ .words) (step l δ p s) × Placed code m l (z′ .pending) (z′ .point) (step l δ p s .places p)
+    After = Standing (g .processors) l δ (z′ .cells) (z′ .words) (step l δ p s) × Placed code m l (z′ .pending) (z′ .point) (step l δ p s .places p)
 
     -- a step that leads to the state u
     after : (u : State) → step l δ p s ≡ u → z′ .cells ≡ listed (l .size) (u .cells) → Logged l δ (u .log) (z′ .words)
         → Placed code m l (z′ .pending) (z′ .point) (u .places p) → After
-    after u q f g h = (
+    after u q f w h = (
       record {
-        suits = o .standing .suits;
-        orderly = step-keeps l δ (o .standing .suits .proper) p s (o .standing .orderly);
+        suits = o .running .standing .suits;
+        orderly = step-keeps l δ (o .running .standing .suits .proper) p s (o .running .standing .orderly);
         cells = rw q f;
-        words = rw q g;
+        words = rw q w;
       },
       rw q h,
     )
@@ -145,38 +149,38 @@ module _ (code : List ℕ) (m : ℤ) (k : ℕ) (l : Loop) (M : List ℤ) (W : Li
 
     by : Happens x code z z′ → After
     unfolding go-on left-of pendings added-by
-    by (happening.reads c on f g h w r) =
+    by (happening.reads c on f q h w r) =
         let b = allowed c (sized _ f .0) in
         let v = given l δ (l .class c) s i c in
-        let y : rest x code z′ ≡ on v = g ∙ ap on (access-seen k l M W s p i c b m e) in
+        let y : rest x code z′ ≡ on v = q ∙ ap on (access-seen g l M W s p i c b) in
         after (moved p (access reads i c v) (on v) (s .cells) s) (step-is l δ p s (read c on) (o .unfinished) (open-act ∙ f) ∙ rw (o .placed .at))
-        (h ∙ o .standing .cells) (rw w (access-reads k l M W s p i c b m e v)) (goes-on (on v) (sym y) r)
+        (h ∙ o .running .standing .cells) (rw w (access-reads g l M W s p i c b v)) (goes-on (on v) (sym y) r)
     by (happening.writes c v y f h w r) =
         let b = allowed c (sized _ f .0) in
         after (moved p (access writes i c v) (rest x code z′) (stored (l .class c) (s .cells) c v) s)
         (step-is l δ p s (write c v (rest x code z′)) (o .unfinished) (open-act ∙ f) ∙ rw (o .placed .at))
-        (h ∙ access-stored k l M W s p i c b m e v) (rw w (access-writes k l M W s p i c b m e v y)) (goes-on _ refl r)
+        (h ∙ access-stored g l M W s p i c b v) (rw w (access-writes g l M W s p i c b v y)) (goes-on _ refl r)
     by (happening.updates c v y f h w r) =
         let b = allowed c (sized _ f .0) in
         after (moved p (access updates i c v) (rest x code z′) (s .cells) s)
         (step-is l δ p s (update c v (rest x code z′)) (o .unfinished) (open-act ∙ f) ∙ rw (o .placed .at))
-        (h ∙ o .standing .cells) (rw w (access-updates k l M W s p i c b m e v)) (goes-on _ refl r)
-    by (happening.faults n d y f h w j g u r) =
-        after s (step-is l δ p s (fault n d) (o .unfinished) (open-act ∙ f)) (h ∙ o .standing .cells) (rw w (o .standing .words)) (record {
+        (h ∙ o .running .standing .cells) (rw w (access-updates g l M W s p i c b v)) (goes-on _ refl r)
+    by (happening.faults n d y f h w j k u r) =
+        after s (step-is l δ p s (fault n d) (o .unfinished) (open-act ∙ f)) (h ∙ o .running .standing .cells) (rw w (o .running .standing .words)) (record {
           holding = r;
           at = o .placed .at ∙ sym j;
-          lineless = λ q. absurd (omega (arith, q, g, y));
-          act = λ _. open-act ∙ f ∙ rw (← g, ← u) (sym (pick-other (omega (arith, g, y)) _ _));
+          lineless = λ q. absurd (omega (arith, q, k, y));
+          act = λ _. open-act ∙ f ∙ rw (← k, ← u) (sym (pick-other (omega (arith, k, y)) _ _));
         })
-    by (happening.ends f h w j g u q d r) =
+    by (happening.ends f h w j k u q d r) =
         after (record { cells = s .cells; log = s .log; places = put (s .places) p (opening l (suc i)) })
-        (step-is l δ p s done (o .unfinished) (open-act ∙ f) ∙ rw (o .placed .at)) (h ∙ o .standing .cells) (rw w (o .standing .words))
+        (step-is l δ p s done (o .unfinished) (open-act ∙ f) ∙ rw (o .placed .at)) (h ∙ o .running .standing .cells) (rw w (o .running .standing .words))
         (rw (put-same {i = p} refl (s .places) (opening l (suc i))) (record {
           holding = record { size = r; most = omega (arith, d) };
           at = sym j;
           lineless = λ _. u;
-          act = λ lt. o .coded .body (suc i) lt ∙ rw (q, d) (sym (pick-same g _ _));
+          act = λ lt. o .running .coded .body (suc i) lt ∙ rw (q, d) (sym (pick-same k _ _));
         }))
 
     pub open-steps : Goes x code z z′ → After
-    open-steps g = by (happens x code z z′ g)
+    open-steps h = by (happens x code z z′ h)

@@ -1,5 +1,5 @@
 -- Turns of processors with their records, and a schedule of them.
-use mathlib.Core.Path.{_≡_, refl, sym, _∙_, ap, subst}
+use mathlib.Core.Path.{_≡_, refl, sym, _∙_, subst}
 use mathlib.Core.Logic.{_≢_, _⊎_, inl, inr}
 use mathlib.Core.Bool.{true, false}
 use mathlib.Core.List.{List, [], _∷_}
@@ -11,8 +11,8 @@ use lib.Seq.{getD-set-same, getD-set-other}
 use lib.IntN.{ℤ}
 use Rattle.rules.specs.ChooseLaws.{pick-other}
 use Rattle.rules.specs.Loop.{fault, Loop, Partition, bound}
-use Rattle.rules.specs.Blocks.{blockStart, singles}
-use Rattle.rules.proofs.BlocksLaws.{share-floor, start-within}
+use Rattle.rules.specs.Blocks.{blockStart}
+use Rattle.rules.proofs.BlocksLaws.{tested-bound}
 use Rattle.rules.proofs.TrialRun.{home}
 use Rattle.rules.specs.Steps.{State, step, steps}
 use Rattle.stepping.specs.declared.Role.{Role}
@@ -22,21 +22,16 @@ use Rattle.stepping.proofs.Happening.{goes-halts}
 use Rattle.stepping.proofs.Opened.{opened-yes, opened-no}
 use Rattle.trial.specs.declared.Worker.{Worker}
 use Rattle.trial.specs.declared.Setting.{Setting}
-use Rattle.trial.specs.Standing.{dealt, left-of, Open}
-use Rattle.trial.specs.Running.{point-of, joined, Held, nobody, Run, Turn, roleOf}
+use Rattle.trial.specs.Standing.{left-of}
+use Rattle.trial.specs.Running.{dealt, Open, point-of, joined, Held, nobody, Run, Turn, roleOf}
 use Rattle.trial.proofs.Stepping.{step-finished, step-stopped, step-other, open-goes, open-steps}
-
--- the first iteration of a processor, as the code has it
-pub bound-is : (l : Loop) (k p : ℕ) → 0 < k → p ≤ k → bound (dealt l k) p ≡ blockStart (l .iterations) k p
-unfolding singles
-bound-is l k p a b = omega (arith, share-floor (l .iterations) k a p b, start-within (l .iterations) k a p b)
 
 module _ (code : List ℕ) (g : Setting) (l : Loop) where
   abbrev k : ℕ
   k = g .processors
 
   abbrev δ : Partition
-  δ = dealt l k
+  δ = dealt g
 
   module _ (M : List ℤ) (W : List ℕ) (s : State) (p : ℕ) (x : Worker) (t : Turn code g l M W s p x) where
     abbrev i : ℕ
@@ -44,9 +39,7 @@ module _ (code : List ℕ) (g : Setting) (l : Loop) where
 
     -- where its block ends
     pub turn-end : bound δ (suc p) ≡ blockStart (g .iterations) k (suc p)
-    turn-end =
-        bound-is l k (suc p) (t .running .standing .suits .some) (omega (arith, t .low))
-        ∙ ap (λ (n : ℕ). blockStart n k (suc p)) (t .running .iterations)
+    turn-end = tested-bound (g .iterations) k (t .running .standing .suits .some) (g .grouping) (suc p) (omega (arith, t .low))
 
     -- what a stopped processor has left
     pub turn-fault : x .fault ≢ 0 → s .places p .at < bound δ (suc p) → s .places p .act ≡ fault (x .fault) (x .line)
@@ -71,22 +64,15 @@ module _ (code : List ℕ) (g : Setting) (l : Loop) where
       pub turn-below : s .places p .at < bound δ (suc p)
       turn-below = omega (arith, turn-end, t .held .at, opened-yes (point-of x) (blockStart (g .iterations) k (suc p)) o .1)
 
-      opens : Open code (g .from) k l M W s p (x .pending) (point-of x)
-      opens = record {
-        coded = t .running .coded;
-        standing = t .running .standing;
-        placed = t .held;
-        low = t .low;
-        unfinished = turn-below;
-        unstopped = is-unstopped;
-      }
+      opens : Open code g l M W s p (x .pending) (point-of x)
+      opens = record { running = t .running; placed = t .held; low = t .low; unfinished = turn-below; unstopped = is-unstopped }
 
       pub turn-goes : CanGo role code z
-      turn-goes = open-goes code (g .from) k l M W s p (x .pending) (point-of x) opens (blockStart (g .iterations) k (suc p))
+      turn-goes = open-goes code g l M W s p (x .pending) (point-of x) opens
 
       pub turn-went : (z′ : Scene) → Goes role code z z′ → Turn code g l (z′ .cells) (z′ .words) (step l δ p s) p (joined (z′ .pending) (z′ .point))
       turn-went z′ h =
-          let (a, b) = open-steps code (g .from) k l M W s p (x .pending) (point-of x) opens (blockStart (g .iterations) k (suc p)) z′ h in
+          let (a, b) = open-steps code g l M W s p (x .pending) (point-of x) opens z′ h in
           record {
             running = record { coded = t .running .coded; iterations = t .running .iterations; standing = a };
             low = t .low;

@@ -6,7 +6,7 @@ use Prim.Native.Nat.{ℕ, suc, _≤_, _<_}
 use lib.ListN.{length, getD, replicate}
 use lib.IntN.{ℤ, pos}
 use Rattle.rules.specs.Loop.{Loop, Partition, bound}
-use Rattle.rules.specs.Blocks.{blockStart}
+use Rattle.rules.specs.Blocks.{blockStart, tested}
 use Rattle.rules.specs.Steps.{Place, State, step, steps, run-out, run-on}
 use Rattle.stepping.specs.declared.Extent.{Extent}
 use Rattle.stepping.specs.declared.Extent.the-variants.{Once, ToTheEnd}
@@ -15,13 +15,25 @@ use Rattle.stepping.specs.declared.Point.{Point}
 use Rattle.stepping.specs.declared.Role.{Role}
 use Rattle.trial.specs.declared.Worker.{Worker}
 use Rattle.trial.specs.declared.Setting.{Setting}
-use Rattle.trial.specs.Standing.{dealt, Coded, Standing, Placed}
+use Rattle.trial.specs.Standing.{Coded, Standing, Placed}
+
+-- the iterations over the processors, grouped as the setting says
+abbrev pub dealt : Setting → Partition
+dealt g = tested (g .grouping) (g .iterations) (g .processors)
 
 -- the code, the setting, the cells and the words stand for a state of the loop's run
 pub record Running (code : List ℕ) (g : Setting) (l : Loop) (M : List ℤ) (W : List ℕ) (s : State) : Type 0 where
   pub coded : Coded code (g .from) l
   pub iterations : l .iterations ≡ g .iterations
-  pub standing : Standing (g .processors) l M W s
+  pub standing : Standing (g .processors) l (dealt g) M W s
+
+-- processor p has an iteration open, and no fault stopped it
+pub record Open (code : List ℕ) (g : Setting) (l : Loop) (M : List ℤ) (W : List ℕ) (s : State) (p : ℕ) (a : List ℤ) (t : Point) : Type 0 where
+  pub running : Running code g l M W s
+  pub placed : Placed code (g .from) l a t (s .places p)
+  pub low : p < g .processors
+  pub unfinished : s .places p .at < bound (dealt g) (suc p)
+  pub unstopped : t .fault ≡ 0
 
 -- where a processor is, by its record
 abbrev pub point-of : Worker → Point
@@ -48,7 +60,7 @@ pub record Run (code : List ℕ) (g : Setting) (l : Loop) (M : List ℤ) (W : Li
   pub running : Running code g l M W s
   pub crew : (q : ℕ) → q < g .processors → Held code g l (getD ws q nobody) (s .places q)
   -- a stopped processor is in its block
-  pub halted : (q : ℕ) → q < g .processors → 0 < getD ws q nobody .fault → s .places q .at < bound (dealt l (g .processors)) (suc q)
+  pub halted : (q : ℕ) → q < g .processors → 0 < getD ws q nobody .fault → s .places q .at < bound (dealt g) (suc q)
 
 -- ---- a step
 
@@ -57,14 +69,14 @@ pub record Turn (code : List ℕ) (g : Setting) (l : Loop) (M : List ℤ) (W : L
   pub running : Running code g l M W s
   pub low : p < g .processors
   pub held : Held code g l x (s .places p)
-  pub halted : 0 < x .fault → s .places p .at < bound (dealt l (g .processors)) (suc p)
+  pub halted : 0 < x .fault → s .places p .at < bound (dealt g) (suc p)
 
 abbrev pub HasTurn : List ℕ → Setting → List ℤ → List ℕ → ℕ → Worker → Type 0
 HasTurn code g M W p x = (l : Loop) × (s : State) × Turn code g l M W s p x
 
 -- "each names the processor that takes one step"
 abbrev pub TakesTurn : List ℕ → Setting → List ℤ → List ℕ → ℕ → Worker → List ℤ → List ℕ → Worker → Type 0
-TakesTurn code g M W p x M′ W′ x′ = (l : Loop) (s : State) → Turn code g l M W s p x → Turn code g l M′ W′ (step l (dealt l (g .processors)) p s) p x′
+TakesTurn code g M W p x M′ W′ x′ = (l : Loop) (s : State) → Turn code g l M W s p x → Turn code g l M′ W′ (step l (dealt g) p s) p x′
 
 -- ---- a schedule
 
@@ -77,13 +89,13 @@ CanFollow code g M W ws ps = (l : Loop) × (s : State) × Run code g l M W ws s 
 
 -- "In order, each names the processor that takes one step"
 abbrev pub Follows : List ℕ → Setting → List ℤ → List ℕ → List Worker → List ℕ → List ℤ → List ℕ → List Worker → Type 0
-Follows code g M W ws ps M′ W′ ws′ = (l : Loop) (s : State) → Run code g l M W ws s → Run code g l M′ W′ ws′ (steps l (dealt l (g .processors)) ps s)
+Follows code g M W ws ps M′ W′ ws′ = (l : Loop) (s : State) → Run code g l M W ws s → Run code g l M′ W′ ws′ (steps l (dealt g) ps s)
 
 -- ---- the run to the end
 
 -- a processor "to its end"
 abbrev pub RunsOut : List ℕ → Setting → List ℤ → List ℕ → ℕ → Worker → List ℤ → List ℕ → Worker → Type 0
-RunsOut code g M W p x M′ W′ x′ = (l : Loop) (s : State) → Turn code g l M W s p x → Turn code g l M′ W′ (run-out l (dealt l (g .processors)) p s) p x′
+RunsOut code g M W p x M′ W′ x′ = (l : Loop) (s : State) → Turn code g l M W s p x → Turn code g l M′ W′ (run-out l (dealt g) p s) p x′
 
 -- it was stopped, or its block is done
 abbrev pub Over : Setting → ℕ → Worker → Type 0
@@ -93,7 +105,14 @@ Over g p x = (0 < x .fault) ⊎ (blockStart (g .iterations) (g .processors) (suc
 
 -- of processor p, whose block ends before e
 abbrev pub roleTo : Setting → ℕ → ℕ → Role
-roleTo g p e = record { manner = ByClass; processors = g .processors; number = record { 0 = p }; from = g .from; end = record { 0 = e } }
+roleTo g p e = record {
+  manner = ByClass;
+  grouping = g .grouping;
+  processors = g .processors;
+  number = record { 0 = p };
+  from = g .from;
+  end = record { 0 = e };
+}
 
 abbrev pub roleOf : Setting → ℕ → Role
 roleOf g p = roleTo g p (blockStart (g .iterations) (g .processors) (suc p))
@@ -113,7 +132,7 @@ Ends ToTheEnd g p y = Over g p y
 
 pub record Carried (k : Extent) (code : List ℕ) (g : Setting) (M : List ℤ) (W : List ℕ) (p : ℕ) (y : Worker) (M′ : List ℤ) (W′ : List ℕ) (y′ : Worker)
     : Type 0 where
-  pub turns : (l : Loop) (s : State) → Turn code g l M W s p y → Turn code g l M′ W′ (along k l (dealt l (g .processors)) p s) p y′
+  pub turns : (l : Loop) (s : State) → Turn code g l M W s p y → Turn code g l M′ W′ (along k l (dealt g) p s) p y′
   pub ends : Ends k g p y′
 
 abbrev pub Carries : Extent → List ℕ → Role → List ℤ → List ℕ → Worker → List ℤ → List ℕ → Worker → Type 0
@@ -130,4 +149,4 @@ CanRun code g M W ws = (l : Loop) × (s : State) × Run code g l M W ws s
 
 -- "After the list, processors run to their end in number order"
 abbrev pub RunsOn : List ℕ → Setting → List ℤ → List ℕ → List Worker → List ℤ → List ℕ → List Worker → Type 0
-RunsOn code g M W ws M′ W′ ws′ = (l : Loop) (s : State) → Run code g l M W ws s → Run code g l M′ W′ ws′ (run-on l (dealt l (g .processors)) (g .processors) s)
+RunsOn code g M W ws M′ W′ ws′ = (l : Loop) (s : State) → Run code g l M W ws s → Run code g l M′ W′ ws′ (run-on l (dealt g) (g .processors) s)

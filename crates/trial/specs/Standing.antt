@@ -1,7 +1,7 @@
 -- What the lent cells, the workspace's words and a processor's record stand for: a state of the step rule (crates/rules, Steps). The rule itself is there.
 use mathlib.Core.Path.{_≡_}
 use mathlib.Core.List.{List, []}
-use Prim.Native.Nat.{ℕ, suc, _≤_, _<_}
+use Prim.Native.Nat.{ℕ, _≤_, _<_}
 use mir.Syntax.{w32}
 use mir.Val.{SFits}
 use lib.ListN.{length}
@@ -9,8 +9,7 @@ use lib.IntN.{ℤ, pos, _+ℤ_}
 use Rattle.int32.specs.Integers.{sum}
 use Rattle.rules.specs.Choose.{pick}
 use Rattle.rules.specs.Cells.{listed}
-use Rattle.rules.specs.Loop.{Act, fault, Loop, Partition, bound}
-use Rattle.rules.specs.Blocks.{singles}
+use Rattle.rules.specs.Loop.{Act, fault, Loop, Partition}
 use Rattle.rules.specs.Log.{Log}
 use Rattle.rules.specs.Proper.{Proper}
 use Rattle.rules.specs.Steps.{Place, State}
@@ -22,17 +21,15 @@ use Rattle.stepping.specs.declared.Point.{Point}
 
 -- ---- the loop
 
--- its iterations, each by itself, over k processors
-abbrev pub dealt : Loop → ℕ → Partition
-dealt l k = singles (l .iterations) k
-
--- a loop over k processors, within document 01's limits
-pub record Suits (k : ℕ) (l : Loop) : Type 0 where
-  pub proper : Proper l (dealt l k)
+-- a loop dealt out over k processors, however its iterations are grouped, within document 01's limits
+pub record Suits (k : ℕ) (l : Loop) (δ : Partition) : Type 0 where
+  pub proper : Proper l δ
+  pub processors : δ .processors ≡ k
   pub plus : l .plus ≡ sum
   pub nought : l .zero ≡ pos 0
   pub cells-most : l .size ≤ 4096
   pub iterations-most : l .iterations ≤ 65535
+  pub groups-most : δ .groups ≤ 65535
   pub some : 0 < k
   pub most : k ≤ 8
 
@@ -44,22 +41,22 @@ pub record Coded (code : List ℕ) (m : ℤ) (l : Loop) : Type 0 where
 -- ---- a state
 
 -- the cells and the words stand for it
-pub record Standing (k : ℕ) (l : Loop) (M : List ℤ) (W : List ℕ) (s : State) : Type 0 where
-  pub suits : Suits k l
-  pub orderly : Orderly l (dealt l k) s
+pub record Standing (k : ℕ) (l : Loop) (δ : Partition) (M : List ℤ) (W : List ℕ) (s : State) : Type 0 where
+  pub suits : Suits k l δ
+  pub orderly : Orderly l δ s
   pub cells : M ≡ listed (l .size) (s .cells)
-  pub words : Logged l (dealt l k) (s .log) W
+  pub words : Logged l δ (s .log) W
 
--- for some loop and state
+-- for some loop, dealt out in some way, and some state
 abbrev pub Stands : ℕ → List ℤ → List ℕ → Type 0
-Stands k M W = (l : Loop) × (s : State) × Standing k l M W s
+Stands k M W = (l : Loop) × (δ : Partition) × (s : State) × Standing k l δ M W s
 
 -- the words keep the entry values, whatever is noted in them
-pub record Kept (k : ℕ) (l : Loop) (M : List ℤ) (W : List ℕ) : Type 0 where
-  pub suits : Suits k l
+pub record Kept (k : ℕ) (l : Loop) (δ : Partition) (M : List ℤ) (W : List ℕ) : Type 0 where
+  pub suits : Suits k l δ
   pub size : length M ≡ l .size
   pub log : Log
-  pub words : Logged l (dealt l k) log W
+  pub words : Logged l δ log W
 
 -- what is left of an iteration by a processor's record: its pending values are in a
 unfoldable pub left-of : List ℕ → ℤ → List ℤ → Point → Act
@@ -71,12 +68,3 @@ pub record Placed (code : List ℕ) (m : ℤ) (l : Loop) (a : List ℤ) (t : Poi
   pub at : w .at ≡ t .iteration .0
   pub lineless : t .fault ≡ 0 → t .line ≡ 0
   pub act : w .at < l .iterations → w .act ≡ left-of code (m +ℤ pos (w .at)) a t
-
--- processor p has an iteration open, and no fault stopped it
-pub record Open (code : List ℕ) (m : ℤ) (k : ℕ) (l : Loop) (M : List ℤ) (W : List ℕ) (s : State) (p : ℕ) (a : List ℤ) (t : Point) : Type 0 where
-  pub coded : Coded code m l
-  pub standing : Standing k l M W s
-  pub placed : Placed code m l a t (s .places p)
-  pub low : p < k
-  pub unfinished : s .places p .at < bound (dealt l k) (suc p)
-  pub unstopped : t .fault ≡ 0

@@ -5,7 +5,8 @@ ghost use Prim.Native.Nat.{_<_, _≤_};
 ghost use lib.ListN.{length};
 ghost use Rattle.trial.specs.Running.{roleOf, waiting, HasTurn, TakesTurn, HasRole, Carries, CanFollow, Follows, RunsOut, Over, AllOver, CanRun, RunsOn};
 ghost use Rattle.trial.specs.Start.{Entry, Enters, Crew, CanBegin, Begins, CanTry, Tries};
-ghost use Rattle.rules.specs.Loop.{Loop};
+ghost use Rattle.rules.specs.Loop.{Loop, Partition};
+use rules::Grouping;
 use rules::Iteration;
 use rules::Processor;
 use stepping::Extent;
@@ -23,9 +24,11 @@ pub struct Worker {
     pub line: u32,
 }
 
-// What is fixed in a run: how many processors and iterations there are, and the first value of the loop's variable.
+// What is fixed in a run: how many processors there are, how their iterations are grouped, how many iterations there are, and the first value of the loop's
+// variable.
 pub struct Setting {
     pub processors: u32,
+    pub grouping: Grouping,
     pub iterations: u32,
     pub from: i32,
 }
@@ -39,8 +42,10 @@ fn role_of(setting: Setting, p: Processor) -> Role
 {
     let after = Processor(p.0 + 1);
     let end = rules::block_start(setting.iterations, setting.processors, after);
+    let grouping = setting.grouping;
     Role {
         manner: Manner::ByClass,
+        grouping: grouping,
         processors: setting.processors,
         number: p,
         from: setting.from,
@@ -201,7 +206,7 @@ pub fn run_on(
 
 // The tables of no access: the entry value and the class of each cell.
 pub fn enter(processors: u32, cells: &[i32], classes: &[u32], w: &mut [u32])
-    requires { ⌜ ((l : Loop) × Entry processors l (now cells) (now classes) (length (now w))) ⌝ }
+    requires { ⌜ ((l : Loop) × (δ : Partition) × Entry processors l δ (now cells) (now classes) (length (now w))) ⌝ }
     ensures { λ _. ⌜ Enters processors (now (cells .entry)) (now (classes .entry)) (length (now (w .entry))) (now (w .exit)) ⌝ }
 {
     tables::clear(w);

@@ -17,8 +17,7 @@ use Rattle.code.specs.Instr.{words}
 use Rattle.code.specs.Compile.{codeOf}
 use Rattle.trial.specs.declared.Setting.{Setting}
 use Rattle.trial.specs.declared.Worker.{Worker}
-use Rattle.trial.specs.Standing.{dealt}
-use Rattle.trial.specs.Running.{Run, AllOver}
+use Rattle.trial.specs.Running.{dealt, Run, AllOver}
 use Rattle.trial.specs.Start.{Starts, Tries as TriesLoop}
 use Rattle.outcome.specs.Leaves.{Leaves}
 use Rattle.trial.specs.Standing.{Stands}
@@ -29,8 +28,9 @@ use Rattle.rules.specs.Steps as rule
 use Rattle.preparing.specs.declared.Ready.{Ready}
 use Rattle.trying.specs.declared.Tried.{Tried}
 use Rattle.answers.specs.Answers.{fitNumber, runNumber}
-use Rattle.trying.specs.Trial.{settingOf, untriedOf, TriesBy, TrialOf}
-use Rattle.preparing.proofs.Beginning.{Accepted, number-as, code-as, begins}
+use Rattle.trying.specs.Trial.{untriedOf, TriesBy, TrialOf}
+use Rattle.setup.specs.Settings.{settingOf}
+use Rattle.preparing.proofs.Beginning.{Accepted, number-as, code-as, begins, setting-is as setting-as}
 use Rattle.fitting.proofs.Fits.{Fits, fit-zero}
 
 module _ (text : List ℕ) (M : List ℤ) (W ps : List ℕ) (t : Tried) where
@@ -74,27 +74,27 @@ module _ (text : List ℕ) (M : List ℤ) (W ps : List ℕ) (t : Tried) where
       code-is = code-as text r K C a
 
       setting-is : r .setting ≡ settingOf s
-      setting-is = λ i. record { processors = a .prepares .processors i; iterations = a .prepares .iterations i; from = a .prepares .from i }
+      setting-is = setting-as text r K C a M (length W) ps fit
 
       module _ (M′ : List ℤ) (W′ : List ℕ) (ws : List Worker) (f b : Bool) (tl : TriesLoop K′ (r .setting) M C ps (length W) M′ W′ ws)
           (ov : AllOver (r .setting) ws) (fl : Fails (r .setting .processors) ws f) where
         -- what is said of code k and setting g
         Said : List ℕ → Setting → Type 0
         Said k g =
-            Run k g l M′ W′ ws (rule.trial l (dealt l (g .processors)) ps)
-            × Leaves k g l (rule.trial l (dealt l (g .processors)) ps) M′ W′ ws
-            × (Faulty (dealt l (g .processors)) (rule.trial l (dealt l (g .processors)) ps) ↔ (f ≡ true))
-            × (Judges (g .processors) M′ W′ b → Obstructed l (dealt l (g .processors) .group) (rule.trial l (dealt l (g .processors)) ps .log) ↔ (b ≡ true))
+            Run k g l M′ W′ ws (rule.trial l (dealt g) ps)
+            × Leaves k g l (rule.trial l (dealt g) ps) M′ W′ ws
+            × (Faulty (dealt g) (rule.trial l (dealt g) ps) ↔ (f ≡ true))
+            × (Judges (g .processors) M′ W′ b → Obstructed l (dealt g .group) (rule.trial l (dealt g) ps .log) ↔ (b ≡ true))
 
         said : Said K′ (r .setting)
         unfolding Said
         said =
-            let δ = dealt l (r .setting .processors) in
+            let δ = dealt (r .setting) in
             let run = tl l starts-now in (
               run,
               run-leaves K′ (r .setting) l M′ W′ ws (rule.trial l δ ps) run ov,
               fails-right K′ (r .setting) l M′ W′ ws (rule.trial l δ ps) run ov f fl,
-              λ jd. jd l (rule.trial l δ ps) (run .running .standing),
+              λ jd. jd l δ (rule.trial l δ ps) (run .running .standing),
             )
 
         said-of : Said (words (codeOf s)) (settingOf s)
@@ -123,6 +123,7 @@ pub stands-there : (text : List ℕ) (M : List ℤ) (W ps : List ℕ) (r : Ready
 stands-there text M W ps r K C a z M′ W′ ws tl =
     let l = loopOf (a .state) M in (
       l,
-      rule.trial l (dealt l (r .setting .processors)) ps,
+      dealt (r .setting),
+      rule.trial l (dealt (r .setting)) ps,
       tl l (begins text r K C a M (length W) ps (fit-zero (r .cells) (r .setting .processors) (length M) (length W) ps z)) .running .standing,
     )

@@ -13,14 +13,11 @@ use Rattle.syntax.specs.Text.{Verdict, refused, good}
 use Rattle.syntax.specs.Meaning.{loopOf, partitionOf}
 use Rattle.code.specs.Instr.{words}
 use Rattle.code.specs.Compile.{codeOf}
-use Rattle.trial.specs.declared.Setting.{Setting}
+use Rattle.setup.specs.Settings.{settingOf}
 use Rattle.trial.specs.Running.{waiting, Run}
 use Rattle.outcome.specs.Leaves.{Leaves}
 use Rattle.trying.specs.declared.Tried.{Tried}
 use Rattle.answers.specs.Answers.{runNumber}
-
-abbrev pub settingOf : State → Setting
-settingOf s = record { processors = s .processors; iterations = s .count; from = s .from }
 
 -- the trial of the text of s, over the cells M, under the schedule ps: the cells M′, the words W′ and the records that it leaves
 pub record Tries (s : State) (M : List ℤ) (ps : List ℕ) (r : Tried) (M′ : List ℤ) (W′ : List ℕ) : Type 0 where

@@ -12,8 +12,7 @@ use Rattle.rules.specs.Steps.{start, steps}
 use Rattle.rules.proofs.CellsLaws.{listed-length}
 use Rattle.trial.specs.declared.Setting.{Setting}
 use Rattle.trial.specs.declared.Worker.{Worker}
-use Rattle.trial.specs.Standing.{dealt}
-use Rattle.trial.specs.Running.{Run, Follows, CanFollow}
+use Rattle.trial.specs.Running.{dealt, Run, Follows, CanFollow}
 use Rattle.trial.specs.Start.{Starts, CanTry, Begins}
 use Rattle.trial.specs.Standing.{Stands}
 use Rattle.view.specs.View.{Shown}
@@ -27,24 +26,24 @@ shown-look l δ ps v e = e
 
 module _ (code : List ℕ) (g : Setting) (M : List ℤ) (C ps : List ℕ) (n : ℕ) (W′ : List ℕ) (ws : List Worker) (b : Begins g M C n W′ ws) where
   pub can-follow : CanTry code g M C ps n → CanFollow code g M W′ ws ps
-  can-follow (l, st, nm) = (l, start l (dealt l (g .processors)), b code l st, nm)
+  can-follow (l, st, nm) = (l, start l (dealt g), b code l st, nm)
 
   module _ (M″ : List ℤ) (W″ : List ℕ) (ws′ : List Worker) (f : Follows code g M W′ ws ps M″ W″ ws′) where
-    after : (l : Loop) → Starts code g l M C n → Run code g l M″ W″ ws′ (steps l (dealt l (g .processors)) ps (start l (dealt l (g .processors))))
-    after l st = f l (start l (dealt l (g .processors))) (b code l st)
+    after : (l : Loop) → Starts code g l M C n → Run code g l M″ W″ ws′ (steps l (dealt g) ps (start l (dealt g)))
+    after l st = f l (start l (dealt g)) (b code l st)
 
     pub can-show : CanTry code g M C ps n → Stands (g .processors) M″ W″
-    can-show (l, st, nm) = (l, steps l (dealt l (g .processors)) ps (start l (dealt l (g .processors))), after l st .running .standing)
+    can-show (l, st, nm) = (l, dealt g, steps l (dealt g) ps (start l (dealt g)), after l st .running .standing)
 
     pub same-size : CanTry code g M C ps n → length M″ ≡ length M
     same-size (l, st, nm) =
         ap length (after l st .running .standing .cells)
-        ∙ listed-length (l .size) (steps l (dealt l (g .processors)) ps (start l (dealt l (g .processors))) .cells)
+        ∙ listed-length (l .size) (steps l (dealt g) ps (start l (dealt g)) .cells)
         ∙ sym (ap length (st .entry .cells) ∙ listed-length (l .size) (l .entry))
 
     pub shows-after : (U : List ℕ) → Shown (g .processors) M″ W″ U → ShowsAfter code g M C ps n U
-    shows-after U sh l st = shown-look l (dealt l (g .processors)) ps U
-        (sh l (steps l (dealt l (g .processors)) ps (start l (dealt l (g .processors)))) (after l st .running .standing))
+    shows-after U sh l st = shown-look l (dealt g) ps U
+        (sh l (dealt g) (steps l (dealt g) ps (start l (dealt g))) (after l st .running .standing))
 
 -- the cells at the front of a longer list
 module _ (own : List ℤ) (M : List ℤ) (e : take (length M) own ≡ M) where

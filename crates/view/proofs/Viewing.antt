@@ -10,8 +10,7 @@ use lib.IntN.{ℤ}
 use Rattle.int32.specs.Integers.{word}
 use Rattle.rules.specs.Cells.{cellOf}
 use Rattle.rules.proofs.CellsLaws.{cell-listed}
-use Rattle.rules.specs.Loop.{Loop}
-use Rattle.rules.specs.Blocks.{singles}
+use Rattle.rules.specs.Loop.{Loop, Partition}
 use Rattle.rules.specs.Marks.{marks}
 use Rattle.rules.specs.Steps.{State}
 use Rattle.rules.specs.Answer.{viewed}
@@ -19,7 +18,7 @@ use Rattle.shadow.proofs.Shows.{tables-right}
 use Rattle.tables.specs.Layout.{row-at}
 use Rattle.findings.specs.Findings.{marks-of}
 use Rattle.findings.proofs.Logged.{logged-marks}
-use Rattle.trial.specs.Standing.{dealt, Standing}
+use Rattle.trial.specs.Standing.{Standing}
 use Rattle.trial.proofs.StandingLaws.{standing-size}
 
 -- the first c cells are shown by f and g
@@ -61,14 +60,14 @@ showing-all (x ∷ y ∷ B) (suc n) m k e s =
         let q : 2 * suc j + 1 ≡ suc (suc (2 * j + 1)) = omega arith in
         (ap (λ (d : ℕ). getD (x ∷ y ∷ B) d 0) (sym p) ∙ t .0, ap (λ (d : ℕ). getD (x ∷ y ∷ B) d 0) (sym q) ∙ t .1)
 
-module _ (k : ℕ) (l : Loop) (M : List ℤ) (W : List ℕ) (s : State) (h : Standing k l M W s) where
+module _ (k : ℕ) (l : Loop) (δ : Partition) (M : List ℤ) (W : List ℕ) (s : State) (h : Standing k l δ M W s) where
   pub standing-shown : (B : List ℕ) → length B ≡ 2 * length M → Showing B (length M) (λ j. word (cellOf M j)) (λ c. marks-of W (row-at k c))
-      → B ≡ viewed (l .size) (s .cells) (λ c. marks (dealt l k .group) c (s .log))
-  unfolding singles
-  standing-shown B e v = showing-all B (l .size) (s .cells) (λ c. marks (dealt l k .group) c (s .log)) (omega (arith, standing-size k l M W s h)) (λ j b.
-      let w = v j (omega (arith, standing-size k l M W s h)) in (
+      → B ≡ viewed (l .size) (s .cells) (λ c. marks (δ .group) c (s .log))
+  standing-shown B e v = showing-all B (l .size) (s .cells) (λ c. marks (δ .group) c (s .log)) (omega (arith, standing-size k l δ M W s h)) (λ j b.
+      let w = v j (omega (arith, standing-size k l δ M W s h)) in (
         w .0 ∙ ap word (ap (λ (m : List ℤ). cellOf m j) (h .cells) ∙ cell-listed (l .size) (s .cells) j b),
         w .1
-            ∙ logged-marks l (dealt l k) (s .log) W (h .words)
-            (tables-right l (dealt l k) (h .suits .proper) (s .log) (h .orderly .inside) (h .orderly .ascending)) j b,
+            ∙ ap (λ (q : ℕ). marks-of W (row-at q j)) (sym (h .suits .processors))
+            ∙ logged-marks l δ (s .log) W (h .words)
+            (tables-right l δ (h .suits .proper) (s .log) (h .orderly .inside) (h .orderly .ascending)) j b,
       ))

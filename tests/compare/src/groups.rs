@@ -1,7 +1,7 @@
 //! The groups of texts that are compared.
 
 use generate::tables::{arguments, data, text_rows};
-use generate::{damage, hostile, lend, noise, Knobs, Loop, Rng};
+use generate::{damage, hostile, lend, neighbours, noise, Knobs, Loop, Rng};
 use reference::Refusal;
 
 use crate::fortran;
@@ -89,13 +89,16 @@ fn lent() -> bool {
     tally.report()
 }
 
-/// A random loop, at times a hostile one.
+/// A random loop, at times a hostile one or one whose neighbours meet.
 pub fn drawn(rng: &mut Rng) -> Loop {
-    if rng.chance(10) {
-        return hostile::hostile(rng);
+    match rng.below(20) {
+        0 | 1 => hostile::hostile(rng),
+        2 => neighbours::neighbours(rng),
+        _ => {
+            let knobs = Knobs::mixed(rng);
+            Loop::random(rng, &knobs)
+        }
     }
-    let knobs = Knobs::mixed(rng);
-    Loop::random(rng, &knobs)
 }
 
 /// Random loops: against what their maker knows of them and against the reference.

@@ -2,7 +2,7 @@
 
 use generate::tables::looks;
 use generate::tables::runs::{rows, Ran};
-use generate::{damage, hostile, lend, Loop, Rng};
+use generate::{damage, hostile, lend, neighbours, Loop, Rng};
 use reference::{workspace_needed, Answer, Refusal, Serial};
 
 use crate::groups::drawn;
@@ -111,21 +111,31 @@ pub fn look_as_reference(text: &mut Text, lent: &Lent) {
     look(text, lent, view.len(), Ok(&view));
 }
 
-/// A random loop, often one in which speculation and the serial run meet different faults.
+/// A random loop, often one in which speculation and the serial run meet different faults or one whose
+/// neighbours meet.
 pub fn drawn_to_run(rng: &mut Rng) -> Loop {
-    if rng.chance(20) {
-        return hostile::hostile(rng);
+    match rng.below(20) {
+        0..=4 => hostile::hostile(rng),
+        5..=7 => neighbours::neighbours(rng),
+        _ => drawn(rng),
     }
-    drawn(rng)
 }
 
-/// Each loop of the seeds, for its own and two other numbers of processors, with the cells of its data
-/// or any others, under schedules.
+/// The loop of a seed, the numbers of processors to run it for, its own, a small and any other one, and the
+/// seed's source for the rest.
+fn loop_of(seed: u64) -> (Loop, [usize; 3], Rng) {
+    let mut rng = Rng::new(seed);
+    let made = drawn_to_run(&mut rng);
+    let numbers = [made.processors, 1 + rng.below(3), 1 + rng.below(8)];
+    (made, numbers, rng)
+}
+
+/// Each loop of the seeds, for several numbers of processors, with the cells of its data or any others,
+/// under schedules.
 fn random(tally: &mut Tally, seeds: u64, compare: fn(&mut Text, &Lent)) {
     for seed in 0..seeds {
-        let mut rng = Rng::new(seed);
-        let made = drawn_to_run(&mut rng);
-        for processors in [made.processors, 1 + rng.below(8), 1 + rng.below(8)] {
+        let (made, numbers, mut rng) = loop_of(seed);
+        for processors in numbers {
             let bytes = made.with_processors(processors).text();
             if bytes.len() > 2048 {
                 continue;
@@ -178,8 +188,53 @@ fn run_and_count(text: &mut Text, lent: &Lent) {
     text.count("A fault", Ok(word));
 }
 
-/// Random loops: Run against the serial run. Each end, and each way in which speculation and the serial
-/// run are at odds, must be frequent.
+/// Run over the cells of the loop's data, held to its serial run, which is returned.
+fn run_on_data(tally: &mut Tally, seed: u64, made: &Loop, rng: &mut Rng) -> Serial {
+    let bytes = made.text();
+    let serial = reference::serial(&bytes, &made.cells).expect("a good text");
+    let name = format!("seed {seed}, {} processors", made.processors);
+    let lent = Lent {
+        cells: &made.cells,
+        workspace: &workspace(rng, made.cells.len(), made.processors),
+        schedule: &lend::schedule(rng, made.processors),
+    };
+    run_as_settled(&mut tally.next(&name, &bytes), &lent, &serial);
+    serial
+}
+
+/// One loop over the same cells, without the clause and for its numbers of processors. "Of what Run answers
+/// and leaves in the cells, the processor count may change that result alone, and only in these texts"
+/// (document 02, Point 3). What passes by iterations, without the clause, passes by blocks (P3.13).
+fn compare_processors(tally: &mut Tally, seed: u64) {
+    let (made, numbers, mut rng) = loop_of(seed);
+    let bytes = made.text();
+    if bytes.len() > 2048 {
+        return;
+    }
+    let iterations = run_on_data(tally, seed, &made.with_blocks(false), &mut rng);
+    let runs = numbers.map(|p| run_on_data(tally, seed, &made.with_processors(p), &mut rng));
+    let name = format!("seed {seed}, processors {numbers:?}");
+    let mut text = tally.next(&name, &bytes);
+    for (ran, processors) in runs.iter().zip(numbers) {
+        let what = format!("{processors} processors and iterations by themselves");
+        text.compare(&what, &ran.ending(), &iterations.ending());
+        if !made.by_blocks || iterations.passes() {
+            text.compare(&what, &ran.passes(), &iterations.passes());
+        }
+    }
+    if made.by_blocks {
+        let words = runs.map(|ran| ran.passes());
+        let word = match (words.contains(&true), words.contains(&false)) {
+            (true, true) => "whose word differs",
+            (true, false) if !iterations.passes() => "that passes by blocks alone",
+            _ => "with one word",
+        };
+        text.count("By blocks a loop", Ok(word));
+    }
+}
+
+/// Random loops: Run against the serial run. Each end, each way in which speculation and the serial run
+/// are at odds, and loops that pass for some numbers of processors alone must be frequent.
 pub fn random_runs() -> bool {
     let mut tally = Tally::new(&format!("runs of the seeds 0 to {}", RUNS - 1));
     random(&mut tally, RUNS, run_and_count);
@@ -191,7 +246,9 @@ pub fn random_runs() -> bool {
         & has("A fault", &["in speculation alone"], 2)
         & has("A fault", &["in the serial run alone"], 2)
         & has("With minus updates a loop", &["now passes"], 3);
-    good & frequent
+    let mut tally = Tally::new(&format!("blocks of the seeds 0 to {}", RUNS - 1));
+    (0..RUNS).for_each(|seed| compare_processors(&mut tally, seed));
+    good & frequent & tally.report() & tally.has("By blocks a loop", &["whose word differs"], 15)
 }
 
 /// Random loops: Look against the reference's.

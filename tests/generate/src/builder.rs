@@ -101,7 +101,7 @@ impl<'r> Builder<'r> {
     }
 
     fn choose_names(&mut self) {
-        const POOL: [&str; 33] = [
+        const POOL: [&str; 35] = [
             "a",
             "b",
             "c",
@@ -123,6 +123,8 @@ impl<'r> Builder<'r> {
             "shared",
             "lastprivate",
             "reduction",
+            "schedule",
+            "static",
             "omp",
             "elseif",
             "call",
@@ -291,7 +293,7 @@ impl<'r> Builder<'r> {
 
     /// Clauses in any order; the names of a clause in one list or in several.
     fn directive(&mut self) {
-        let mut clauses = vec!["num_threads(@)".to_string()];
+        let mut clauses = vec!["num_threads(@)".to_string(), "%".to_string()];
         for clause in [SHARED, LASTPRIVATE, REDUCTION] {
             let mut names: Vec<String> = self
                 .names

@@ -1,15 +1,16 @@
 //! Good texts with something changed: bytes, tokens or lines taken out, doubled, swapped or put in,
-//! names, literals and signs exchanged, the length brought near its limit.
+//! names, literals and signs exchanged, a clause put in, the length brought near its limit.
 
 use crate::layout::split_tokens;
 use crate::rng::Rng;
 
-/// The text with something changed: one name, literal or sign for another, or the length, or up to three
-/// bytes, tokens or lines. It may happen to be good still.
+/// The text with something changed: one name, literal or sign for another, or a clause, or the length, or
+/// up to three bytes, tokens or lines. It may happen to be good still.
 pub fn damage(text: &[u8], rng: &mut Rng) -> Vec<u8> {
-    match rng.below(10) {
+    match rng.below(12) {
         0..=4 => exchange_token(text, rng),
         5 => pad(text, rng),
+        6 | 7 => put_in_clause(text, rng),
         _ => break_up(text, rng),
     }
 }
@@ -84,6 +85,51 @@ fn exchange_token(text: &[u8], rng: &mut Rng) -> Vec<u8> {
     lines.join("\n").into_bytes()
 }
 
+/// Puts a clause `schedule(static)`, or something like it, between the clauses of the directive
+/// (document 02, Point 3). Without the clause before, the good one leaves the text good.
+fn put_in_clause(text: &[u8], rng: &mut Rng) -> Vec<u8> {
+    const CLAUSES: [&str; 18] = [
+        "schedule(static)",
+        "schedule(static)",
+        "SCHEDULE ( STATIC )",
+        "schedule(dynamic)",
+        "schedule(static, 1)",
+        "schedule(static static)",
+        "schedule()",
+        "schedule((static))",
+        "schedule(+:static)",
+        "schedule(schedule)",
+        "schedule(a)",
+        "schedule(1)",
+        "schedule",
+        "schedule static",
+        "schedule(static",
+        "static",
+        "static(schedule)",
+        "(static)",
+    ];
+    let Ok(whole) = std::str::from_utf8(text) else {
+        return break_up(text, rng);
+    };
+    let mut lines: Vec<&str> = whole.split('\n').collect();
+    let is_directive = |line: &&str| {
+        let words = split_tokens(line);
+        words.len() > 3 && words[1].eq_ignore_ascii_case("parallel")
+    };
+    let Some(place) = lines.iter().position(is_directive) else {
+        return break_up(text, rng);
+    };
+    // A clause begins after `do` and after the end of another.
+    let mut tokens = split_tokens(lines[place]);
+    let begins: Vec<usize> = (3..=tokens.len())
+        .filter(|&next| next == 3 || tokens[next - 1] == ")")
+        .collect();
+    tokens.insert(rng.pick(&begins), rng.pick(&CLAUSES));
+    let line = tokens.join(" ");
+    lines[place] = &line;
+    lines.join("\n").into_bytes()
+}
+
 fn is_literal(token: &str) -> bool {
     token.starts_with(|c: char| c.is_ascii_digit())
 }
@@ -137,13 +183,14 @@ fn damage_bytes(text: &[u8], rng: &mut Rng) -> Vec<u8> {
 }
 
 fn damage_lines(text: &[u8], rng: &mut Rng) -> Vec<u8> {
-    const LINES: [&str; 16] = [
+    const LINES: [&str; 17] = [
         "",
         "! x",
         "integer zz",
         "integer a, a",
         "data a /1/",
         "!$omp parallel do num_threads(2)",
+        "!$omp parallel do num_threads(2) schedule(static)",
         "!$omp end parallel do",
         "!$omp",
         "do i = 1, 4",
@@ -162,7 +209,7 @@ fn damage_lines(text: &[u8], rng: &mut Rng) -> Vec<u8> {
 
 /// Changes one token of one line. The line's blanks become single ones.
 fn damage_tokens(text: &[u8], rng: &mut Rng) -> Vec<u8> {
-    const TOKENS: [&str; 34] = [
+    const TOKENS: [&str; 36] = [
         "(",
         ")",
         ",",
@@ -196,6 +243,8 @@ fn damage_tokens(text: &[u8], rng: &mut Rng) -> Vec<u8> {
         "if",
         "then",
         "shared",
+        "schedule",
+        "static",
         "!",
     ];
     let mut lines: Vec<Vec<u8>> = text.split(|&b| b == b'\n').map(<[u8]>::to_vec).collect();

@@ -30,6 +30,13 @@ fn lines(text: &str) -> Vec<String> {
     text.lines().map(|line| line.trim().to_string()).collect()
 }
 
+/// The directive with this clause, in any order.
+fn directive(rng: &mut Rng, clause: &str) -> String {
+    let mut clauses = ["num_threads(@)", "%", clause];
+    rng.shuffle(&mut clauses);
+    format!("!$omp parallel do {}", clauses.join(" "))
+}
+
 fn clause(rng: &mut Rng, name: &str) -> String {
     match rng.below(4) {
         0 => String::new(),
@@ -42,11 +49,12 @@ fn clause(rng: &mut Rng, name: &str) -> String {
 /// Document 01's example: k is outside at entry; an early iteration sets it.
 fn subscript_made_good(rng: &mut Rng, first: i64, last: i64) -> Drawn {
     let clause = clause(rng, "k");
+    let directive = directive(rng, &clause);
     let good = rng.between(1, 4);
     let text = format!(
         "integer k, a(4)
          data k /9/
-         !$omp parallel do num_threads(@) {clause}
+         {directive}
          do i = {first}, {last}
          if (i == {first}) then
          k = {good}
@@ -61,11 +69,12 @@ fn subscript_made_good(rng: &mut Rng, first: i64, last: i64) -> Drawn {
 /// z is 0 at entry, the first iterations set it, all divide by it afterwards.
 fn divisor_made_good(rng: &mut Rng, first: i64, last: i64) -> Drawn {
     let clause = clause(rng, "z");
+    let directive = directive(rng, &clause);
     let until = rng.between(first, last);
     let divide = rng.pick(&["100/z", "rdiv(100, z)", "z/z", "1 + 7/(2*z)"]);
     let text = format!(
         "integer a(3), z
-         !$omp parallel do {clause} num_threads(@)
+         {directive}
          do j = {first}, {last}
          if (j <= {until}) then
          z = 3
@@ -78,10 +87,11 @@ fn divisor_made_good(rng: &mut Rng, first: i64, last: i64) -> Drawn {
 
 /// The sum is at least 1 when it is read serially, but speculation reads it as at entry.
 fn sum_read_too_early(rng: &mut Rng, first: i64, last: i64) -> Drawn {
+    let directive = directive(rng, "reduction(+:s)");
     let more = rng.pick(&["+ 1", "+ 2", "- (-1)", "- 0 + 2"]);
     let text = format!(
         "integer s, a(30)
-         !$omp parallel do num_threads(@) reduction(+:s)
+         {directive}
          do i = {first}, {last}
          s = s {more}
          a(s) = i
@@ -93,11 +103,12 @@ fn sum_read_too_early(rng: &mut Rng, first: i64, last: i64) -> Drawn {
 /// All iterations divide by z, which an iteration sets to 0.
 fn divisor_made_zero(rng: &mut Rng, first: i64, last: i64) -> Drawn {
     let clause = clause(rng, "z");
+    let directive = directive(rng, &clause);
     let at = rng.between(first, last);
     let text = format!(
         "integer z, a(12)
          data z /5/
-         !$omp parallel do num_threads(@) {clause}
+         {directive}
          do i = {first}, {last}
          a(i - {first} + 1) = 10/z
          if (i == {at}) then
@@ -114,13 +125,14 @@ fn divisor_made_zero(rng: &mut Rng, first: i64, last: i64) -> Drawn {
 /// k is inside at entry; an iteration moves it outside.
 fn subscript_made_bad(rng: &mut Rng, first: i64, last: i64) -> Drawn {
     let clause = clause(rng, "k");
+    let directive = directive(rng, &format!("{clause} lastprivate(a)"));
     let at = rng.between(first, last);
     let bad = rng.pick(&["5", "0", "-1", "k + 4", "2147483647"]);
     let text = format!(
         "integer a(4), k
          data a /4*7/
          data k /2/
-         !$omp parallel do num_threads(@) {clause} lastprivate(a)
+         {directive}
          do i = {first}, {last}
          a(k) = i
          if (i == {at}) then
@@ -134,10 +146,11 @@ fn subscript_made_bad(rng: &mut Rng, first: i64, last: i64) -> Drawn {
 /// The sum grows beyond the array serially; speculation reads it as at entry.
 fn sum_grows_outside(rng: &mut Rng, first: i64, last: i64) -> Drawn {
     let length = rng.between(1, 12);
+    let directive = directive(rng, "reduction(+:s)");
     let more = rng.pick(&["+ 1", "- (-1)"]);
     let text = format!(
         "integer s, a({length})
-         !$omp parallel do num_threads(@) reduction(+:s)
+         {directive}
          do i = {first}, {last}
          a(s + 1) = i
          s = s {more}
@@ -149,10 +162,11 @@ fn sum_grows_outside(rng: &mut Rng, first: i64, last: i64) -> Drawn {
 /// The fault stands behind a guard that an early iteration opens.
 fn guard_opened(rng: &mut Rng, first: i64, last: i64) -> Drawn {
     let clause = clause(rng, "g");
+    let directive = directive(rng, &clause);
     let relation = rng.pick(&[">", ">=", "/="]);
     let text = format!(
         "integer g, a(4)
-         !$omp parallel do {clause} num_threads(@)
+         {directive}
          do i = {first}, {last}
          if (g {relation} 0) then
          a(9) = 1
@@ -166,10 +180,11 @@ fn guard_opened(rng: &mut Rng, first: i64, last: i64) -> Drawn {
 /// The fault stands behind a guard that is open at entry and that the first iteration closes.
 fn guard_closed(rng: &mut Rng, first: i64, last: i64) -> Drawn {
     let clause = clause(rng, "g");
+    let directive = directive(rng, &clause);
     let text = format!(
         "integer g, a(4)
          data g /1/
-         !$omp parallel do {clause} num_threads(@)
+         {directive}
          do i = {first}, {last}
          if (i == {first}) then
          g = 0

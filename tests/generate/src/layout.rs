@@ -77,12 +77,12 @@ pub fn split_tokens(line: &str) -> Vec<&str> {
     tokens
 }
 
-/// Writes good lines down.
+/// Writes good lines down. How one line is written does not depend on the others.
 pub fn write_text(lines: &[String], layout: &Layout, rng: &mut Rng) -> Vec<u8> {
     let mut written = Vec::new();
     for line in lines {
         add_skipped_lines(&mut written, layout, rng);
-        written.push(write_line(line, layout, rng));
+        written.push(write_line(line, layout, &mut Rng::new(rng.bits())));
     }
     add_skipped_lines(&mut written, layout, rng);
     if rng.chance(layout.closing_directive) {

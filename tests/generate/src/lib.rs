@@ -9,6 +9,7 @@ pub mod hostile;
 pub mod layout;
 pub mod lend;
 pub mod loops;
+pub mod neighbours;
 pub mod noise;
 pub mod rng;
 pub mod tables;

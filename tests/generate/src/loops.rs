@@ -45,21 +45,30 @@ impl Knobs {
     }
 }
 
+/// Document 02, Point 3: the clause by which blocks are tested.
+const CLAUSE: &str = "schedule(static)";
+/// Percent of loops that have it.
+const CLAUSES: u32 = 40;
+
 /// A loop and what its maker knows of it.
 #[derive(Debug, Clone)]
 pub struct Loop {
-    /// Its lines without layout; `@` stands for the number of processors.
+    /// Its lines without layout; `@` stands for the number of processors, `%` for the clause by which
+    /// blocks are tested.
     lines: Vec<String>,
     layout: Layout,
     layout_seed: u64,
     /// P.
     pub processors: usize,
+    /// Whether it has the clause by which blocks are tested.
+    pub by_blocks: bool,
     /// The cells as Load must fill them; their number is N.
     pub cells: Vec<i32>,
 }
 
 impl Loop {
-    /// A loop of these lines, `@` standing for the number of processors.
+    /// A loop of these lines, `@` standing for the number of processors and `%` for the clause by which
+    /// blocks are tested, which it often has.
     pub fn of_lines(
         lines: Vec<String>,
         processors: usize,
@@ -72,6 +81,7 @@ impl Loop {
             layout,
             layout_seed: rng.bits(),
             processors,
+            by_blocks: rng.chance(CLAUSES),
             cells,
         }
     }
@@ -89,10 +99,21 @@ impl Loop {
         }
     }
 
+    /// The same loop with the clause by which blocks are tested, or without. Its lines stand where they
+    /// stood.
+    pub fn with_blocks(&self, by_blocks: bool) -> Self {
+        Loop {
+            by_blocks,
+            ..self.clone()
+        }
+    }
+
     /// The loop's text.
     pub fn text(&self) -> Vec<u8> {
         let number = self.processors.to_string();
-        let lines: Vec<String> = self.lines.iter().map(|l| l.replace('@', &number)).collect();
+        let clause = if self.by_blocks { CLAUSE } else { "" };
+        let written = |line: &String| line.replace('@', &number).replace('%', clause);
+        let lines: Vec<String> = self.lines.iter().map(written).collect();
         write_text(&lines, &self.layout, &mut Rng::new(self.layout_seed))
     }
 }

@@ -19,7 +19,7 @@ pub fn bytes(rng: &mut Rng) -> Vec<u8> {
 
 /// Tokens of the language in any order, a few to a line.
 pub fn soup(rng: &mut Rng) -> Vec<u8> {
-    const TOKENS: [&str; 48] = [
+    const TOKENS: [&str; 51] = [
         "integer",
         "data",
         "do",
@@ -64,6 +64,9 @@ pub fn soup(rng: &mut Rng) -> Vec<u8> {
         "shared",
         "lastprivate",
         "reduction",
+        "schedule",
+        "static",
+        "schedule(static)",
         ":",
         "a(4)",
         "end do",

@@ -1,14 +1,15 @@
 //! The same seed gives the same cases.
 
-use generate::{damage, hostile, lend, noise, Knobs, Loop, Rng};
+use generate::{damage, hostile, lend, neighbours, noise, Knobs, Loop, Rng};
 
 /// Texts of all kinds and a schedule, and cells.
-fn draw(seed: u64) -> ([Vec<u8>; 5], Vec<i32>) {
+fn draw(seed: u64) -> ([Vec<u8>; 6], Vec<i32>) {
     let mut rng = Rng::new(seed);
     let knobs = Knobs::mixed(&mut rng);
     let good = Loop::random(&mut rng, &knobs).text();
     let drawn = [
         hostile::hostile(&mut rng).text(),
+        neighbours::neighbours(&mut rng).text(),
         damage::damage(&good, &mut rng),
         noise::soup(&mut rng),
         noise::bytes(&mut rng),
@@ -36,6 +37,49 @@ fn most_texts_are_short_enough() {
         .collect();
     assert!(lengths.iter().filter(|&&length| length <= 2048).count() > 950);
     assert!(lengths.iter().filter(|&&length| length > 1000).count() > 50);
+}
+
+/// The same seed with and without the clause: the texts differ in the line of the directive alone.
+#[test]
+fn the_clause_changes_one_line() {
+    for seed in 0..200 {
+        let mut rng = Rng::new(seed);
+        let knobs = Knobs::mixed(&mut rng);
+        for drawn in [
+            Loop::random(&mut rng, &knobs),
+            hostile::hostile(&mut rng),
+            neighbours::neighbours(&mut rng),
+        ] {
+            let [with, without] = [true, false].map(|by_blocks| {
+                let text = drawn.with_blocks(by_blocks).text();
+                String::from_utf8(text).unwrap().to_lowercase()
+            });
+            let pairs = with.lines().zip(without.lines());
+            let differing: Vec<_> = pairs.filter(|(one, other)| one != other).collect();
+            assert_eq!(with.lines().count(), without.lines().count());
+            assert_eq!(differing.len(), 1);
+            let tokens = |line| generate::layout::split_tokens(line).len();
+            let (one, other) = differing[0];
+            assert_eq!(tokens(one), tokens(other) + 4);
+        }
+    }
+}
+
+/// The clause is frequent, and its words are now and then names.
+#[test]
+fn the_clause_is_frequent() {
+    let mut counts = [0; 2];
+    for seed in 0..1000 {
+        let mut rng = Rng::new(seed);
+        let knobs = Knobs::mixed(&mut rng);
+        let drawn = Loop::random(&mut rng, &knobs);
+        let text = String::from_utf8(drawn.with_blocks(false).text()).unwrap();
+        let words = text.to_lowercase();
+        counts[0] += u32::from(drawn.by_blocks);
+        counts[1] += u32::from(words.contains("schedule") || words.contains("static"));
+    }
+    println!("with the clause, with its words as names: {counts:?}");
+    assert!(counts[0] > 350 && counts[1] > 50);
 }
 
 #[test]

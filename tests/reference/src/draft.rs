@@ -1,13 +1,14 @@
 //! The program that the lines so far make. Lines are added once they are judged.
 
 use crate::program::{Action, Declared, Place, Program, Statement};
-use crate::syntax::{Assignment, Class, Condition, Form, Item};
+use crate::syntax::{Assignment, Class, Condition, Form, Grouping, Item};
 
 /// What the lines so far have said.
 #[derive(Default)]
 pub struct Draft {
     pub names: Vec<Declared>,
     processors: u32,
+    grouping: Grouping,
     pub variable: Option<String>,
     first: i32,
     last: i32,
@@ -32,7 +33,15 @@ impl Draft {
         match form {
             Form::Integer(declarations) => self.declare(declarations),
             Form::Data { name, items } => self.give_data(name, items),
-            Form::Directive { processors, lists } => self.direct(*processors, lists),
+            Form::Directive {
+                processors,
+                grouping,
+                lists,
+            } => {
+                self.processors = *processors as u32;
+                self.grouping = *grouping;
+                self.classify(lists);
+            }
             Form::Do {
                 variable,
                 first,
@@ -78,8 +87,7 @@ impl Draft {
         self.names[index].data = Some(values);
     }
 
-    fn direct(&mut self, processors: u64, lists: &[(Class, Vec<String>)]) {
-        self.processors = processors as u32;
+    fn classify(&mut self, lists: &[(Class, Vec<String>)]) {
         for (class, names) in lists {
             for name in names {
                 let index = self.find(name).expect("a known name");
@@ -150,6 +158,7 @@ impl Draft {
         Program {
             names: self.names,
             processors: self.processors,
+            grouping: self.grouping,
             variable: self.variable.expect("a `do` line"),
             first: self.first,
             last: self.last,

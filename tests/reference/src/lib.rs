@@ -1,7 +1,7 @@
-//! An interpreter of document 01 and of document 02, Point 1, written apart from the product and for
-//! obviousness: bytes, lines, tokens, a tree, names and limits, then evaluation with the whole list
+//! An interpreter of document 01 and of document 02, Points 1 to 3, written apart from the product and
+//! for obviousness: bytes, lines, tokens, a tree, names and limits, then evaluation with the whole list
 //! of accesses kept. Marks, obstacles, private values, sums and counts are taken from that list as
-//! document 01 words them.
+//! the documents word them.
 //!
 //! Comments quote these documents; "READING 44" is the entry of that number in the project's reading
 //! of document 01, "P1.2" one of document 02, which stand behind every choice they leave.
@@ -10,6 +10,7 @@ mod accesses;
 mod draft;
 mod evaluate;
 mod fortran;
+mod groups;
 mod integers;
 mod lines;
 mod marks;

@@ -1,5 +1,6 @@
 //! Document 01, "Steps": "Marks of a cell, over the accesses so far, are the sum of" four. Kept for
-//! cells of every clause (READING 81).
+//! cells of every clause (READING 81). Document 02, Point 3: in a text with its clause "marks and
+//! obstacles are by block", so a block stands for "iteration" in each sentence (P3.7).
 
 use crate::accesses::Visit;
 
@@ -30,8 +31,8 @@ mod tests {
         let visits: Vec<Visit> = visits
             .iter()
             .zip(0..)
-            .map(|(kinds, iteration)| Visit {
-                iteration,
+            .map(|(kinds, first)| Visit {
+                group: first..first + 1,
                 kinds: kinds.to_vec(),
             })
             .collect();

@@ -1,14 +1,19 @@
-//! Document 01, "Obstacles", cell by cell.
+//! Document 01, "Obstacles", cell by cell. Document 02, Point 3: in a text with its clause "marks and
+//! obstacles are by block", so a block stands for "iteration" in each sentence (P3.8).
 
 use crate::accesses::{by_cell, visits, Access, Visit};
+use crate::groups::group_of;
+use crate::program::Program;
 use crate::syntax::Class;
 
 /// For each cell whether it has an obstacle, by the accesses of the whole run.
-pub fn obstacles(list: &[Access], classes: &[Class]) -> Vec<bool> {
+pub fn obstacles(list: &[Access], program: &Program) -> Vec<bool> {
+    let classes = program.cell_classes();
     by_cell(list, classes.len())
         .iter()
+        .map(|accesses| visits(accesses, |iteration| group_of(program, iteration)))
         .zip(classes)
-        .map(|(accesses, &class)| has_obstacle(class, &visits(accesses)))
+        .map(|(visits, class)| has_obstacle(class, &visits))
         .collect()
 }
 
@@ -18,7 +23,8 @@ pub fn has_obstacle(class: Class, visits: &[Visit]) -> bool {
         // "shared: one iteration writes it and a different one reads or writes it"
         Class::Shared => written_and_elsewhere(visits, |visit| visit.reads() || visit.writes()),
         Class::Lastprivate => used_before_written(visits),
-        // "reduction: it has an update and an ordinary access, even in one iteration"
+        // "reduction: it has an update and an ordinary access, even in one iteration": whatever the
+        // groups, and so with one processor too (P3.8)
         Class::Reduction => {
             let updated = visits.iter().any(Visit::updates);
             let ordinary = visits.iter().any(|visit| visit.reads() || visit.writes());
@@ -34,13 +40,13 @@ fn used_before_written(visits: &[Visit]) -> bool {
 }
 
 /// "one iteration writes it and a different one" does `what`: iterations, not processors
-/// (READING 85).
+/// (READING 85), but by Point 3's clause blocks.
 fn written_and_elsewhere(visits: &[Visit], what: impl Fn(&Visit) -> bool) -> bool {
     let doers: Vec<&Visit> = visits.iter().filter(|visit| what(visit)).collect();
     visits
         .iter()
         .filter(|visit| visit.writes())
-        .any(|writer| doers.iter().any(|doer| doer.iteration != writer.iteration))
+        .any(|writer| doers.iter().any(|doer| doer.group != writer.group))
 }
 
 #[cfg(test)]
@@ -52,8 +58,8 @@ mod tests {
         let visits: Vec<Visit> = visits
             .iter()
             .zip(0..)
-            .map(|(kinds, iteration)| Visit {
-                iteration,
+            .map(|(kinds, first)| Visit {
+                group: first..first + 1,
                 kinds: kinds.to_vec(),
             })
             .collect();

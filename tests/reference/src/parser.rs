@@ -3,8 +3,8 @@
 
 use crate::lines::{Broken, Line};
 use crate::syntax::{
-    Assignment, Class, Condition, Expression, Factor, Form, Item, Joint, Named, Relation, Scaling,
-    Signed, Term, Update, Written,
+    Assignment, Class, Condition, Expression, Factor, Form, Grouping, Item, Joint, Named, Relation,
+    Scaling, Signed, Term, Update, Written,
 };
 use crate::tokens::{literal_value, same_token, split_tokens, Token};
 
@@ -304,10 +304,12 @@ impl Cursor<'_> {
     }
 
     /// "`num_threads(p)` exactly once, and any of `shared(list)`, `lastprivate(list)`,
-    /// `reduction(+:list)`, repeated or not. No commas stand between clauses" (READING 26, 27, 32)
+    /// `reduction(+:list)`, repeated or not. No commas stand between clauses" (READING 26, 27, 32);
+    /// document 02, Point 3: "the clause `schedule(static)`, at most once" (P3.1 to P3.3).
     fn clauses(&mut self) -> Result<Form, Broken> {
         let mut threads = Vec::new();
         let mut lists = Vec::new();
+        let mut schedules = Vec::new();
         while let Some(token) = self.next() {
             self.expect_sign("(")?;
             match token {
@@ -319,12 +321,25 @@ impl Cursor<'_> {
                     self.expect_sign(":")?;
                     lists.push((Class::Reduction, self.names()?));
                 }
+                Token::Word("schedule") => {
+                    self.expect_word("static")?;
+                    schedules.push(Grouping::Blocks);
+                }
                 _ => return Err(Broken),
             }
             self.expect_sign(")")?;
         }
+        let grouping = match schedules[..] {
+            [] => Grouping::Iterations,
+            [once] => once,
+            _ => return Err(Broken),
+        };
         match threads[..] {
-            [processors] => Ok(Form::Directive { processors, lists }),
+            [processors] => Ok(Form::Directive {
+                processors,
+                grouping,
+                lists,
+            }),
             _ => Err(Broken),
         }
     }

@@ -1,6 +1,6 @@
 //! A loop that has been read: what its names, bounds and statements stand for.
 
-use crate::syntax::{Class, Condition, Expression, Joint, Named, Update};
+use crate::syntax::{Class, Condition, Expression, Grouping, Joint, Named, Update};
 
 /// A loop without fault of form, name or limit.
 #[derive(Debug, Clone, PartialEq, Eq)]
@@ -9,6 +9,8 @@ pub struct Program {
     pub names: Vec<Declared>,
     /// P, "the processors".
     pub processors: u32,
+    /// What the test takes as one iteration.
+    pub grouping: Grouping,
     /// v, the loop's variable.
     pub variable: String,
     /// m of `do v = m, n`.

@@ -7,7 +7,8 @@ use crate::program::Program;
 use crate::Refusal;
 
 /// How a serial run ended, and its whole list of accesses. After a fault the counts and obstacles
-/// are those of the list as far as it went.
+/// are those of the list as far as it went. Document 02, Point 3, changes its obstacles alone, for which
+/// it needs the text's P (P3.10).
 #[derive(Debug, Clone, PartialEq, Eq)]
 pub struct Serial {
     /// The first fault ended the run: its number, line and v.
@@ -98,7 +99,7 @@ pub fn run_serially(program: &Program, entry: &[i32]) -> Serial {
         cells_after: holding.cells,
         pairs,
         cells,
-        obstacles: obstacles(&holding.accesses, &program.cell_classes()),
+        obstacles: obstacles(&holding.accesses, program),
         accesses: holding.accesses,
     }
 }

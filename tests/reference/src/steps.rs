@@ -4,12 +4,14 @@
 
 use crate::accesses::{Access, Kind};
 use crate::evaluate::{run_iteration, Memory, Paused, Stop};
+use crate::groups::group_of;
 use crate::program::Program;
 use crate::syntax::Class;
 use crate::Refusal;
+use std::ops::Range;
 
 /// The iterations of a processor: "index floor(n × p / P) up to below floor(n × (p + 1) / P)".
-pub fn share(iterations: u32, processor: usize, processors: u32) -> std::ops::Range<u32> {
+pub fn share(iterations: u32, processor: usize, processors: u32) -> Range<u32> {
     let from = |p: u64| (u64::from(iterations) * p / u64::from(processors)) as u32;
     from(processor as u64)..from(processor as u64 + 1)
 }
@@ -125,6 +127,7 @@ impl<'a> Speculation<'a> {
             shared: &mut self.shared,
             accesses: &mut self.accesses,
             iteration: record.iteration,
+            group: group_of(self.program, record.iteration),
             made: &mut record.made,
             asked: 0,
             reach,
@@ -148,6 +151,8 @@ struct Worker<'a> {
     shared: &'a mut [i32],
     accesses: &'a mut Vec<Access>,
     iteration: u32,
+    /// The iterations that the test takes as one with this one.
+    group: Range<u32>,
     /// The accesses this iteration has made, those of this move included.
     made: &'a mut Vec<Access>,
     /// How many accesses the iteration has asked for since its start.
@@ -185,16 +190,18 @@ impl Worker<'_> {
     }
 
     /// "Shared cells are read and written in place. Other cells are read as written earlier in this
-    /// iteration, else as at entry"; an update by the same iteration is not seen (READING 74).
+    /// iteration, else as at entry"; an update by the same iteration is not seen (READING 74). Document
+    /// 02, Point 3: "private reads give what the block wrote before, else the entry value" (P3.6).
     fn look_up(&self, cell: usize) -> i32 {
         if self.classes[cell] == Class::Shared {
             return self.shared[cell];
         }
-        self.made
-            .iter()
-            .rev()
-            .find(|made| made.kind == Kind::Write && usize::from(made.cell) == cell)
-            .map_or(self.entry[cell], |made| made.value)
+        let written = self.accesses.iter().rev().find(|access| {
+            access.kind == Kind::Write
+                && usize::from(access.cell) == cell
+                && self.group.contains(&access.iteration)
+        });
+        written.map_or(self.entry[cell], |access| access.value)
     }
 
     /// "writes stay private", taken from the list.

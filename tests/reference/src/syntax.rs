@@ -12,6 +12,17 @@ pub enum Class {
     Reduction,
 }
 
+/// What the test takes as one iteration.
+#[derive(Debug, Clone, Copy, PartialEq, Eq, Default)]
+pub enum Grouping {
+    /// Every iteration by itself.
+    #[default]
+    Iterations,
+    /// Document 02, Point 3: "A text with the clause `schedule(static)` [...] is tested with each
+    /// processor's block as one long iteration".
+    Blocks,
+}
+
 /// The form of one line that is not skipped, with what its tokens come to.
 #[derive(Debug, Clone, PartialEq, Eq)]
 pub struct Written {
@@ -30,9 +41,11 @@ pub enum Form {
     Integer(Vec<(String, Option<u64>)>),
     /// `data name /list/`
     Data { name: String, items: Vec<Item> },
-    /// `!$omp parallel do`, the number in `num_threads`, and the lists of the other clauses.
+    /// `!$omp parallel do`, the number in `num_threads`, the grouping that `schedule` asks for, and
+    /// the lists of the other clauses.
     Directive {
         processors: u64,
+        grouping: Grouping,
         lists: Vec<(Class, Vec<String>)>,
     },
     /// `do v = m, n`

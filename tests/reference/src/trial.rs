@@ -1,6 +1,7 @@
 //! The trial: what speculation leaves, each part taken from the whole list of accesses.
 
 use crate::accesses::{by_cell, visits, write_counts, Access, Kind};
+use crate::groups::group_of;
 use crate::marks::marks;
 use crate::obstacles::has_obstacle;
 use crate::steps::{share, Processor, Speculation};
@@ -35,7 +36,8 @@ impl Trial {
     pub fn of(speculation: Speculation) -> Self {
         let lists = by_cell(&speculation.accesses, speculation.entry.len());
         let (pairs, cells) = write_counts(&speculation.accesses);
-        let visited: Vec<_> = lists.iter().map(|list| visits(list)).collect();
+        let group = |iteration| group_of(speculation.program, iteration);
+        let visited: Vec<_> = lists.iter().map(|list| visits(list, group)).collect();
         Trial {
             private: each_processor(&speculation, &lists, private_value),
             sums: each_processor(&speculation, &lists, |_, accesses| sum_of_updates(accesses)),

@@ -149,6 +149,40 @@ fn what_a_stopped_processor_leaves() {
     assert_eq!((tried.pairs, tried.cells), (5, 4));
 }
 
+/// Document 02, Point 3: the same blocks as in the steps, whose private reads see earlier iterations of the
+/// block. Sums and private values stay by processor and iteration, counts by iteration.
+#[test]
+fn what_a_trial_by_blocks_leaves() {
+    // Indices 0 to 1 and 2 to 4.
+    let body = "z = z + i\ns = s + z\na(1) = z";
+    let clauses = "num_threads(2) lastprivate(z) schedule(static) reduction(+:s)";
+    let text = text("z, s, a(1)", clauses, "1, 5", body);
+    let lent = [7, 100, 0];
+    // Processor 1 makes all its accesses before processor 0.
+    let tried = trial(text.as_bytes(), &lent, ENOUGH, &[1; 30]).unwrap();
+    // z is 8, 10 in the first block and 10, 14, 19 in the second.
+    assert_eq!(tried.shared, [7, 100, 10]);
+    let of_z: Vec<_> = tried.private.iter().map(|private| private[0]).collect();
+    assert_eq!(of_z, [Some((1, 10)), Some((4, 19))]);
+    let of_s: Vec<_> = tried.sums.iter().map(|sums| sums[1]).collect();
+    assert_eq!(of_s, [18, 43]);
+    assert_eq!(tried.marks, [5, 8, 1]);
+    // Each of two blocks reads z before writing it and writes a(1); s is only updated.
+    assert_eq!(tried.obstacles, [true, false, true]);
+    assert_eq!((tried.pairs, tried.cells), (15, 3));
+}
+
+/// One block: nothing but an update beside an ordinary access can be an obstacle (P3.8).
+#[test]
+fn one_block() {
+    let body = "z = z + i\ns = s + z\na(1) = z\nt = i - t\nu = u + 1\nt = u";
+    let clauses = "num_threads(1) lastprivate(z) schedule(static) reduction(+:s, t, u)";
+    let text = text("z, s, t, u, a(1)", clauses, "1, 3", body);
+    let tried = trial(text.as_bytes(), &[7, 100, 0, 0, 0], ENOUGH, &[]).unwrap();
+    assert_eq!(tried.obstacles, [false, false, false, true, false]);
+    assert_eq!(tried.marks, [5, 8, 5, 10, 1]);
+}
+
 #[test]
 fn what_a_serial_run_lists() {
     let body = "s = s + a(i)\na(i) = s";

@@ -2,22 +2,25 @@
 
 use generate::damage::damage;
 use generate::hostile::hostile;
+use generate::neighbours::neighbours;
 use generate::{lend, noise, Knobs, Loop, Rng};
 use reference::{
     check, load, look, lrpd, read, run, serial, serial_before_minus_updates, stepped, trial,
     workspace_needed, Answer, Refusal, Serial, Speculation, Trial,
 };
 
-const LOOPS: u64 = 3000;
+const LOOPS: u64 = 3500;
 
 /// A loop and cells to lend for a seed: mostly those of its data, sometimes anything.
 fn draw(seed: u64) -> (Loop, Vec<i32>, Rng) {
     let mut rng = Rng::new(seed);
-    let drawn = if rng.chance(25) {
-        hostile(&mut rng)
-    } else {
-        let knobs = Knobs::mixed(&mut rng);
-        Loop::random(&mut rng, &knobs)
+    let drawn = match rng.below(20) {
+        0..=4 => hostile(&mut rng),
+        5..=7 => neighbours(&mut rng),
+        _ => {
+            let knobs = Knobs::mixed(&mut rng);
+            Loop::random(&mut rng, &knobs)
+        }
     };
     let cells = if rng.chance(80) {
         drawn.cells.clone()
@@ -73,12 +76,12 @@ fn settled(serial: &Serial, lent: &[i32]) -> (Result<Answer, Refusal>, Vec<i32>)
 fn run_does_what_the_serial_run_settles() {
     let mut ran = 0;
     for (seed, drawn, lent, mut rng) in loops() {
-        let settled = settled(&serial(&drawn.text(), &lent).unwrap(), &lent);
         for processors in [drawn.processors, 1, 2, 3, 8] {
             let text = drawn.with_processors(processors).text();
             if text.len() > 2048 {
                 continue;
             }
+            let settled = settled(&serial(&text, &lent).unwrap(), &lent);
             for schedule in schedules(&mut rng, processors) {
                 let mut cells = lent.clone();
                 let mut workspace = vec![1; workspace_needed(lent.len(), processors)];
@@ -104,6 +107,60 @@ fn schedules(rng: &mut Rng, processors: usize) -> Vec<Vec<u8>> {
         lend::schedule(rng, processors),
         lend::schedule(rng, processors),
     ]
+}
+
+/// Document 02, Point 3: "Of what Run answers and leaves in the cells, the processor count may change
+/// that result alone, and only in these texts." What passes by iterations passes by blocks (P3.13).
+#[test]
+fn blocks_change_the_word_alone() {
+    let mut differing = 0;
+    let mut now_pass = 0;
+    for (seed, drawn, lent, _) in loops() {
+        let words = |by_blocks| -> Vec<bool> {
+            let drawn = drawn.with_blocks(by_blocks);
+            let one = serial(&drawn.with_processors(1).text(), &lent);
+            let Ok(one) = one else {
+                return Vec::new();
+            };
+            let word = |processors| {
+                let text = drawn.with_processors(processors).text();
+                let ran = serial(&text, &lent).unwrap();
+                assert_eq!(ran.ending(), one.ending(), "seed {seed}\n{}", show(&text));
+                ran.passes()
+            };
+            (1..=8).map(word).collect()
+        };
+        // Too long with the clause: nothing to compare.
+        let (blocks, iterations) = (words(true), words(false));
+        if blocks.is_empty() {
+            continue;
+        }
+        assert!(iterations.iter().all(|word| *word == iterations[0]));
+        assert!(!iterations[0] || blocks.iter().all(|word| *word));
+        differing += u32::from(blocks.contains(&true) && blocks.contains(&false));
+        now_pass += u32::from(blocks.contains(&true) && !iterations[0]);
+    }
+    println!("words that differ by P: {differing}; passed by blocks alone: {now_pass}");
+    assert!(differing > 300 && now_pass >= differing);
+}
+
+/// With P over n every iteration is a block of its own (P3.5): the trial by blocks is the one by
+/// iterations.
+#[test]
+fn many_processors_test_by_iterations() {
+    let mut compared = 0;
+    for (seed, drawn, lent, mut rng) in loops() {
+        let eight = drawn.with_processors(8);
+        let [blocks, iterations] = [true, false].map(|clause| eight.with_blocks(clause).text());
+        if read(&iterations).unwrap().iteration_count() > 8 || blocks.len() > 2048 {
+            continue;
+        }
+        let schedule = lend::schedule(&mut rng, 8);
+        let tried = |text: &[u8]| trial(text, &lent, usize::MAX, &schedule).unwrap();
+        assert_eq!(tried(&blocks), tried(&iterations), "seed {seed}");
+        compared += 1;
+    }
+    assert!(compared > 1000);
 }
 
 /// Document 02, Point 1: "their cells are the serial run's as before"; so are counts and faults (P1.8).

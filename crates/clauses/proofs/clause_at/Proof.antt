@@ -1,4 +1,4 @@
--- `clauses::clause_at` meets its contract: `num_threads`, or a clause with names.
+-- `clauses::clause_at` meets its contract: `num_threads`, `schedule(static)`, or a clause with names.
 use mathlib.Core.Path.{refl, _∙_, ap}
 use mathlib.Core.Bool.{Bool, true}
 use Prim.Native.Nat.{max}
@@ -6,7 +6,7 @@ use native.Mathlib.Omega.{arith}
 use Rattle.syntax.specs.Bytes.{bytes}
 use Rattle.lexer.proofs.Chains.{goes-onward, strictly, strictly-on}
 use Rattle.heading.specs.Lists.{order}
-use Rattle.clauses.proofs.ClausesRead.{clause-threads, clause-names, threads-again}
+use Rattle.clauses.proofs.ClausesRead.{clause-threads, clause-static, clause-names, once-more}
 use borrow.Author.Needs.{needs}
 use Rattle.clauses.proofs.clause_at.Statement.{statement}
 use Rattle.clauses.proofs.clause_at.Tie as tie
@@ -37,19 +37,47 @@ returns c =
     let word = c5 .pass .ensures in
     let n = c3 .threads-at in
     let worst = c .before .ranked .ensures ∙ ap (λ (b : Bool). max (c8 .args .before .rank) (order true b)) (c .before .before .few .ensures) in (
-      threads-again (c .again .ensures) (clause-threads _ _ (c8 .args .before) _ word (omega arith) _ _ _ (n .ensures) worst),
+      once-more (c .again .ensures) refl (clause-threads _ _ (c8 .args .before) _ word (omega arith) _ _ _ (n .ensures) worst),
       ((λ h. (h, refl), c8 .pre .1), λ l. strictly-on (goes-onward (n .ensures)) l (strictly (bytes "num_threads") (omega arith) word l)),
     )
 
-names-at-requires : tie.Need-names-at-requires
-names-at-requires c κs = (c .before .before .before .before .before .pre .0, c .before .before .before .before .before .pre .1)
+slice-aggregate-pass-2 : tie.Need-slice-aggregate-pass-2
+slice-aggregate-pass-2 c = search needs
+
+pass-requires-2 : tie.Need-pass-requires-2
+pass-requires-2 c κs = search needs
+
+static-at-requires : tie.Need-static-at-requires
+static-at-requires c κs = search needs
+
+again-requires-2 : tie.Need-again-requires-2
+again-requires-2 c κs = search needs
 
 returns-2 : tie.Need-returns-2
 returns-2 c =
     let c3 = c .before .before .before in
     let c6 = c3 .before .before .before in
+    let c9 = c6 .before .before .before in
+    let word = c3 .pass2 .ensures in
+    let r = c .before .static-at in (
+      once-more refl (c .again2 .ensures)
+          (clause-static _ _ (c9 .args .before) _ (c6 .pass .ensures) (omega arith) _ word (omega arith) _ (r .ensures)),
+      ((λ h. (h, refl), c9 .pre .1), λ l. strictly-on (goes-onward (r .ensures)) l (strictly (bytes "schedule") (omega arith) word l)),
+    )
+
+names-at-requires : tie.Need-names-at-requires
+names-at-requires c κs =
+    let c8 = c .before .before .before .before .before .before .before .before in
+    (c8 .pre .0, c8 .pre .1)
+
+returns-3 : tie.Need-returns-3
+returns-3 c =
+    let c3 = c .before .before .before in
+    let c6 = c3 .before .before .before in
+    let c9 = c6 .before .before .before in
     let n = c .names-at in
-    (clause-names _ _ (c6 .args .before) _ (c3 .pass .ensures) (omega arith) _ (n .result) (n .ensures .0), n .ensures .1)
+    let read = clause-names _ _ (c9 .args .before) _ (c6 .pass .ensures) (omega arith) _ (c3 .pass2 .ensures) (omega arith) _ (n .result) (n .ensures .0) in
+    (read, n .ensures .1)
 
 pub clause-at-spec : {M : Type 1} → statement M
 clause-at-spec =
@@ -62,5 +90,10 @@ clause-at-spec =
     ranked-requires
     again-requires
     returns
+    slice-aggregate-pass-2
+    pass-requires-2
+    static-at-requires
+    again-requires-2
+    returns-2
     names-at-requires
-    returns-2)
+    returns-3)

@@ -23,17 +23,17 @@ loop-holds c = (omega arith, λ j b. absurd (omega (arith, b)))
 row-of-requires : tie.Need-row-of-requires Inv-loop μ-loop
 row-of-requires c κs =
     let a = c .before .before .before .args in
-    let (l, s, h) = c .before .before .before .pre in
-    suits-low (h .suits) (standing-size (a .processors) l (a .cells .now) (a .w .now) s h) (c .before .loop .c) (c .loop-test .taken)
+    let (l, δ, s, h) = c .before .before .before .pre in
+    suits-low (h .suits) (standing-size (a .processors) l δ (a .cells .now) (a .w .now) s h) (c .before .loop .c) (c .loop-test .taken)
 
 is-blocked-requires : tie.Need-is-blocked-requires Inv-loop μ-loop
 is-blocked-requires c κs =
     let a = c .before .before .before .before .args in
-    let (l, s, h) = c .before .before .before .before .pre in
+    let (l, δ, s, h) = c .before .before .before .before .pre in
     omega (
       arith,
       c .row-of .ensures,
-      standing-room (a .processors) l (a .cells .now) (a .w .now) s h (c .before .before .loop .c) (c .before .loop-test .taken),
+      standing-room (a .processors) l δ (a .cells .now) (a .w .now) s h (c .before .before .loop .c) (c .before .loop-test .taken),
     )
 
 returns : tie.Need-returns Inv-loop μ-loop
@@ -45,7 +45,7 @@ returns c =
     let u = c4 .loop in
     let e : blocked-at (a .w .now) (a .processors) (u .c) ≡ true = rw (c .before .before .row-of .ensures) at
     (sym (c .before .is-blocked .ensures) ∙ c .if1 .taken) in
-    λ l s h. (λ _. refl, λ _. standing-obstructed (a .processors) l (a .cells .now) (a .w .now) s h (u .c) (c3 .loop-test .taken) e)
+    λ l δ s h. (λ _. refl, λ _. standing-obstructed (a .processors) l δ (a .cells .now) (a .w .now) s h (u .c) (c3 .loop-test .taken) e)
 
 add-c : tie.Need-add-c Inv-loop μ-loop
 add-c c = search needs
@@ -67,8 +67,8 @@ returns-2 : tie.Need-returns-2 Inv-loop μ-loop
 returns-2 c =
     let a = c .before .before .before .args in
     let u = c .before .loop in
-    λ l s h. (
-      λ o. absurd (standing-free (a .processors) l (a .cells .now) (a .w .now) s h (λ j b. u .inv .1 j (omega (arith, b, c .loop-test .left))) o),
+    λ l δ s h. (
+      λ o. absurd (standing-free (a .processors) l δ (a .cells .now) (a .w .now) s h (λ j b. u .inv .1 j (omega (arith, b, c .loop-test .left))) o),
       λ (e : false ≡ true). let z : _≡_ {A = ℕ} 0 1 = cc in absurd (omega arith),
     )
 

@@ -11,7 +11,6 @@ use lib.ListN.{length, getD}
 use Rattle.rules.specs.Cells.{cellOf, listed}
 use Rattle.rules.specs.Merge.{merged}
 use Rattle.tables.specs.Layout.{row-at}
-use Rattle.trial.specs.Standing.{dealt}
 use Rattle.trial.proofs.StandingLaws.{suits-low, standing-size, standing-room}
 use Rattle.outcome.proofs.ReadingOff.{Setting-to, set-none, set-more, set-all, standing-merged}
 use Rattle.tables.proofs.Held.{row-small}
@@ -34,8 +33,9 @@ loop-holds c =
 row-of-requires : tie.Need-row-of-requires Inv-loop μ-loop
 row-of-requires c κs =
     let a = c .before .before .before .args in
-    let (l, s, h) = c .before .before .before .pre in
-    suits-low (h .suits) (standing-size (a .processors) l (a .cells .now) (a .w .now) s h) (c .before .loop .c) (omega (arith, c .before .loop .inv .1 .size, c .loop-test .taken))
+    let (l, δ, s, h) = c .before .before .before .pre in
+    suits-low (h .suits) (standing-size (a .processors) l δ (a .cells .now) (a .w .now) s h) (c .before .loop .c)
+    (omega (arith, c .before .loop .inv .1 .size, c .loop-test .taken))
 
 mul-merged-value : tie.Need-mul-merged-value Inv-loop μ-loop
 mul-merged-value c = search needs
@@ -46,14 +46,14 @@ slice-copy-out-merged-value c = search needs
 merged-value-requires : tie.Need-merged-value-requires Inv-loop μ-loop
 merged-value-requires c κs =
     let a = c .before .before .before .before .before .args in
-    let (l, s, h) = c .before .before .before .before .before .pre in
-    let y = suits-low (h .suits) (standing-size (a .processors) l (a .cells .now) (a .w .now) s h) (c .before .before .before .loop .c)
+    let (l, δ, s, h) = c .before .before .before .before .before .pre in
+    let y = suits-low (h .suits) (standing-size (a .processors) l δ (a .cells .now) (a .w .now) s h) (c .before .before .before .loop .c)
     (omega (arith, c .before .before .before .loop .inv .1 .size, c .before .before .loop-test .taken)) in
     omega (
       arith,
       c .before .row-of .ensures,
       row-small (a .processors) (c .before .before .before .loop .c) (y .0) (y .1),
-      standing-room (a .processors) l (a .cells .now) (a .w .now) s h (c .before .before .before .loop .c)
+      standing-room (a .processors) l δ (a .cells .now) (a .w .now) s h (c .before .before .before .loop .c)
           (omega (arith, c .before .before .before .loop .inv .1 .size, c .before .before .loop-test .taken)),
     )
 
@@ -96,11 +96,11 @@ returns : tie.Need-returns Inv-loop μ-loop
 returns c =
     let a = c .before .before .before .args in
     let u = c .before .loop in
-    λ l s h.
+    λ l δ s h.
     set-all (λ j. findings.merged (a .w .now) (row-at (a .processors) j) (a .processors) (cellOf (a .cells .now) j)) (a .cells .now) (u .c) (u .cells)
-    (u .inv .1) (omega (arith, u .inv .0, u .inv .1 .size, c .loop-test .left)) (merged l (dealt l (a .processors)) s)
-    (λ j b. standing-merged (a .processors) l (a .cells .now) (a .w .now) s h j b)
-    ∙ ap (λ (n : ℕ). listed n (merged l (dealt l (a .processors)) s)) (standing-size (a .processors) l (a .cells .now) (a .w .now) s h)
+    (u .inv .1) (omega (arith, u .inv .0, u .inv .1 .size, c .loop-test .left)) (merged l δ s)
+    (λ j b. standing-merged (a .processors) l δ (a .cells .now) (a .w .now) s h j b)
+    ∙ ap (λ (n : ℕ). listed n (merged l δ s)) (standing-size (a .processors) l δ (a .cells .now) (a .w .now) s h)
 
 pub merge-spec : {M : Type 1} → statement M
 merge-spec =

@@ -29,17 +29,17 @@ loop-holds c =
 row-of-requires : tie.Need-row-of-requires Inv-loop μ-loop
 row-of-requires c κs =
     let a = c .before .before .before .args in
-    let (l, h) = c .before .before .before .pre in
+    let (l, δ, h) = c .before .before .before .pre in
     suits-low (h .suits) (h .size) (c .before .loop .c) (omega (arith, c .before .loop .inv .1 .size, c .loop-test .taken))
 
 entry-value-requires : tie.Need-entry-value-requires Inv-loop μ-loop
 entry-value-requires c κs =
     let a = c .before .before .before .before .args in
-    let (l, h) = c .before .before .before .before .pre in
+    let (l, δ, h) = c .before .before .before .before .pre in
     omega (
       arith,
       c .row-of .ensures,
-      kept-room (a .processors) l (a .cells .now) (a .w .now) h (c .before .before .loop .c)
+      kept-room (a .processors) l δ (a .cells .now) (a .w .now) h (c .before .before .loop .c)
           (omega (arith, c .before .before .loop .inv .1 .size, c .before .loop-test .taken)),
     )
 
@@ -75,10 +75,10 @@ returns : tie.Need-returns Inv-loop μ-loop
 returns c =
     let a = c .before .before .before .args in
     let u = c .before .loop in
-    λ l h.
+    λ l δ h.
     set-all (λ j. value (getD (a .w .now) (row-at (a .processors) j) 0)) (a .cells .now) (u .c) (u .cells) (u .inv .1)
     (omega (arith, u .inv .0, u .inv .1 .size, c .loop-test .left)) (l .entry)
-    (λ j b. kept-entry (a .processors) l (a .cells .now) (a .w .now) h j b)
+    (λ j b. kept-entry (a .processors) l δ (a .cells .now) (a .w .now) h j b)
     ∙ ap (λ (n : ℕ). listed n (l .entry)) (h .size)
 
 pub restore-spec : {M : Type 1} → statement M

@@ -30,14 +30,14 @@ classes-requires c κs =
     let c16 = c9 .before .before .before .before .before .before .before in
     (omega (arith, few-cells _ _ _ _ _ (c9 .read .ensures) (c3 .if1 .left), c16 .pre .1), omega (arith, c16 .pre .1))
 
-cast-t20 : tie.Need-cast-t20
-cast-t20 c =
+cast-t22 : tie.Need-cast-t22
+cast-t22 c =
     let c7 = c .before .before .before .before .before .before .before in
     let c13 = c7 .before .before .before .before .before .before in
     omega (arith, few-iterations _ _ _ _ _ (c13 .read .ensures) (c7 .if1 .left))
 
-mul-t17 : tie.Need-mul-t17
-mul-t17 c =
+mul-t19 : tie.Need-mul-t19
+mul-t19 c =
     let c9 = c .before .before .before .before .before .before .before .before .before in
     let c15 = c9 .before .before .before .before .before .before in
     omega (arith, few-places _ _ _ _ _ (c15 .read .ensures) (c9 .if1 .left))
@@ -55,7 +55,7 @@ returns-2 c =
     let c5 = c .before .before .before .before .before in
     let c9 = c5 .before .before .before .before in
     let c22 = c15 .before .before .before .before .before .before .before in
-    prepared-fine _ _ _ _ _ (c15 .read .ensures) (c9 .if1 .left) _ _ _ (c22 .pre .1) (c5 .classes .ensures) refl refl refl refl e refl
+    prepared-fine _ _ _ _ _ (c15 .read .ensures) (c9 .if1 .left) _ _ _ (c22 .pre .1) (c5 .classes .ensures) refl refl refl refl refl e refl
 
 pub prepare-spec : {M : Type 1} → statement M
 prepare-spec =
@@ -67,8 +67,8 @@ prepare-spec =
     returns
     cast-classes
     classes-requires
-    cast-t20
-    mul-t17
+    cast-t22
+    mul-t19
     same-length-2
     same-length-3
     returns-2)

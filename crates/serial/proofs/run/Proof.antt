@@ -19,7 +19,7 @@ carry-on-requires c κs =
     let f : toZ w32 (ofZ w32 (a .setting .from)) ≡ a .setting .from = search needs in
     can-serve (a .code .now) (a .setting .from) l _ (rw (f, h .iterations)) _
     (serial-start (a .code .now) (a .setting) l (a .cells .now) (a .classes .now) (length (a .w .now)) h _
-    (c .before .before .before .before .before .before .enter .ensures l (h .entry)) _ (record { size = search needs; most = omega arith }))
+    (c .before .before .before .before .before .before .enter .ensures l _ (h .entry)) _ (record { size = search needs; most = omega arith }))
 
 same-length : tie.Need-same-length
 same-length c = search needs
@@ -33,7 +33,7 @@ returns c = λ l h.
     let f : toZ w32 (ofZ w32 (a .setting .from)) ≡ a .setting .from = search needs in
     let (s, o) = served (a .code .now) (a .setting .from) l _ (rw (f, h .iterations)) _ _
     (serial-start (a .code .now) (a .setting) l (a .cells .now) (a .classes .now) (length (a .w .now)) h _
-    (c .before .before .before .before .before .before .before .before .before .before .enter .ensures l (h .entry)) _
+    (c .before .before .before .before .before .before .before .before .before .before .enter .ensures l _ (h .entry)) _
     (record { size = search needs; most = omega arith }))
     (c .before .before .before .carry-on .ensures) in
     serial-end (a .code .now) (a .setting .from) l _ s o

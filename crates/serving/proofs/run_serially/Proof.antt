@@ -140,7 +140,8 @@ returns-4 : tie.Need-returns-4
 returns-4 c =
     let c22 = c .before .before .before .before .before .before .before .before .before .before .before .before .before .before
     .before .before .before .before .before .before .before .before in
-    let e : toZ w32 (ofZ w32 (c22 .prepare .result .setting .from)) ≡ c22 .prepare .result .setting .from = search needs in
+    let c13 = c .before .before .before .before .before .before .before .before .before .before .before .before .before in
+    let e : toZ w32 (ofZ w32 (c22 .prepare .result .setting .from)) ≡ c22 .prepare .result .setting .from = search (needs, c13 .struct-told) in
     let u : toZ w32 (ofZ w32 (c .value-at .result)) ≡ c .value-at .result = search needs in
     let c7 = c .before .before .before .before .before .before .before in
     let c14 = c7 .before .before .before .before .before .before .before in

@@ -18,7 +18,7 @@ returns c =
     let c3 = c .before .before .before in
     let c7 = c3 .before .before .before .before in
     let a = c7 .args in
-    λ code l h. starts-run code (a .setting) l (a .cells .now) (a .classes .now) _ h _ _ (c3 .enter .ensures l (h .entry)) (c .crew .ensures)
+    λ code l h. starts-run code (a .setting) l (a .cells .now) (a .classes .now) _ h _ _ (c3 .enter .ensures l _ (h .entry)) (c .crew .ensures)
 
 pub begin-spec : {M : Type 1} → statement M
 begin-spec = tie.close (tie.spec enter-requires crew-requires same-length returns)

@@ -9,7 +9,7 @@ use mir.Val.{toZ, ofZ}
 use lib.IntN.{pos}
 use lib.ListN.{length, getD}
 use Rattle.rules.specs.Cells.{cellOf}
-use Rattle.rules.specs.Loop.{Loop}
+use Rattle.rules.specs.Loop.{Loop, Partition}
 use Rattle.tables.proofs.Start.{Begun}
 use Rattle.trial.specs.Start.{Entry}
 use Rattle.trial.proofs.StandingLaws.{suits-low}
@@ -21,7 +21,7 @@ abbrev Inv-loop : tie.InvT-loop
 Inv-loop processors cells classes w₀ c₀ w c =
     (c ≤ length cells)
     × (length w ≡ length w₀)
-    × ((l : Loop) → Entry processors l cells classes (length w₀) → Begun (l .size) processors (l .class) (l .entry) c w)
+    × ((l : Loop) (δ : Partition) → Entry processors l δ cells classes (length w₀) → Begun (l .size) processors (l .class) (l .entry) c w)
 
 abbrev μ-loop : tie.MeasureT-loop
 μ-loop processors cells classes w₀ c₀ w c = length cells - c
@@ -34,13 +34,13 @@ loop-holds c =
     let a = c .before .before .before .before .before .before .args in
     let e = c .before .before .clear .ensures in
     let n : length (c .before .before .clear .last .0) ≡ length (a .w .now) = search needs in
-    (omega arith, refl, λ l h. rw e (entry-clear (a .processors) l (a .cells .now) (a .classes .now) (length (a .w .now)) (rw n at h)))
+    (omega arith, refl, λ l δ h. rw e (entry-clear (a .processors) l δ (a .cells .now) (a .classes .now) (length (a .w .now)) (rw n at h)))
 
 row-of-requires : tie.Need-row-of-requires Inv-loop μ-loop
 row-of-requires c κs =
     let a = c .before .before .before .before .before .before .before .before .args in
-    let (l, h) = c .before .before .before .before .before .before .before .before .pre in
-    suits-low (h .suits) (entry-size (a .processors) l (a .cells .now) (a .classes .now) (length (a .w .now)) h) (c .before .loop .c) (c .loop-test .taken)
+    let (l, δ, h) = c .before .before .before .before .before .before .before .before .pre in
+    suits-low (h .suits) (entry-size (a .processors) l δ (a .cells .now) (a .classes .now) (length (a .w .now)) h) (c .before .loop .c) (c .loop-test .taken)
 
 mul-set-entry : tie.Need-mul-set-entry Inv-loop μ-loop
 mul-set-entry c = search needs
@@ -54,23 +54,23 @@ mul-set-entry-2 c = search needs
 shared-slice-read-set-entry : tie.Need-shared-slice-read-set-entry Inv-loop μ-loop
 shared-slice-read-set-entry c =
     let a = c .before .before .before .before .before .before .before .before .before .before .before .before .args in
-    let (l, h) = c .before .before .before .before .before .before .before .before .before .before .before .before .pre in
-    entry-class (a .processors) l (a .cells .now) (a .classes .now) (length (a .w .now)) h (c .before .before .before .before .before .loop .c)
+    let (l, δ, h) = c .before .before .before .before .before .before .before .before .before .before .before .before .pre in
+    entry-class (a .processors) l δ (a .cells .now) (a .classes .now) (length (a .w .now)) h (c .before .before .before .before .before .loop .c)
     (c .before .before .before .before .loop-test .taken) .0
 
 set-entry-requires : tie.Need-set-entry-requires Inv-loop μ-loop
 set-entry-requires c κs =
     let a = c .before .before .before .before .before .before .before .before .before .before .before .before .args in
-    let (l, h) = c .before .before .before .before .before .before .before .before .before .before .before .before .pre in
+    let (l, δ, h) = c .before .before .before .before .before .before .before .before .before .before .before .before .pre in
     let n : length (c .before .before .before .before .before .before .before .before .clear .last .0) ≡ length (a .w .now) = search needs in (
       omega (
         arith,
         c .before .before .before .row-of .ensures,
         c .before .before .before .before .before .loop .inv .1,
-        entry-room (a .processors) l (a .cells .now) (a .classes .now) (length (a .w .now)) h (c .before .before .before .before .before .loop .c)
+        entry-room (a .processors) l δ (a .cells .now) (a .classes .now) (length (a .w .now)) h (c .before .before .before .before .before .loop .c)
             (c .before .before .before .before .loop-test .taken),
       ),
-      entry-class (a .processors) l (a .cells .now) (a .classes .now) (length (a .w .now)) h (c .before .before .before .before .before .loop .c)
+      entry-class (a .processors) l δ (a .cells .now) (a .classes .now) (length (a .w .now)) h (c .before .before .before .before .before .loop .c)
           (c .before .before .before .before .loop-test .taken) .1,
     )
 
@@ -95,9 +95,9 @@ loop-again c =
     let e : toZ w32 (ofZ w32 (getD (a .cells .now) (u .c) (pos 0))) ≡ getD (a .cells .now) (u .c) (pos 0) = search needs in (
       omega arith,
       search needs,
-      λ l h. rw (add-one, c .before .before .set-entry .ensures, c6 .row-of .ensures, e)
-          (entry-more (a .processors) l (a .cells .now) (a .classes .now) _ h (u .c) (u .w) (c7 .loop-test .taken)
-          (record { sfits = c4 .set-entry-arg2 .given }) (u .inv .2 l h)),
+      λ l δ h. rw (add-one, c .before .before .set-entry .ensures, c6 .row-of .ensures, e)
+          (entry-more (a .processors) l δ (a .cells .now) (a .classes .now) _ h (u .c) (u .w) (c7 .loop-test .taken)
+          (record { sfits = c4 .set-entry-arg2 .given }) (u .inv .2 l δ h)),
     )
 
 same-length : tie.Need-same-length Inv-loop μ-loop
@@ -110,8 +110,8 @@ returns c =
     let a = c8 .args in
     let u = c .before .loop in
     let n : length (c4 .clear .last .0) ≡ length (a .w .now) = search needs in
-    λ l h. entry-all (a .processors) l (a .cells .now) (a .classes .now) (length (a .w .now)) h (u .c) (u .w)
-    (omega (arith, u .inv .0, c .loop-test .left)) (u .inv .2 l (rw n h))
+    λ l δ h. entry-all (a .processors) l δ (a .cells .now) (a .classes .now) (length (a .w .now)) h (u .c) (u .w)
+    (omega (arith, u .inv .0, c .loop-test .left)) (u .inv .2 l δ (rw n h))
 
 pub enter-spec : {M : Type 1} → statement M
 enter-spec =

@@ -8,8 +8,7 @@ use lib.ListN.{length, getD, take, length-set}
 use lib.Seq.{take-length}
 use Rattle.rules.specs.Loop.{Loop}
 use Rattle.rules.specs.Steps.{State, steps}
-use Rattle.trial.specs.Standing.{dealt}
-use Rattle.trial.specs.Running.{Run}
+use Rattle.trial.specs.Running.{dealt, Run}
 use Rattle.trial.proofs.Turns.{run-turn, run-stepped, steps-more}
 use Rattle.trial.proofs.follow.Statement.{statement}
 use Rattle.trial.proofs.follow.Tie as tie
@@ -21,7 +20,7 @@ Inv-loop code setting schedule cells₀ w₀ ws₀ j₀ cells w ws j =
     × (length w ≡ length w₀)
     × (length ws ≡ 8)
     × ((l : Loop) (s : State) → Run code setting l cells₀ w₀ ws₀ s
-    → Run code setting l cells w ws (steps l (dealt l (setting .processors)) (take j schedule) s))
+    → Run code setting l cells w ws (steps l (dealt setting) (take j schedule) s))
 
 abbrev μ-loop : tie.MeasureT-loop
 μ-loop code setting schedule cells₀ w₀ ws₀ j₀ cells w ws j = length schedule - j
@@ -58,7 +57,7 @@ turn-requires c κs =
     let u = c .before .before .before .before .before .before .loop in
     rw (c .before .before .before .index-of .ensures) (
       l,
-      steps l (dealt l (a .setting .processors)) (take (u .j) (a .schedule .now)) s,
+      steps l (dealt (a .setting)) (take (u .j) (a .schedule .now)) s,
       run-turn (a .code .now) (a .setting) l (u .cells) (u .w) (u .ws) _ (getD (a .schedule .now) (u .j) 0) (u .inv .4 l s r)
           (n (u .j) (c .before .before .before .before .before .loop-test .taken)),
     )

@@ -9,8 +9,8 @@ use Rattle.trial.specs.Running.{roleTo}
 use Rattle.trial.proofs.role_of.Statement.{statement}
 use Rattle.trial.proofs.role_of.Tie as tie
 
-add-t5 : tie.Need-add-t5
-add-t5 c = search needs
+add-t6 : tie.Need-add-t6
+add-t6 c = search needs
 
 block-start-requires : tie.Need-block-start-requires
 block-start-requires c κs = search needs
@@ -24,4 +24,4 @@ returns c =
     (c .before .block-start .ensures ∙ ap (blockStart (g .iterations) (g .processors)) (add-one (c .before .before .before .args .p .0))))
 
 pub role-of-spec : {M : Type 1} → statement M
-role-of-spec = tie.close (tie.spec add-t5 block-start-requires returns)
+role-of-spec = tie.close (tie.spec add-t6 block-start-requires returns)

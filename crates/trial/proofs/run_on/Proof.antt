@@ -7,8 +7,7 @@ use native.Mathlib.Omega.{arith}
 use lib.ListN.{length, getD, length-set}
 use Rattle.rules.specs.Loop.{Loop}
 use Rattle.rules.specs.Steps.{State, run-out, run-on}
-use Rattle.trial.specs.Standing.{dealt}
-use Rattle.trial.specs.Running.{nobody, Run, Over}
+use Rattle.trial.specs.Running.{dealt, nobody, Run, Over}
 use Rattle.trial.proofs.Turns.{run-turn, run-moved}
 use Rattle.trial.proofs.RunningOut.{run-out-other, over-more}
 use Rattle.trial.proofs.run_on.Statement.{statement}
@@ -20,7 +19,7 @@ Inv-loop code setting cells₀ w₀ ws₀ q₀ cells w ws q =
     × (length cells ≡ length cells₀)
     × (length w ≡ length w₀)
     × (length ws ≡ 8)
-    × ((l : Loop) (s : State) → Run code setting l cells₀ w₀ ws₀ s → Run code setting l cells w ws (run-on l (dealt l (setting .processors)) q s))
+    × ((l : Loop) (s : State) → Run code setting l cells₀ w₀ ws₀ s → Run code setting l cells w ws (run-on l (dealt setting) q s))
     × ((j : ℕ) → j < q → Over setting j (getD ws j nobody))
 
 abbrev μ-loop : tie.MeasureT-loop
@@ -50,8 +49,8 @@ run-out-requires c κs =
     let u = c .before .before .before .before .before .before .loop in
     rw (c .before .before .before .index-of .ensures) (
       l,
-      run-on l (dealt l (a .setting .processors)) (u .q) s,
-      run-turn (a .code .now) (a .setting) l (u .cells) (u .w) (u .ws) (run-on l (dealt l (a .setting .processors)) (u .q) s) (u .q)
+      run-on l (dealt (a .setting)) (u .q) s,
+      run-turn (a .code .now) (a .setting) l (u .cells) (u .w) (u .ws) (run-on l (dealt (a .setting)) (u .q) s) (u .q)
           (u .inv .4 l s r) (c .before .before .before .before .if1 .taken),
     )
 
@@ -94,10 +93,10 @@ loop-again c =
       search needs,
       simp length-set (u .inv .3),
       λ l s r.
-          let v = run-on l (dealt l (a .setting .processors)) (u .q) s in
+          let v = run-on l (dealt (a .setting)) (u .q) s in
           rw (add-one, c .before .before .before .before .before .before .before .index-of .ensures)
-          (run-moved (a .code .now) (a .setting) l (u .cells) (u .w) (u .ws) v (run-out l (dealt l (a .setting .processors)) (u .q) v) (u .q)
-          (u .inv .4 l s r) h (λ j n. run-out-other l (dealt l (a .setting .processors)) (u .q) j n v) _ _ _
+          (run-moved (a .code .now) (a .setting) l (u .cells) (u .w) (u .ws) v (run-out l (dealt (a .setting)) (u .q) v) (u .q)
+          (u .inv .4 l s r) h (λ j n. run-out-other l (dealt (a .setting)) (u .q) j n v) _ _ _
           (rw (c .before .before .before .before .before .before .before .index-of .ensures) at (c .before .before .before .run-out .ensures .0) l v
           (run-turn (a .code .now) (a .setting) l (u .cells) (u .w) (u .ws) v (u .q) (u .inv .4 l s r) lt))),
       rw (add-one, c .before .before .before .before .before .before .before .index-of .ensures)

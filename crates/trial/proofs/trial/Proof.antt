@@ -1,7 +1,7 @@
 -- `trial::trial` meets its contract.
-use Rattle.rules.specs.Blocks.{singles}
-use Rattle.rules.specs.Steps.{start, steps, trial}
-use Rattle.trial.specs.Standing.{dealt}
+use Rattle.rules.specs.Steps.{start, steps}
+use Rattle.trial.specs.Running.{dealt}
+use Rattle.trial.proofs.Starting.{run-tried}
 use borrow.Author.Needs.{needs}
 use Rattle.trial.proofs.trial.Statement.{statement}
 use Rattle.trial.proofs.trial.Tie as tie
@@ -13,7 +13,7 @@ follow-requires : tie.Need-follow-requires
 follow-requires c κs =
     let a = c .before .before .before .before .before .before .before .before .before .before .before .args in
     let (l, h, n) = c .before .before .before .before .before .before .before .before .before .before .before .pre in
-    (l, start l (dealt l (a .setting .processors)), c .before .before .before .before .begin .ensures (a .code .now) l h, n)
+    (l, start l (dealt (a .setting)), c .before .before .before .before .begin .ensures (a .code .now) l h, n)
 
 run-on-requires : tie.Need-run-on-requires
 run-on-requires c κs =
@@ -21,8 +21,8 @@ run-on-requires c κs =
     let (l, h, n) =
     c .before .before .before .before .before .before .before .before .before .before .before .before .before .before .before .before .before .pre in (
       l,
-      steps l (dealt l (a .setting .processors)) (a .schedule .now) (start l (dealt l (a .setting .processors))),
-      c .before .before .before .before .before .follow .ensures l (start l (dealt l (a .setting .processors)))
+      steps l (dealt (a .setting)) (a .schedule .now) (start l (dealt (a .setting))),
+      c .before .before .before .before .before .follow .ensures l (start l (dealt (a .setting)))
           (c .before .before .before .before .before .before .before .before .before .before .begin .ensures (a .code .now) l h),
     )
 
@@ -33,7 +33,6 @@ same-length-2 : tie.Need-same-length-2
 same-length-2 c = search needs
 
 returns : tie.Need-returns
-unfolding trial singles
 returns c =
     let c3 = c .before .before .before in
     let c9 = c3 .before .before .before .before .before .before in
@@ -43,8 +42,9 @@ returns c =
     let u = c3 .run-on in
     let f = c9 .follow in
     let b = c14 .begin in (
-      λ l h. u .ensures .0 l (steps l (dealt l (a .setting .processors)) (a .schedule .now) (start l (dealt l (a .setting .processors))))
-          (f .ensures l (start l (dealt l (a .setting .processors))) (b .ensures (a .code .now) l h)),
+      λ l h. run-tried _ (a .setting) l _ _ _ h (a .schedule .now) _ _ _
+          (u .ensures .0 l (steps l (dealt (a .setting)) (a .schedule .now) (start l (dealt (a .setting))))
+          (f .ensures l (start l (dealt (a .setting))) (b .ensures (a .code .now) l h))),
       u .ensures .1,
     )
 

@@ -30,8 +30,8 @@ loop-holds c = (omega arith, refl, λ j b. absurd (omega (arith, b)))
 row-of-requires : tie.Need-row-of-requires Inv-loop μ-loop
 row-of-requires c κs =
     let a = c .before .before .before .before .args in
-    let (l, s, h) = c .before .before .before .before .pre .0 in
-    suits-low (h .suits) (standing-size (a .processors) l (a .cells .now) (a .w .now) s h) (c .before .loop .c) (c .loop-test .taken)
+    let (l, δ, s, h) = c .before .before .before .before .pre .0 in
+    suits-low (h .suits) (standing-size (a .processors) l δ (a .cells .now) (a .w .now) s h) (c .before .loop .c) (c .loop-test .taken)
 
 mul-to-word : tie.Need-mul-to-word Inv-loop μ-loop
 mul-to-word c = search needs
@@ -54,11 +54,11 @@ slice-write-view c = search needs
 marks-of-requires : tie.Need-marks-of-requires Inv-loop μ-loop
 marks-of-requires c κs =
     let a = c .before .before .before .before .before .before .before .args in
-    let (l, s, h) = c .before .before .before .before .before .before .before .pre .0 in
+    let (l, δ, s, h) = c .before .before .before .before .before .before .before .pre .0 in
     omega (
       arith,
       c .before .before .row-of .ensures,
-      standing-room (a .processors) l (a .cells .now) (a .w .now) s h (c .before .before .before .before .loop .c)
+      standing-room (a .processors) l δ (a .cells .now) (a .w .now) s h (c .before .before .before .before .loop .c)
           (c .before .before .before .loop-test .taken),
     )
 
@@ -109,7 +109,7 @@ returns c =
     let a = c4 .args in
     let u = c .before .loop in
     let e : u .c ≡ length (a .cells .now) = omega (arith, u .inv .0, c .loop-test .left) in
-    λ l s h. standing-shown (a .processors) l (a .cells .now) (a .w .now) s h (u .view) (omega (arith, c4 .pre .1, u .inv .1)) (rw e at (u .inv .2))
+    λ l δ s h. standing-shown (a .processors) l δ (a .cells .now) (a .w .now) s h (u .view) (omega (arith, c4 .pre .1, u .inv .1)) (rw e at (u .inv .2))
 
 pub show-spec : {M : Type 1} → statement M
 show-spec =

@@ -21,6 +21,9 @@ pub struct ArgumentRow {
 /// N = 3 and P = 2: a workspace of 4,352 + 64 × 2 + 3 × (4 + 12) = 4,528.
 const THREE: &str =
     "integer a(3)\n!$omp parallel do num_threads(2)\ndo i = 1, 3\na(i) = i\nend do\n";
+/// The same by blocks: the same workspace (document 02, Point 3, changes none of this).
+const BLOCKS: &str =
+    "integer a(3)\n!$omp parallel do num_threads(2) schedule(static)\ndo i = 1, 3\na(i) = i\nend do\n";
 /// N = 4,096 and P = 8: 4,352 + 512 + 4,096 × 52 = 217,856.
 const LARGEST: &str = "integer a(4096)\n!$omp parallel do num_threads(8)\ndo i = 1, 3\nend do\n";
 /// N = 1 and P = 1: 4,352 + 64 + 10 = 4,426.
@@ -79,6 +82,14 @@ pub fn rows() -> Vec<ArgumentRow> {
         row("5 before 6, 7, 8", THREE, (2, 0, &[9], 0), (5, 5, 5)),
         row("6 before 7, 8", THREE, (3, 0, &[9], 0), (0, 6, 6)),
         row("7 before 8", THREE, (3, 4528, &[9], 0), (0, 7, 7)),
+        row("by blocks", BLOCKS, (3, 4528, &[0, 1], 6), (0, 0, 0)),
+        row(
+            "by blocks, a word too few",
+            BLOCKS,
+            (3, 4527, &[0], 6),
+            (0, 6, 6),
+        ),
+        row("by blocks, byte P", BLOCKS, (3, 4528, &[2], 6), (0, 7, 7)),
         row("the text first", TWICE, (9, 0, &[9], 0), (3, 3, 3)),
         row("largest", LARGEST, (4096, 217_856, &[7], 8192), (0, 0, 0)),
         row(

@@ -24,6 +24,9 @@ const GOOD: &[(&str, usize)] = &[
         "integer parallel, num_threads, shared, lastprivate, reduction, omp",
         6,
     ),
+    // P3.4
+    ("integer schedule, static", 2),
+    ("integer SCHEDULE(4), static(2)", 6),
     (
         "integer elseif, call, program, while, endprogram, stop, rdivs, integer2",
         8,

@@ -52,6 +52,28 @@ const GOOD: &[(&str, usize)] = &[
         "!$omp parallel do lastprivate(S) num_threads(2) SHARED(A)",
         2,
     ),
+    // document 02, Point 3: anywhere among the clauses, blanks free, either case (P3.1)
+    ("!$omp parallel do num_threads(2) schedule(static)", 2),
+    ("!$omp parallel do schedule(static) num_threads(2)", 2),
+    (
+        "!$omp parallel do shared(s) lastprivate(a) schedule(static) num_threads(3) reduction(+:b)",
+        3,
+    ),
+    (
+        "!$omp parallel do shared(s) schedule(static) shared(a) num_threads(3)",
+        3,
+    ),
+    ("!$OMP PARALLEL DO NUM_THREADS(2) SCHEDULE(STATIC)", 2),
+    ("!$omp parallel do num_threads(2) Schedule(sTaTiC)", 2),
+    (
+        "!$omp parallel do num_threads(2)   schedule  (  static  )  ",
+        2,
+    ),
+    ("!$omp parallel do schedule(static)num_threads(2)", 2),
+    (
+        "!$omp parallel do num_threads(4)schedule(static)shared(s)",
+        4,
+    ),
 ];
 
 /// Number 2.
@@ -85,7 +107,6 @@ const BROKEN: &[&str] = &[
     "!$omp parallel do num_threads(2) private(s)",
     "!$omp parallel do num_threads(2) firstprivate(s)",
     "!$omp parallel do num_threads(2) default(none)",
-    "!$omp parallel do num_threads(2) schedule(static)",
     "!$omp parallel do num_threads(2) nowait",
     "!$omp parallel do num_threads(2) shared()",
     "!$omp parallel do num_threads(2) shared(s,)",
@@ -106,6 +127,57 @@ const BROKEN: &[&str] = &[
     "!$omp parallel do num_threads(2) reduction(+:a(1))",
     "!$omp parallel do num_threads(2) reduction(+:s:a)",
     "!$omp parallel do num_threads(2) reduction(max:s)",
+    // document 02, Point 3: "at most once" (P3.2)
+    "!$omp parallel do num_threads(2) schedule(static) schedule(static)",
+    "!$omp parallel do schedule(static) num_threads(2) schedule(static)",
+    "!$omp parallel do num_threads(2) schedule(static) shared(s) SCHEDULE(STATIC)",
+    "!$omp parallel do schedule(static) schedule(static) schedule(static) num_threads(2)",
+    // every other inside (P3.3)
+    "!$omp parallel do num_threads(2) schedule(dynamic)",
+    "!$omp parallel do num_threads(2) schedule(guided)",
+    "!$omp parallel do num_threads(2) schedule(auto)",
+    "!$omp parallel do num_threads(2) schedule(runtime)",
+    "!$omp parallel do num_threads(2) schedule(static, 1)",
+    "!$omp parallel do num_threads(2) schedule(static,)",
+    "!$omp parallel do num_threads(2) schedule(, static)",
+    "!$omp parallel do num_threads(2) schedule(static 1)",
+    "!$omp parallel do num_threads(2) schedule(static static)",
+    "!$omp parallel do num_threads(2) schedule(static, static)",
+    "!$omp parallel do num_threads(2) schedule()",
+    "!$omp parallel do num_threads(2) schedule(s)",
+    "!$omp parallel do num_threads(2) schedule(schedule)",
+    "!$omp parallel do num_threads(2) schedule(statics)",
+    "!$omp parallel do num_threads(2) schedule(stati)",
+    "!$omp parallel do num_threads(2) schedule(sta tic)",
+    "!$omp parallel do num_threads(2) schedule(static_)",
+    "!$omp parallel do num_threads(2) schedule(1)",
+    "!$omp parallel do num_threads(2) schedule((static))",
+    "!$omp parallel do num_threads(2) schedule(static(1))",
+    "!$omp parallel do num_threads(2) schedule(+:static)",
+    "!$omp parallel do num_threads(2) schedule(monotonic:static)",
+    // the word without brackets, and brackets without the word (P3.3)
+    "!$omp parallel do num_threads(2) schedule",
+    "!$omp parallel do schedule num_threads(2)",
+    "!$omp parallel do num_threads(2) schedule static",
+    "!$omp parallel do num_threads(2) schedule(static",
+    "!$omp parallel do num_threads(2) schedule(",
+    "!$omp parallel do num_threads(2) schedule static)",
+    "!$omp parallel do num_threads(2) schedule(static))",
+    "!$omp parallel do num_threads(2) schedule[static]",
+    "!$omp parallel do num_threads(2) schedule=static",
+    "!$omp parallel do num_threads(2) (static)",
+    "!$omp parallel do num_threads(2) static",
+    "!$omp parallel do num_threads(2) static(schedule)",
+    "!$omp parallel do num_threads(2) schedules(static)",
+    "!$omp parallel do num_threads(2) sched ule(static)",
+    "!$omp parallel do num_threads(2), schedule(static)",
+    "!$omp parallel do schedule(static), num_threads(2)",
+    "!$omp parallel do num_threads(2) schedule(static) static",
+    "!$omp parallel doschedule(static) num_threads(2)",
+    "!$omp schedule(static) parallel do num_threads(2)",
+    // READING 26
+    "!$omp parallel do schedule(static)",
+    "!$omp parallel do num_threads(2) schedule(static) num_threads(2)",
     // READING 18
     "!$omp paralleldo num_threads(2)",
     "!$omp parallel do_num_threads(2)",
@@ -139,6 +211,12 @@ const BROKEN: &[&str] = &[
     "!$omp parallel do num_threads(9",
     "!$omp parallel do num_threads(9) shared(s, s) shared()",
     "!$omp parallel do num_threads(0) shared(t) x",
+    "!$omp parallel do num_threads(2) schedule(static) shared(t) schedule(static)",
+    "!$omp parallel do num_threads(2) shared(s, s) schedule(dynamic)",
+    "!$omp parallel do num_threads(9) schedule(static) schedule(static)",
+    "!$omp parallel do schedule(static, 1) num_threads(0)",
+    "!$omp parallel do schedule(2147483648) num_threads(2)",
+    "!$omp parallel do shared(t) schedule(static)",
 ];
 
 /// Number 3.
@@ -164,6 +242,15 @@ const MISNAMED: &[&str] = &[
     "!$omp parallel do num_threads(9) shared(t)",
     "!$omp parallel do shared(s, s) num_threads(0)",
     "!$omp parallel do num_threads(2147483648) shared(t)",
+    // with the clause
+    "!$omp parallel do num_threads(2) schedule(static) shared(t)",
+    "!$omp parallel do shared(s) schedule(static) lastprivate(s) num_threads(2)",
+    "!$omp parallel do schedule(static) num_threads(9) shared(t)",
+    "!$omp parallel do shared(s, s) num_threads(0) schedule(static)",
+    // its words stay free as names, here unknown ones (P3.4)
+    "!$omp parallel do num_threads(2) shared(schedule)",
+    "!$omp parallel do num_threads(2) lastprivate(static) schedule(static)",
+    "!$omp parallel do num_threads(2) reduction(+:s, static)",
 ];
 
 /// Number 4.
@@ -176,6 +263,9 @@ const BEYOND: &[&str] = &[
     "!$omp parallel do num_threads(4294967298)",
     "!$omp parallel do num_threads(18446744073709551618)",
     "!$omp parallel do num_threads(99999999999999999999999999)",
+    // with the clause
+    "!$omp parallel do num_threads(9) schedule(static)",
+    "!$omp parallel do schedule(static) num_threads(0)",
 ];
 
 /// All rows.

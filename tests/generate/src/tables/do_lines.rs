@@ -32,6 +32,8 @@ const GOOD: &[&str] = &[
     "do i = 2147483647, -2147483647",
     // any word but the reserved ones (READING 22)
     "do parallel = 1, 2",
+    "do schedule = 1, 2",
+    "do static = 1, 2",
     "do while = 1, 2",
     "do concurrent = 1, 2",
     "do do1 = 1, 2",

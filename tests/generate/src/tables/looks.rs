@@ -11,7 +11,7 @@ pub struct LookRow {
 }
 
 /// A schedule and the view after it.
-type Seen<'s> = (&'s [u8], &'s [(i32, u32)]);
+pub(super) type Seen<'s> = (&'s [u8], &'s [(i32, u32)]);
 
 /// Assignments where s and a are reduction names, s being 6, a 1, 2, 3, 4 and i 1, and the marks
 /// they leave on s and a (READING 62 to 67). An update alone leaves 8, a read and write 5.
@@ -147,10 +147,17 @@ pub fn rows() -> Vec<LookRow> {
     rows.extend(order_rows());
     rows.extend(step_rows());
     rows.extend(mark_rows());
+    rows.extend(super::blocks::look_rows());
     rows
 }
 
-fn row(name: &str, text: &str, cells: &[i32], schedule: &[u8], view: &[(i32, u32)]) -> LookRow {
+pub(super) fn row(
+    name: &str,
+    text: &str,
+    cells: &[i32],
+    schedule: &[u8],
+    view: &[(i32, u32)],
+) -> LookRow {
     LookRow {
         name: format!("{name}, bytes {schedule:?}"),
         text: text.as_bytes().to_vec(),

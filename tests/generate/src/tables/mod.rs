@@ -1,7 +1,8 @@
-//! Cases with answers written by hand from document 01 and the project's reading of it (entries are
-//! named as "READING 44"), none of them computed.
+//! Cases with answers written by hand from documents 01 and 02 and the project's reading of them (entries
+//! are named as "READING 44" and "P1.2"), none of them computed.
 
 pub mod arguments;
+pub mod blocks;
 pub mod data;
 pub mod declarations;
 pub mod directives;

@@ -31,7 +31,18 @@ const BAD: &[Line] = &[
     (2, "\u{7f}", 2),
     (2, "! \t", 2),
     (3, "!$omp parallel do", 2),
+    (3, "!$omp parallel do num_threads(2) schedule(dynamic)", 2),
+    (
+        3,
+        "!$omp parallel do schedule(static) num_threads(2) schedule(static)",
+        2,
+    ),
     (3, "!$omp parallel do num_threads(2) shared(t)", 3),
+    (
+        3,
+        "!$omp parallel do num_threads(2) schedule(static) shared(t)",
+        3,
+    ),
     (3, "!$omp parallel do num_threads(9)", 4),
     (4, "do i = 1", 2),
     (4, "do s = 1, 4", 3),

@@ -17,6 +17,23 @@ pub const ROWS: &[(&str, &str, &str)] = &[
         "! rerun 2 1\ndata a /2,0/\n",
     ),
     (
+        "one block (document 02, Point 3)",
+        "integer a(4)\ndata a /1, 3*0/\n!$omp parallel do num_threads(1) schedule(static)\n\
+         do i = 2, 4\na(i) = 2*a(i - 1)\nend do\n",
+        "! passed 3 3\ndata a /1,2,4,8/\n",
+    ),
+    (
+        "two blocks",
+        "integer a(4)\ndata a /1, 3*0/\n!$omp parallel do num_threads(2) schedule(static)\n\
+         do i = 2, 4\na(i) = 2*a(i - 1)\nend do\n",
+        "! rerun 3 3\ndata a /1,2,4,8/\n",
+    ),
+    (
+        "schedule(dynamic)",
+        "integer a(4)\n!$omp parallel do num_threads(2) schedule(dynamic)\ndo i = 2, 4\nend do\n",
+        "! refused 2 2 0\n",
+    ),
+    (
         "no iterations, names in upper case",
         "integer Zz, Y(2)\ndata Y /2*-3/\n!$omp parallel do num_threads(8)\ndo i = 1, 0\nend do\n",
         "! passed 0 0\ndata zz /0/\ndata y /-3,-3/\n",

@@ -242,10 +242,11 @@ pub fn rows() -> Vec<RunRow> {
     rows.extend(minus_rows());
     rows.extend(fault_rows());
     rows.extend(other_rows());
+    rows.extend(super::blocks::run_rows());
     rows
 }
 
-fn row(name: &str, text: &str, cells: &[i32], expected: Ran) -> RunRow {
+pub(super) fn row(name: &str, text: &str, cells: &[i32], expected: Ran) -> RunRow {
     RunRow {
         name: name.to_string(),
         text: text.as_bytes().to_vec(),
@@ -255,7 +256,7 @@ fn row(name: &str, text: &str, cells: &[i32], expected: Ran) -> RunRow {
 }
 
 /// A loop of these declarations, clauses, bounds and body.
-fn text(names: &str, clauses: &str, bounds: &str, body: &str) -> String {
+pub(super) fn text(names: &str, clauses: &str, bounds: &str, body: &str) -> String {
     format!("integer {names}\n!$omp parallel do {clauses}\ndo i = {bounds}\n{body}\nend do\n")
 }
 

@@ -76,6 +76,21 @@ const GOOD: &[(&str, &str, usize, usize)] = &[
         2,
     ),
     (
+        "schedule and static as names, and the clause (P3.4)",
+        "integer schedule, static(4)\ndata schedule /1/\ndata static /4*2/\n\
+         !$omp parallel do schedule(static) lastprivate(schedule) num_threads(2) shared(static)\n\
+         do i = 1, 4\nstatic(i) = schedule\nschedule = static(schedule)\nend do\n",
+        5,
+        2,
+    ),
+    (
+        "schedule and static as names, without the clause (P3.4)",
+        "integer static\n!$omp parallel do num_threads(3) reduction(+:static)\ndo schedule = 1, 4\n\
+         if (schedule == static) then\nstatic = static + schedule\nend if\nend do\n",
+        1,
+        3,
+    ),
+    (
         "16 names and a v (READING 29)",
         "integer a,b,c,d,e,f,g,h\ninteger i,j,k,l,m,n,o,p\n!$omp parallel do num_threads(1)\n\
          do v = 1, 4\nend do\n",
@@ -265,6 +280,25 @@ const BAD: &[(&str, &str, u32, u32)] = &[
          !$omp end parallel do num_threads(1)\n",
         2,
         5,
+    ),
+    (
+        "closing directive with Point 3's clause",
+        "integer a\n!$omp parallel do num_threads(1) schedule(static)\ndo i = 1, 4\nend do\n\
+         !$omp end parallel do schedule(static)\n",
+        2,
+        5,
+    ),
+    (
+        "unfinished and Point 3's clause twice",
+        "integer a\n!$omp parallel do num_threads(1) schedule(static) schedule(static)\n",
+        2,
+        2,
+    ),
+    (
+        "Point 3's clause on a line of its own",
+        "integer a\n!$omp parallel do num_threads(1)\n!$omp schedule(static)\ndo i = 1, 4\nend do\n",
+        2,
+        3,
     ),
     (
         "closing directive run together (READING 18)",

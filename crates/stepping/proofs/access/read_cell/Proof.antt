@@ -3,6 +3,7 @@ use mathlib.Core.Path.{_≡_, _∙_}
 use native.Mathlib.Omega.{arith}
 use mir.Syntax.{w32}
 use mir.Val.{toZ, ofZ}
+use Rattle.rules.proofs.BlocksLaws.{grouped-below}
 use Rattle.tables.proofs.Held.{row-small}
 use borrow.Author.Needs.{needs}
 use Rattle.stepping.proofs.access.read_cell.Statement.{statement}
@@ -20,7 +21,12 @@ own-of-requires c κs =
     omega (arith, c .row-of .ensures, row-small (c4 .args .role .processors) (c4 .args .cell) (omega (arith, c4 .pre .0 .low)) (c4 .pre .0 .few))
 
 seen-requires : tie.Need-seen-requires
-seen-requires c κs = search needs
+seen-requires c κs =
+    let c3 = c .before .before .before in
+    let c6 = c3 .before .before .before in
+    let low = grouped-below (c6 .args .role .grouping) (c6 .args .i .0) (c6 .args .role .number .0) 4294967295
+    (omega (arith, c6 .pre .1)) (omega (arith, c6 .pre .0 .among, c6 .pre .0 .few)) in
+    search (needs, low)
 
 note-read-requires : tie.Need-note-read-requires
 note-read-requires c κs =
@@ -28,7 +34,9 @@ note-read-requires c κs =
     let c4 = c3 .before in
     let c5 = c4 .before in
     let c8 = c5 .before .before .before in
-    (rw (c3 .own-of .ensures, c4 .row-of .ensures) (c8 .pre .0 .ready), omega (arith, c5 .group-of .ensures, c8 .pre .1))
+    let low = grouped-below (c8 .args .role .grouping) (c8 .args .i .0) (c8 .args .role .number .0) 4294967295
+    (omega (arith, c8 .pre .1)) (omega (arith, c8 .pre .0 .among, c8 .pre .0 .few)) in
+    (rw (c3 .own-of .ensures, c4 .row-of .ensures) (c8 .pre .0 .ready), omega (arith, c5 .group-of .ensures, low))
 
 same-length : tie.Need-same-length
 same-length c = search needs

@@ -3,6 +3,7 @@ use mathlib.Core.Path.{_≡_}
 use native.Mathlib.Omega.{arith}
 use mir.Syntax.{w32}
 use mir.Val.{toZ, ofZ}
+use Rattle.rules.proofs.BlocksLaws.{grouped-below}
 use Rattle.tables.proofs.Held.{row-small}
 use borrow.Author.Needs.{needs}
 use Rattle.stepping.proofs.access.write_cell.Statement.{statement}
@@ -31,7 +32,12 @@ note-write-requires c κs =
     let c7 = c6 .before in
     let c8 = c7 .before in
     let c11 = c8 .before .before .before in
-    (rw (c6 .own-of .ensures, c7 .row-of .ensures) (c11 .pre .0 .ready), omega (arith, c8 .group-of .ensures, c11 .pre .1), omega (arith, c11 .pre .1))
+    let low = grouped-below (c11 .args .role .grouping) (c11 .args .i .0) (c11 .args .role .number .0) 4294967295
+    (omega (arith, c11 .pre .1)) (omega (arith, c11 .pre .0 .among, c11 .pre .0 .few)) in (
+      rw (c6 .own-of .ensures, c7 .row-of .ensures) (c11 .pre .0 .ready),
+      omega (arith, c8 .group-of .ensures, low),
+      omega (arith, c11 .pre .1),
+    )
 
 same-length : tie.Need-same-length
 same-length c = search needs
