@@ -1,6 +1,6 @@
--- The laws of the two divisions. Assumes nothing.
+-- The laws of both divisions, and of the code of rdiv. Assumes nothing.
 use Prim.Native.Nat.{ℕ, zero, suc, _+_, _-_, _/_, _%_, _^_, _<_, _≤_}
-use native.Mathlib.Nat.{div-le-self, div-lt-self, div-one, lt-of-le-of-lt, lt-of-lt-of-le, le-trans, le-suc, zero-lt-suc, le-of-suc-le-suc}
+use native.Mathlib.Nat.{le-of-suc-le-suc}
 use native.Mathlib.Decide.{ℕ-discrete}
 use native.Mathlib.Omega.{arith}
 use mathlib.Core.Path.{_≡_, refl, sym, ap, _∙_, subst, subst⁻¹}
@@ -9,14 +9,14 @@ use mathlib.Core.Bool.{Bool, true, false, cond, not}
 use lib.Dec.{T, ltb, ltb→lt, nltb→le}
 use borrow.Author.Tests.{ne-eqb}
 use lib.IntN.{ℤ, pos, negsuc, negℤ, natAbs}
-use lib.Signed.{mag, quotZ}
+use lib.Signed.{mag}
 use mir.Syntax.{w32}
 use mir.Val.{SFits, toZ, ofZ}
 use mir.ValLaws.{toZ-ofZ}
 use Rattle.int32.specs.declared.Divided.the-variants.{Value, ByZero}
-use Rattle.int32.specs.Integers.{word, value, wrap, quotient, bySigns, evenOf, nearer, nearest, same, divided, rdiv}
+use Rattle.int32.specs.Integers.{word, value, wrap, bySigns, evenOf, nearer, nearest, same, divided, rdiv}
 use Rattle.int32.specs.SignWord.{signWord}
-use Rattle.int32.proofs.Laws.{wrap-id, wrap-fits, word-negation}
+use Rattle.int32.proofs.Laws.{wrap-fits, word-negation}
 
 -- a number from its bits
 pub from-bits : {z : ℤ} → SFits w32 z → (n : ℕ) → ofZ w32 z ≡ n → z ≡ toZ w32 n
@@ -39,36 +39,11 @@ pub divided-end : (f : ℤ → ℤ → ℤ) → f (negsuc 2147483647) (negsuc 0)
 unfolding divided same
 divided-end f h {x} {y} g k p q = let a : x ≡ negsuc 2147483647 = from-bits g 2147483648 p in let b : y ≡ negsuc 0 = from-bits k 4294967295 q in rw (a, b, h)
 
--- ---- truncation
+-- ---- the range
 
 pub neg-mag : (q : ℕ) {a : ℕ} → q ≤ suc a → mag (negℤ (pos q)) ≤ a
 neg-mag zero h = omega arith
 neg-mag (suc q) h = le-of-suc-le-suc h
-
--- the quotient is in range, but for the smallest number over -1
-pub quotient-fits : (x y : ℤ) → SFits w32 x → SFits w32 y → (ofZ w32 x ≡ 2147483648 → ofZ w32 y ≡ 4294967295 → ⊥) → SFits w32 (quotZ x y)
-quotient-fits (pos a) (pos b) f g h = record { sfits = lt-of-le-of-lt (div-le-self a b) (f .sfits) }
-quotient-fits (pos a) (negsuc b) f g h = record { sfits = lt-of-le-of-lt (neg-mag (a / suc b) (le-trans (div-le-self a (suc b)) (le-suc a))) (f .sfits) }
-quotient-fits (negsuc a) (pos b) f g h = record { sfits = lt-of-le-of-lt (neg-mag (suc a / b) (div-le-self (suc a) b)) (f .sfits) }
-quotient-fits (negsuc a) (negsuc zero) f g h = record { sfits = subst (λ (n : ℕ). n < 2 ^ 31) (sym (div-one (suc a))) (not-end a (f .sfits) (λ e. h e refl)) }
-  where
-    not-end : (a : ℕ) → a < 2 ^ 31 → (2 ^ 32 - suc a ≡ 2147483648 → ⊥) → suc a < 2 ^ 31
-    not-end a k n = omega arith
-quotient-fits (negsuc a) (negsuc (suc b)) f g h = record { sfits = lt-of-lt-of-le (div-lt-self (zero-lt-suc a) (two b)) (f .sfits) }
-  where
-    two : (b : ℕ) → 1 < suc (suc b)
-    two b = omega arith
-
-by-signs : (x y : ℤ) → quotZ x y ≡ bySigns _/_ x y
-unfolding bySigns
-by-signs (pos a) (pos b) = refl
-by-signs (pos a) (negsuc b) = refl
-by-signs (negsuc a) (pos b) = refl
-by-signs (negsuc a) (negsuc b) = refl
-
-pub quotient-is : (x y : ℤ) → SFits w32 (quotZ x y) → quotZ x y ≡ quotient x y
-unfolding quotient
-quotient-is x y f = sym (wrap-id (quotZ x y) f) ∙ ap wrap (by-signs x y)
 
 -- ---- rounding
 

@@ -6,7 +6,7 @@ use mathlib.Core.Path.{_≡_, refl, sym, ap, _∙_}
 use mathlib.Core.Bool.{Bool, true, false, cond, not}
 use lib.Dec.{lit<, T, ltb, ltb→lt, nltb→le}
 use lib.IntN.{ℤ, pos, negsuc, negℤ, subℕ, _+ℤ_, _-ℤ_, _*ℤ_, +ℤ-comm, +ℤ-assoc, +ℤ-idl}
-use mir.Syntax.{w32}
+use mir.Syntax.{Width, w32}
 use mir.Val.{SFits, toZ, ofZ}
 use mir.ValLaws.{toZ-ofZ}
 use Rattle.int32.specs.Integers.{word, value, wrap, sum, difference, product, negation}
@@ -207,8 +207,8 @@ pub negation-fits : (x : ℤ) → SFits w32 (negation x)
 unfolding negation
 negation-fits x = wrap-fits (negℤ x)
 
-pub landed : {r z : ℤ} → r ≡ z → SFits w32 z → toZ w32 (ofZ w32 r) ≡ z
-landed {r} {z} e f = ap (λ (v : ℤ). toZ w32 (ofZ w32 v)) e ∙ toZ-ofZ w32 z f
+pub landed : {w : Width} {r z : ℤ} → r ≡ z → SFits w z → toZ w (ofZ w r) ≡ z
+landed {w} {r} {z} e f = ap (λ (v : ℤ). toZ w (ofZ w v)) e ∙ toZ-ofZ w z f
 
 pub words-fit : {a b : ℕ} → a < 2 ^ 32 → b < 2 ^ 32 → a * b < 2 ^ 64
 words-fit {a} {b} h k = lt-of-le-of-lt (mul-le-mul (le-pred-of-lt h) (le-pred-of-lt k)) (lit< tt)

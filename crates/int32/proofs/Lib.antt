@@ -4,3 +4,5 @@ pub mod Signs
 pub mod Division
 pub mod Sizes
 pub mod Rounding
+pub mod Truncation
+pub mod Wide

@@ -63,7 +63,7 @@ module _ (x y p q : ℤ) where
 -- ---- of magnitudes
 
 -- how far apart two sizes are
-abbrev apart : ℕ → ℕ → ℕ
+abbrev pub apart : ℕ → ℕ → ℕ
 apart a b = (a - b) + (b - a)
 
 module _ (a b : ℕ) (h : 0 < b) where
@@ -100,18 +100,18 @@ module _ (a b : ℕ) (h : 0 < b) where
 
 -- ---- of numbers, by their signs
 
-signs-size : (f : ℕ → ℕ → ℕ) (x y : ℤ) → natAbs (bySigns f x y) ≡ f (natAbs x) (natAbs y)
+pub signs-size : (f : ℕ → ℕ → ℕ) (x y : ℤ) → natAbs (bySigns f x y) ≡ f (natAbs x) (natAbs y)
 unfolding bySigns
 signs-size f (pos a) (pos b) = refl
 signs-size f (pos a) (negsuc b) = size-negation (pos (f a (suc b)))
 signs-size f (negsuc a) (pos b) = size-negation (pos (f (suc a) b))
 signs-size f (negsuc a) (negsuc b) = refl
 
-off-pos : (a m : ℕ) → natAbs (pos a -ℤ pos m) ≡ apart a m
+pub off-pos : (a m : ℕ) → natAbs (pos a -ℤ pos m) ≡ apart a m
 off-pos a zero = omega arith
 off-pos a (suc m) = sub-cases (λ z. natAbs z ≡ apart a (suc m)) a (suc m) (λ h. omega arith) (λ h. omega arith)
 
-off-neg : (a m : ℕ) → natAbs (negsuc a -ℤ negℤ (pos m)) ≡ apart (suc a) m
+pub off-neg : (a m : ℕ) → natAbs (negsuc a -ℤ negℤ (pos m)) ≡ apart (suc a) m
 off-neg a m =
     ap (λ (z : ℤ). natAbs (negsuc a +ℤ z)) (negℤ-negℤ (pos m))
     ∙ sub-cases (λ z. natAbs z ≡ apart (suc a) m) m (suc a) (λ h. omega arith) (λ h. omega arith)
@@ -124,7 +124,7 @@ neg-pos : (k b : ℕ) → negℤ (pos k) *ℤ pos b ≡ negℤ (pos (k * b))
 neg-pos zero b = ap pos (zero-mul b) ∙ ap (λ (n : ℕ). negℤ (pos n)) (sym (zero-mul b))
 neg-pos (suc k) b = refl
 
-signs-off : (f : ℕ → ℕ → ℕ) (x y : ℤ) → off x y (bySigns f x y) ≡ apart (natAbs x) (f (natAbs x) (natAbs y) * natAbs y)
+pub signs-off : (f : ℕ → ℕ → ℕ) (x y : ℤ) → off x y (bySigns f x y) ≡ apart (natAbs x) (f (natAbs x) (natAbs y) * natAbs y)
 unfolding bySigns
 signs-off f (pos a) (pos b) = off-pos a (f a b * b)
 signs-off f (pos a) (negsuc b) = ap (λ (z : ℤ). natAbs (pos a -ℤ z)) (neg-neg (f a (suc b)) b) ∙ off-pos a (f a (suc b) * suc b)
@@ -144,6 +144,10 @@ rounded-nearest x y z = record {
 abbrev pub End : ℤ → ℤ → Type 0
 End x y = (x ≡ negsuc 2147483647) × (y ≡ negsuc 0)
 
+-- any other number over -1 is in the range
+pub short-of-end : (a : ℕ) → a < 2 ^ 31 → (End (negsuc a) (negsuc 0) → ⊥) → suc a < 2 ^ 31
+short-of-end a f h = elim (ℕ-discrete a 2147483647) [ yes e ↦ absurd (h (ap negsuc e, refl)) | no n ↦ omega arith ]
+
 rounded-fits : (x y : ℤ) → SFits w32 x → (y ≡ pos 0 → ⊥) → (End x y → ⊥) → SFits w32 (bySigns nearest x y)
 unfolding bySigns
 rounded-fits (pos a) (pos b) f z h = record { sfits = omega (arith, nearest-le a b (size-pos (pos b) z), f .sfits) }
@@ -155,11 +159,7 @@ rounded-fits (negsuc a) (pos b) f z h =
     record { sfits = omega (arith, neg-mag (nearest (suc a) b) k, f .sfits) }
 rounded-fits (negsuc a) (negsuc zero) f z h =
     let k = nearest-le (suc a) 1 (size-pos (negsuc zero) z) in
-    record { sfits = omega (arith, not-end (ℕ-discrete a 2147483647)) }
-  where
-    not-end : Dec (a ≡ 2147483647) → suc a < 2 ^ 31
-    not-end (yes e) = absurd (h (ap negsuc e, refl))
-    not-end (no n) = omega (arith, f .sfits)
+    record { sfits = omega (arith, short-of-end a (f .sfits) h) }
 rounded-fits (negsuc a) (negsuc (suc b)) f z h =
     let k = nearest-half (suc a) (suc (suc b)) (size-pos (negsuc (suc b)) z) (omega arith) in
     record { sfits = omega (arith, f .sfits) }

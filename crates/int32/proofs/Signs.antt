@@ -8,7 +8,7 @@ use native.Mathlib.Decide.{ℕ-discrete}
 use lib.Dec.{eqb}
 use lib.Signed.{mag, leZ}
 use lib.IntN.{ℤ, pos, negsuc, _-ℤ_}
-use mir.Syntax.{w32}
+use mir.Syntax.{Width, w32}
 use mir.Val.{SFits, toZ, ofZ}
 use mir.ValLaws.{toZ-ofZ}
 use Rattle.int32.specs.Integers.{same}
@@ -26,21 +26,15 @@ is-neg (pos n) e = absurd (none n (leb-false 0 n e))
 is-neg (negsuc n) e = refl
 
 -- the test of a sign, on the bits
-pub test-pos : (z : ℤ) → SFits w32 z → leZ (pos 0) (toZ w32 (ofZ w32 z)) ≡ true → z ≡ pos (mag z)
-test-pos z f e = is-pos z (ap (leZ (pos 0)) (sym (toZ-ofZ w32 z f)) ∙ e)
+pub test-pos : {w : Width} (z : ℤ) → SFits w z → leZ (pos 0) (toZ w (ofZ w z)) ≡ true → z ≡ pos (mag z)
+test-pos {w} z f e = is-pos z (ap (leZ (pos 0)) (sym (toZ-ofZ w z f)) ∙ e)
 
-pub test-neg : (z : ℤ) → SFits w32 z → leZ (pos 0) (toZ w32 (ofZ w32 z)) ≡ false → z ≡ negsuc (mag z)
-test-neg z f e = is-neg z (ap (leZ (pos 0)) (sym (toZ-ofZ w32 z f)) ∙ e)
+pub test-neg : {w : Width} (z : ℤ) → SFits w z → leZ (pos 0) (toZ w (ofZ w z)) ≡ false → z ≡ negsuc (mag z)
+test-neg {w} z f e = is-neg z (ap (leZ (pos 0)) (sym (toZ-ofZ w z f)) ∙ e)
 
 -- -1 - z
 pub flip-neg : (n : ℕ) → negsuc 0 -ℤ negsuc n ≡ pos n
-flip-neg n = sub-cases (λ z. z ≡ pos n) (suc n) 1 (λ h. absurd (none n h)) (λ h. ap pos (less n))
-  where
-    none : (n : ℕ) → suc n < 1 → ⊥
-    none n h = omega arith
-
-    less : (n : ℕ) → suc n - 1 ≡ n
-    less n = omega arith
+flip-neg n = sub-cases (λ z. z ≡ pos n) (suc n) 1 (λ h. absurd (omega arith)) (λ h. ap pos (omega arith))
 
 pub flip-pos : (n : ℕ) → negsuc 0 -ℤ pos n ≡ negsuc n
 flip-pos zero = refl

@@ -1,5 +1,5 @@
--- Document 01, Integers, and document 02, Point 2. A cell's value is a number of ℤ from -2^31 to 2^31 - 1. Each operation is done on ℤ
--- and its result wrapped, so that "wrap at 32 bits" is said once. Assumes nothing.
+-- Document 01, Integers, and document 02, Points 2 and 4. A cell's value is a number of ℤ from -2^31 to 2^31 - 1. Each operation is done on ℤ
+-- and its result wrapped, so that "wrap at 32 bits" is said once; `/` goes by cases instead. Assumes nothing.
 use Prim.Native.Nat.{ℕ, suc, _+_, _-_, _*_, _/_, _%_, _^_}
 use mathlib.Core.Bool.{Bool, false, cond, not}
 use lib.Dec.{ltb, eqb}
@@ -35,16 +35,41 @@ product x y = wrap (x *ℤ y)
 unfoldable pub negation : ℤ → ℤ
 negation x = wrap (negℤ x)
 
+-- whether two numbers are the same
+unfoldable pub same : ℤ → ℤ → Bool
+same (pos a) (pos b) = eqb a b
+same (pos a) (negsuc b) = false
+same (negsuc a) (pos b) = false
+same (negsuc a) (negsuc b) = eqb a b
+
+-- `/`. Document 02, Point 4: "Write it as the cases of the operands' signs, with the end of the range as a case of its own."
+
+-- "`/` truncates toward zero": of the whole numbers from zero to the exact quotient, the one nearest to it. In each case the magnitudes are
+-- divided, rounding down, and the case gives the sign. `negsuc n` is -(n + 1)
+abbrev pub truncated : ℤ → ℤ → ℤ
+-- neither is negative, so the exact quotient is not either: the largest whole number not above it
+truncated (pos a) (pos b) = pos (a / b)
+-- the divisor alone is negative, so the exact quotient is 0 or negative: the smallest whole number not below it
+truncated (pos a) (negsuc b) = negℤ (pos (a / suc b))
+-- the dividend alone is negative, so the exact quotient is 0 or negative: the smallest whole number not below it
+truncated (negsuc a) (pos b) = negℤ (pos (suc a / b))
+-- both are negative, so the exact quotient is positive: the largest whole number not above it
+truncated (negsuc a) (negsuc b) = pos (suc a / suc b)
+
+-- the end of the range: −2147483648 over −1. The exact quotient is 2147483648, one more than the largest number
+abbrev pub atEnd : ℤ → ℤ → Bool
+atEnd x y = cond (same x (negsuc 2147483647)) (same y (negsuc 0)) false
+
+-- "−2147483648 divided by −1, either way, gives −2147483648"; elsewhere the signs decide
+unfoldable pub quotient : ℤ → ℤ → ℤ
+quotient x y = cond (atEnd x y) (negsuc 2147483647) (truncated x y)
+
 -- a division of the magnitudes, with the sign that the quotient has
 unfoldable pub bySigns : (ℕ → ℕ → ℕ) → ℤ → ℤ → ℤ
 bySigns f (pos a) (pos b) = pos (f a b)
 bySigns f (pos a) (negsuc b) = negℤ (pos (f a (suc b)))
 bySigns f (negsuc a) (pos b) = negℤ (pos (f (suc a) b))
 bySigns f (negsuc a) (negsuc b) = pos (f (suc a) (suc b))
-
--- "`/` truncates toward zero"; "−2147483648 divided by −1, either way, gives −2147483648", since 2^31 wraps to it
-unfoldable pub quotient : ℤ → ℤ → ℤ
-quotient x y = wrap (bySigns _/_ x y)
 
 -- Document 02, Point 2: "to the even neighbour", of q and q + 1 the even one
 unfoldable pub evenOf : ℕ → ℕ
@@ -61,13 +86,6 @@ nearest a b = nearer (a / b) (a % b) (b - a % b)
 -- the whole number nearest to the exact quotient, and of two nearest ones the even one; −2147483648 over −1 wraps to −2147483648
 unfoldable pub rdiv : ℤ → ℤ → ℤ
 rdiv x y = wrap (bySigns nearest x y)
-
--- whether two numbers are the same
-unfoldable pub same : ℤ → ℤ → Bool
-same (pos a) (pos b) = eqb a b
-same (pos a) (negsuc b) = false
-same (negsuc a) (pos b) = false
-same (negsuc a) (negsuc b) = eqb a b
 
 -- "a divisor against zero": a division by f has a value unless the divisor is 0
 unfoldable pub divided : (ℤ → ℤ → ℤ) → ℤ → ℤ → Divided

@@ -1,8 +1,10 @@
 // The arithmetic of cells: 32-bit signed numbers (document 01, Integers).
 ghost use mathlib.Core.Path.{_≡_};
 ghost use Prim.Native.Nat.{_≤_, _<_};
-ghost use lib.IntN.{natAbs};
-ghost use Rattle.int32.specs.Integers.{word, value, sum, difference, product, negation, quotient, rdiv, divided, nearest, related};
+ghost use lib.IntN.{natAbs, pos};
+ghost use mir.Syntax.{w32};
+ghost use mir.Val.{SFits};
+ghost use Rattle.int32.specs.Integers.{word, value, sum, difference, product, negation, truncated, quotient, rdiv, divided, nearest, related};
 ghost use Rattle.int32.specs.SignWord.{signWord};
 
 // The two's complement word of a number.
@@ -59,7 +61,32 @@ pub enum Divided {
     ByZero,
 }
 
-// x / y toward zero. The smallest number over -1 is the smallest number.
+// x / y toward zero, by the cases of the signs (document 02, Point 4). The numbers are those of cells; on 64 bits each of them has a negative.
+fn truncate(x: i64, y: i64) -> i64
+    requires { ⌜ (SFits w32 x) × (SFits w32 y) × (y ≡ pos 0 → ⊥) ⌝ }
+    ensures { λ r. ⌜ r ≡ truncated x y ⌝ }
+{
+    if 0 <= x {
+        if 0 <= y {
+            // Neither is negative: the largest whole number not above the exact quotient.
+            x / y
+        } else {
+            // The divisor alone is negative: the smallest whole number not below the exact quotient.
+            -(x / -y)
+        }
+    } else {
+        if 0 <= y {
+            // The dividend alone is negative: the smallest whole number not below the exact quotient.
+            -(-x / y)
+        } else {
+            // Both are negative: the largest whole number not above the exact quotient.
+            -x / -y
+        }
+    }
+}
+
+// The quotient of two cells. The end of the range is a case of its own: the exact quotient of the smallest number over -1 is one more than the
+// largest number, and the answer is the smallest number.
 pub fn divide(x: i32, y: i32) -> Divided
     ensures { λ r. ⌜ r ≡ divided quotient x y ⌝ }
 {
@@ -71,7 +98,7 @@ pub fn divide(x: i32, y: i32) -> Divided
             return Divided::Value(-2147483648);
         }
     }
-    Divided::Value(x / y)
+    Divided::Value(truncate(x as i64, y as i64) as i32)
 }
 
 // A word, negated where x is negative.

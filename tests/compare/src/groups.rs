@@ -4,8 +4,8 @@ use generate::tables::{arguments, data, text_rows};
 use generate::{damage, hostile, lend, neighbours, noise, Knobs, Loop, Rng};
 use reference::Refusal;
 
+use crate::division;
 use crate::fortran;
-use crate::rounding;
 use crate::runs;
 use crate::services::{check, check_and_load, load, look, run, Lent};
 use crate::tally::Tally;
@@ -14,7 +14,7 @@ use crate::tally::Tally;
 pub type Group = (&'static str, fn() -> bool);
 
 /// All groups.
-pub const GROUPS: [Group; 12] = [
+pub const GROUPS: [Group; 13] = [
     ("tables", tables),
     ("lent", lent),
     ("run-table", runs::table),
@@ -22,7 +22,8 @@ pub const GROUPS: [Group; 12] = [
     ("runs", runs::random_runs),
     ("looks", runs::random_looks),
     ("refusals", runs::random_refusals),
-    ("rdiv", rounding::pairs),
+    ("quotient", division::quotients),
+    ("rdiv", division::rounded_quotients),
     ("fortran", fortran::second_opinion),
     ("loops", loops),
     ("damaged", damaged),

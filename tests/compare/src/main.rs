@@ -2,16 +2,16 @@
 //!
 //!     compare              every group of texts
 //!     compare GROUP..      some of them: tables, lent, run-table, look-table, runs, looks,
-//!                          refusals, rdiv, fortran, loops, damaged, noise
+//!                          refusals, quotient, rdiv, fortran, loops, damaged, noise
 //!     compare stack KIB    how much stack the services need; whether it is at most so much
 //!     compare text FILE    what both answer for one text
 //!
 //! The exit status is 0 only if nothing differs.
 
+mod division;
 mod fortran;
 mod groups;
 mod product;
-mod rounding;
 mod runs;
 mod services;
 mod stack;

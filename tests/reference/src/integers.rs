@@ -48,6 +48,39 @@ mod tests {
         assert_eq!(divide_rounded(-5, 2), Some(-2));
     }
 
+    /// Document 02, Point 4: neither negative, the divisor, the dividend, both; the end of the range.
+    #[test]
+    fn quotients_by_cases() {
+        for (dividend, divisor, quotient) in [
+            (7, 2, 3),
+            (7, -2, -3),
+            (-7, 2, -3),
+            (-7, -2, 3),
+            (i32::MIN, -1, i32::MIN),
+            (i32::MIN, 1, i32::MIN),
+            (i32::MIN, -2, 1_073_741_824),
+            (i32::MIN, i32::MIN, 1),
+            (i32::MIN + 1, -1, i32::MAX),
+            (i32::MAX, -1, -i32::MAX),
+            (i32::MAX, i32::MIN, 0),
+        ] {
+            assert_eq!(divide_truncated(dividend, divisor), Some(quotient));
+        }
+    }
+
+    /// The standard's sense: of the whole numbers between zero and the exact quotient, the one nearest to it.
+    #[test]
+    fn truncation_is_the_nearest_toward_zero() {
+        for a in -40i64..=40 {
+            for b in (-9i64..=9).filter(|&b| b != 0) {
+                let between = |q: &i64| (0.min(a)..=0.max(a)).contains(&(q * b));
+                let nearest = (-40..=40).filter(between).min_by_key(|q| (a - q * b).abs());
+                let quotient = divide_truncated(a as i32, b as i32).map(i64::from);
+                assert_eq!(quotient, nearest, "{a} {b}");
+            }
+        }
+    }
+
     /// P2.1
     #[test]
     fn halves_go_to_even() {
