@@ -87,7 +87,7 @@ contains
     type(lrpd_check_answer), intent(in) :: sizes
     integer :: words
 
-    words = 4352 + 64 * sizes%processors + sizes%cells * (4 + 6 * sizes%processors)
+    words = 4352 + 64 * sizes%processors + sizes%cells * (4 + 8 * sizes%processors)
   end function
 
   ! The shared values and marks after the schedule's bytes, two words for each cell.

@@ -24,7 +24,7 @@ extern "C" {
 
 /* The words of workspace that Look and Run ask for. */
 #define LRPD_WORKSPACE(cells, processors) \
-    (4352 + 64 * (size_t)(processors) + (size_t)(cells) * (4 + 6 * (size_t)(processors)))
+    (4352 + 64 * (size_t)(processors) + (size_t)(cells) * (4 + 8 * (size_t)(processors)))
 
 /* An answer begins with the three numbers of a refusal; the number 0 means none, and then line and v are 0 too.
 

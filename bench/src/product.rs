@@ -44,5 +44,5 @@ pub fn run(text: &[u8], cells: &mut [i32], workspace: &mut [u32]) -> RunAnswer {
 
 /// The words of workspace that Run asks for.
 pub fn workspace_words(cells: usize, processors: usize) -> usize {
-    4352 + 64 * processors + cells * (4 + 6 * processors)
+    4352 + 64 * processors + cells * (4 + 8 * processors)
 }

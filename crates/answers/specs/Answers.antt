@@ -26,9 +26,9 @@ checkOf (good s) = Sizes (cells (s .table)) (s .processors)
 
 -- ---- what can't be taken: 0, or its number
 
--- "under 4,352 + 64 × P + N × (4 + 6 × P) words of 32 bits"
+-- document 02, Point 5: "The workspace in document 01 becomes 4,352 + 64 × P + N × (4 + 8 × P) words"
 abbrev pub needed : ℕ → ℕ → ℕ
-needed n p = 4352 + 64 * p + n * (4 + 6 * p)
+needed n p = 4352 + 64 * p + n * (4 + 8 * p)
 
 -- of n cells, where m are lent
 abbrev pub cellsNumber : ℕ → ℕ → ℕ

@@ -9,7 +9,7 @@ use lib.ListN.{length, take, drop, set}
 use lib.Seq.{sets}
 use Rattle.syntax.specs.Bytes.{bytes, same}
 use Rattle.syntax.specs.Grammar.{Expr, Ref, single, element, showRef}
-use Rattle.rules.specs.Loop.{Class, shared, lastprivate, reduction}
+use Rattle.rules.specs.Loop.{Class, shared, lastprivate, copied, reduction}
 use Rattle.rules.specs.Numbers.{class-number}
 use Rattle.syntax.specs.Known.{Entry, find}
 use Rattle.syntax.specs.Meaning.{alike, is-reduction}
@@ -70,6 +70,7 @@ back-unread n g e = subst (λ (x : Got). Back n x Broken) (sym e) refl
 class-reduction : (c : Class) → eqb (class-number c) 2 ≡ is-reduction c
 class-reduction shared = refl
 class-reduction lastprivate = refl
+class-reduction copied = refl
 class-reduction reduction = refl
 
 module _ (T s : List ℕ) {t u : Tok} (lt : Lexed s 0 t) (lu : Lexed s (t .stop) u) {b : Bool} (eb : b ≡ same (40 ∷ []) (part s (u .start) (u .stop))) where

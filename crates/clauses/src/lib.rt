@@ -1,18 +1,21 @@
-// The directive (document 01, The loop text, 3), after its first words.
+// The directive (document 01, The loop text, 3), after its first words: its clauses, which are read twice. What each reading does with their names is in
+// crates/claiming.
 ghost use mathlib.Core.Path.{_≡_};
 ghost use mathlib.Core.Bool.{_&&_};
 ghost use Prim.Native.Nat.{_≤_, _<_, _+_, min};
 ghost use lib.Dec.{eqb, leb};
 ghost use lib.ListN.{length};
 ghost use Rattle.syntax.specs.Bytes.{between};
-ghost use Rattle.rules.specs.Numbers.{class-number};
 ghost use Rattle.syntax.specs.Grammar.{number, static};
-ghost use Rattle.syntax.specs.Known.{class-by, grouping-by};
+ghost use Rattle.syntax.specs.Known.{grouping-by};
 ghost use Rattle.syntax.specs.Reader.{readKind, readThreads, readStatic, peek-in, skip-in};
 ghost use Rattle.lexer.specs.Places.{Goes};
-ghost use Rattle.names.specs.Table.{nameWords};
 ghost use Rattle.heading.specs.Lists.{Keeps, Standing};
-ghost use Rattle.clauses.specs.Directive.{Claim, ClaimAt, Claims, NamesAt, ClauseAt, Clauses, Directive};
+ghost use Rattle.clauses.specs.Directive.{ClaimAt, Claims, NamesAt, ClauseAt, Clauses, none-before, Directive};
+use claiming::Deed;
+use claiming::Reading;
+use claiming::deed_of;
+use claiming::dispose;
 use heading::Headed;
 use heading::ranked;
 use lexer::Number;
@@ -21,46 +24,15 @@ use lexer::is_end;
 use lexer::name;
 use lexer::pass;
 use names::Table;
-use names::classify;
-use names::find;
 use rules::Grouping;
 use syntax::ClauseKind;
 
 // ---- names
 
-// The number of the class that a clause gives its names: here a clause becomes a class.
-fn class_of(kind: ClauseKind) -> u32
-    ensures { λ r. ⌜ (r ≡ class-number (class-by kind)) × (r ≤ 2) ⌝ }
-{
-    match kind {
-        ClauseKind::Shared => rules::SHARED,
-        ClauseKind::Lastprivate => rules::LASTPRIVATE,
-        ClauseKind::Reduction => rules::REDUCTION,
-    }
-}
-
-// A name in a clause: the rank with that of the name, which is declared and stands in no clause before.
-fn claim(table: &mut Table, w: &[u8], kind: ClauseKind, rank: u32) -> u32
-    requires { ⌜ (length (now w) ≤ nameWords) × Standing (now table) ⌝ }
-    ensures { λ r. ⌜ Claim (now (table .entry)) (now (w .entry)) kind rank (now (table .exit)) r ⌝ }
-    ensures { λ _. ⌜ Keeps (now (table .entry)) (now (table .exit)) × Standing (now (table .exit)) ⌝ }
-{
-    let n = find(table, w);
-    let index = n.index;
-    if !n.known {
-        return ranked(rank, false, true);
-    }
-    if n.claimed {
-        return ranked(rank, false, true);
-    }
-    classify(table, index, class_of(kind));
-    rank
-}
-
 // The name at a place, in a clause.
-fn claim_at(s: &[u8], at: usize, table: &mut Table, kind: ClauseKind, rank: u32) -> Headed
+fn claim_at(s: &[u8], at: usize, table: &mut Table, deed: Deed, rank: u32) -> Headed
     requires { ⌜ (length (now s) ≤ 2048) × Standing (now table) ⌝ }
-    ensures { λ r. ⌜ ClaimAt (now (table .entry)) (now (s .entry)) at kind rank (now (table .exit)) r ⌝ }
+    ensures { λ r. ⌜ ClaimAt deed (now (table .entry)) (now (s .entry)) at rank (now (table .exit)) r ⌝ }
     ensures { λ _. ⌜ Keeps (now (table .entry)) (now (table .exit)) × Standing (now (table .exit)) ⌝ }
 {
     let x = name(s, at);
@@ -71,22 +43,22 @@ fn claim_at(s: &[u8], at: usize, table: &mut Table, kind: ClauseKind, rank: u32)
     }
     Headed {
         next: e,
-        rank: claim(table, &s[a..e], kind, rank),
+        rank: dispose(table, &s[a..e], deed, rank),
     }
 }
 
 // The names of a clause.
-fn claims(s: &[u8], at: usize, table: &mut Table, kind: ClauseKind, rank: u32) -> Headed
+fn claims(s: &[u8], at: usize, table: &mut Table, deed: Deed, rank: u32) -> Headed
     requires { ⌜ (length (now s) ≤ 2048) × Standing (now table) ⌝ }
-    ensures { λ r. ⌜ Claims (now (table .entry)) (now (s .entry)) at kind rank (now (table .exit)) r ⌝ }
+    ensures { λ r. ⌜ Claims deed (now (table .entry)) (now (s .entry)) at rank (now (table .exit)) r ⌝ }
     ensures { λ _. ⌜ Keeps (now (table .entry)) (now (table .exit)) × Standing (now (table .exit)) ⌝ }
 {
-    let c = claim_at(s, at, table, kind, rank);
+    let c = claim_at(s, at, table, deed, rank);
     let comma = pass(s, c.next, b",");
     if s.len() < comma {
         return c;
     }
-    claims(s, comma, table, kind, c.rank)
+    claims(s, comma, table, deed, c.rank)
 }
 
 // ---- clauses
@@ -116,25 +88,33 @@ fn kind_at(s: &[u8], at: usize) -> Opened
             kind: ClauseKind::Lastprivate,
         };
     }
-    let c = pass(s, at, b"reduction");
-    let d = pass(s, c, b"(");
-    let e = pass(s, d, b"+");
+    let c = pass(s, at, b"firstprivate");
+    if c <= s.len() {
+        return Opened {
+            next: pass(s, c, b"("),
+            kind: ClauseKind::Firstprivate,
+        };
+    }
+    let d = pass(s, at, b"reduction");
+    let e = pass(s, d, b"(");
+    let f = pass(s, e, b"+");
     Opened {
-        next: pass(s, e, b":"),
+        next: pass(s, f, b":"),
         kind: ClauseKind::Reduction,
     }
 }
 
 // A clause with names.
-fn names_at(s: &[u8], at: usize, table: &mut Table, rank: u32) -> Headed
+fn names_at(s: &[u8], at: usize, table: &mut Table, reading: Reading, rank: u32) -> Headed
     requires { ⌜ (length (now s) ≤ 2048) × Standing (now table) ⌝ }
-    ensures { λ r. ⌜ NamesAt (now (table .entry)) (now (s .entry)) at rank (now (table .exit)) r ⌝ }
+    ensures { λ r. ⌜ NamesAt reading (now (table .entry)) (now (s .entry)) at rank (now (table .exit)) r ⌝ }
     ensures { λ _. ⌜ Keeps (now (table .entry)) (now (table .exit)) × Standing (now (table .exit)) ⌝ }
     ensures { λ r. ⌜ (at ≤ length (now (s .entry)) → at < r .next) ⌝ }
 {
     let k = kind_at(s, at);
     let kind = k.kind;
-    let c = claims(s, k.next, table, kind, rank);
+    let deed = deed_of(reading, kind);
+    let c = claims(s, k.next, table, deed, rank);
     let rank = c.rank;
     Headed {
         next: pass(s, c.next, b")"),
@@ -214,9 +194,9 @@ pub fn grouping_of(statics: u32) -> Grouping
 }
 
 // A clause after others.
-fn clause_at(s: &[u8], table: &mut Table, before: Directed) -> Directed
+fn clause_at(s: &[u8], table: &mut Table, reading: Reading, before: Directed) -> Directed
     requires { ⌜ (length (now s) ≤ 2048) × Standing (now table) ⌝ }
-    ensures { λ r. ⌜ ClauseAt (now (table .entry)) (now (s .entry)) before (now (table .exit)) r ⌝ }
+    ensures { λ r. ⌜ ClauseAt reading (now (table .entry)) (now (s .entry)) before (now (table .exit)) r ⌝ }
     ensures { λ _. ⌜ Keeps (now (table .entry)) (now (table .exit)) × Standing (now (table .exit)) ⌝ }
     ensures { λ r. ⌜ (before .next ≤ length (now (s .entry)) → before .next < r .next) ⌝ }
 {
@@ -246,7 +226,7 @@ fn clause_at(s: &[u8], table: &mut Table, before: Directed) -> Directed
             statics: again(statics),
         };
     }
-    let c = names_at(s, at, table, rank);
+    let c = names_at(s, at, table, reading, rank);
     Directed {
         next: c.next,
         rank: c.rank,
@@ -257,9 +237,9 @@ fn clause_at(s: &[u8], table: &mut Table, before: Directed) -> Directed
 }
 
 // Clauses up to the line's end, after others.
-fn clauses(s: &[u8], table: &mut Table, before: Directed) -> Directed
+fn clauses(s: &[u8], table: &mut Table, reading: Reading, before: Directed) -> Directed
     requires { ⌜ (length (now s) ≤ 2048) × Standing (now table) ⌝ }
-    ensures { λ r. ⌜ Clauses (now (table .entry)) (now (s .entry)) before (now (table .exit)) r ⌝ }
+    ensures { λ r. ⌜ Clauses reading (now (table .entry)) (now (s .entry)) before (now (table .exit)) r ⌝ }
     ensures { λ _. ⌜ Keeps (now (table .entry)) (now (table .exit)) × Standing (now (table .exit)) ⌝ }
 {
     let at = before.next;
@@ -275,27 +255,34 @@ fn clauses(s: &[u8], table: &mut Table, before: Directed) -> Directed
     if is_end(s, at) {
         return before;
     }
-    let c = clause_at(s, table, before);
+    let c = clause_at(s, table, reading, before);
     if s.len() < c.next {
         return c;
     }
-    clauses(s, table, c)
+    clauses(s, table, reading, c)
 }
 
 // ---- the directive
 
-// The directive, after `parallel do`.
+// No clause before the first; names and limits came to a rank.
+fn none_before(at: usize, rank: u32) -> Directed
+    ensures { λ r. ⌜ r ≡ none-before at rank ⌝ }
+{
+    Directed {
+        next: at,
+        rank,
+        threads: 0,
+        processors: 0,
+        statics: 0,
+    }
+}
+
+// The directive, after `parallel do`. Both readings come to the same numbers but for the rank, and the second goes on with that of the first.
 pub fn directive(s: &[u8], at: usize, table: &mut Table) -> Directed
     requires { ⌜ (length (now s) ≤ 2048) × Standing (now table) ⌝ }
     ensures { λ r. ⌜ Directive (now (table .entry)) (now (s .entry)) at (now (table .exit)) r ⌝ }
     ensures { λ _. ⌜ Keeps (now (table .entry)) (now (table .exit)) ⌝ }
 {
-    let none = Directed {
-        next: at,
-        rank: 0,
-        threads: 0,
-        processors: 0,
-        statics: 0,
-    };
-    clauses(s, table, none)
+    let classes = clauses(s, table, Reading::Classes, none_before(at, 0));
+    clauses(s, table, Reading::Copies, none_before(at, classes.rank))
 }

@@ -10,12 +10,13 @@ use Rattle.rules.specs.Loop.{Loop, Partition}
 use Rattle.rules.specs.Log.{Log, only}
 use Rattle.rules.specs.Marks.{marks}
 use Rattle.rules.specs.Obstacles.{ObstacleAt}
+use Rattle.rules.specs.Record.{Recorded}
 use Rattle.rules.specs.Steps.{State}
 use Rattle.rules.specs.Merge.{pairs, written-cells}
 use Rattle.rules.specs.Proper.{Proper}
 use Rattle.shadow.proofs.Shows.{Shows, merged-right}
 use Rattle.shadow.specs.Tables.{table}
-use Rattle.tables.specs.Layout.{row-at, pairs-word, cells-word, entry-word}
+use Rattle.tables.specs.Layout.{row-at, pairs-word, cells-word, entry-word, lowest-word, highest-word}
 use Rattle.tables.specs.Logged.{Logged}
 use Rattle.findings.specs.Findings.{marks-of, blocked-of}
 use Rattle.findings.proofs.ReadOff.{marks-held, blocked-held, merged-held}
@@ -40,6 +41,9 @@ module _ (l : Loop) (δ : Partition) (g : Log) (W : List ℕ) (h : Logged l δ g
 
       pub logged-marks : marks-of W at ≡ marks (δ .group) c g
       logged-marks = marks-held (δ .processors) (l .class c) (l .entry c) W at (table l δ g .rows c) (h .rows c b) ∙ s .marked c
+
+      pub logged-record : Recorded (λ i. only (δ .group) i g) c (lowest-word W at) (highest-word W at)
+      logged-record = rw (h .rows c b .lowest, h .rows c b .highest) (s .recorded c)
 
       pub logged-obstacle : ObstacleAt (l .class c) (λ i. only (δ .group) i g) c ↔ (blocked-of W at ≡ true)
       logged-obstacle =

@@ -12,14 +12,14 @@ use lib.Dec.{eqb, ltb}
 use lib.IntN.{ℤ, pos}
 use Rattle.int32.specs.Integers.{value, sum}
 use Rattle.rules.specs.ChooseLaws.{pick-same, pick-other}
-use Rattle.rules.specs.Loop.{Class, shared, lastprivate, reduction, Loop, Partition}
+use Rattle.rules.specs.Loop.{Class, shared, lastprivate, copied, reduction, Loop, Partition}
 use Rattle.rules.specs.Merge.{sum-of}
 use Rattle.rules.specs.Numbers.{class-number}
 use Rattle.shadow.specs.Tables.{Row, shown, Stale-row, Blocked, chosen}
 use Rattle.shadow.proofs.Shows.{merged-off}
 use Rattle.tables.specs.Layout.{bit, flags-word, class-word, RowHeld}
 use Rattle.tables.proofs.Flags.{flags-crossed, flags-updated, flags-class}
-use Rattle.findings.specs.Findings.{marks-of, contested, stale, mixed, blocked, blocked-of, last-word, gathered, merged}
+use Rattle.findings.specs.Findings.{marks-of, contested, stale, late, mixed, blocked, blocked-of, last-word, gathered, merged}
 
 -- ---- marks
 
@@ -76,17 +76,22 @@ module _ (m w : ℕ) where
   mixed-is : (f : ℕ) (b : Bool) → f / 2 % 2 ≡ bit b → ((0 < m) × (b ≡ true)) ↔ (mixed m f ≡ true)
   mixed-is f b e = rw e (both (ltb 0 m) (eqb (bit b) 1) (above 0 m) (marked b))
 
+late-is : (lo hi : ℕ) → ((0 < lo) × (lo < hi)) ↔ (late lo hi ≡ true)
+late-is lo hi = both (ltb 0 lo) (ltb lo hi) (above 0 lo) (above lo hi)
+
 module _ (p : ℕ) (k : Class) (e : ℤ) (W : List ℕ) (row : ℕ) (r : Row) (x : RowHeld p k e W row r) where
   -- the obstacles
   pub blocked-held : Blocked k r ↔ (blocked-of W row ≡ true)
-  blocked-held = rw (x .met, x .writers) (by-class k (class-bits p k e W row r x))
+  blocked-held = rw (x .met, x .writers, x .lowest, x .highest) (by-class k (class-bits p k e W row r x))
     where
       s : Stale-row r ↔ (stale (r .met) (r .writers) (flags-word W row) ≡ true)
       s = stale-is (r .met) (r .writers) (flags-word W row) (r .crossed) (crossed-bit p k e W row r x)
 
-      by-class : (k : Class) → class-word W row ≡ class-number k → Blocked k r ↔ (blocked (r .met) (r .writers) (flags-word W row) ≡ true)
+      by-class : (k : Class) → class-word W row ≡ class-number k
+          → Blocked k r ↔ (blocked (r .met) (r .writers) (flags-word W row) (r .lowest) (r .highest) ≡ true)
       by-class shared c = rw c (contested-is (r .met) (r .writers))
       by-class lastprivate c = rw c s
+      by-class copied c = rw c (late-is (r .lowest) (r .highest))
       by-class reduction c = rw c
           (either (stale (r .met) (r .writers) (flags-word W row)) (mixed (r .met) (flags-word W row)) s
           (mixed-is (r .met) (r .writers) (flags-word W row) (r .updated) (updated-bit p k e W row r x)))
@@ -126,6 +131,8 @@ pub merged-held : (l : Loop) (δ : Partition) → l .plus ≡ sum → l .zero �
 merged-held l δ f z shared c W row r x m = rw (class-bits (δ .processors) shared (l .entry c) W row r x)
 merged-held l δ f z lastprivate c W row r x m = rw (class-bits (δ .processors) lastprivate (l .entry c) W row r x)
     (last-held (δ .processors) lastprivate (l .entry c) W row r x (δ .processors) (omega arith))
+merged-held l δ f z copied c W row r x m = rw (class-bits (δ .processors) copied (l .entry c) W row r x)
+    (last-held (δ .processors) copied (l .entry c) W row r x (δ .processors) (omega arith))
 merged-held l δ f z reduction c W row r x m =
     let p = δ .processors in
     let u : eqb (flags-word W row / 2 % 2) 1 ≡ r .updated = ap (λ (b : ℕ). eqb b 1) (updated-bit p reduction (l .entry c) W row r x) ∙ bit-is (r .updated) in

@@ -8,7 +8,7 @@ use lib.Dec.{eqb, ltb}
 use lib.IntN.{ℤ, pos}
 use Rattle.int32.specs.Integers.{value, sum}
 use Rattle.rules.specs.Choose.{pick, below}
-use Rattle.tables.specs.Layout.{own-at, entry-word, met-word, writers-word, flags-word, class-word, private-word, wrote-word, sum-word}
+use Rattle.tables.specs.Layout.{own-at, entry-word, met-word, writers-word, flags-word, lowest-word, highest-word, class-word, private-word, wrote-word, sum-word}
 
 -- ---- marks
 
@@ -30,21 +30,28 @@ contested met writers = ltb 0 writers && ltb 1 met
 abbrev pub stale : ℕ → ℕ → ℕ → Bool
 stale met writers flags = contested met writers && (ltb writers met || eqb (flags % 2) 1)
 
+-- by its record: a group wrote it and a higher one read it exposed
+abbrev pub late : ℕ → ℕ → Bool
+late lowest highest = ltb 0 lowest && ltb lowest highest
+
 -- it has an update and an ordinary access
 abbrev pub mixed : ℕ → ℕ → Bool
 mixed met flags = ltb 0 met && eqb (flags / 2 % 2) 1
 
 -- the cell has an obstacle
-abbrev pub blocked : ℕ → ℕ → ℕ → Bool
-blocked met writers flags =
+abbrev pub blocked : ℕ → ℕ → ℕ → ℕ → ℕ → Bool
+blocked met writers flags lowest highest =
     cond
     (eqb (flags / 4) 0)
     (contested met writers)
-    (cond (eqb (flags / 4) 1) (stale met writers flags) (stale met writers flags || mixed met flags))
+    (cond
+    (eqb (flags / 4) 3)
+    (late lowest highest)
+    (cond (eqb (flags / 4) 1) (stale met writers flags) (stale met writers flags || mixed met flags)))
 
 -- by its row
 abbrev pub blocked-of : List ℕ → ℕ → Bool
-blocked-of W row = blocked (met-word W row) (writers-word W row) (flags-word W row)
+blocked-of W row = blocked (met-word W row) (writers-word W row) (flags-word W row) (lowest-word W row) (highest-word W row)
 
 -- ---- private values and the merge
 
@@ -72,6 +79,9 @@ merged W row p x =
     (eqb (class-word W row) 1)
     (value (last-word W row p))
     (cond
+    (eqb (class-word W row) 3)
+    (value (last-word W row p))
+    (cond
     (eqb (flags-word W row / 2 % 2) 1)
     (sum (value (last-word W row p)) (gathered W row p))
-    (value (last-word W row p))))
+    (value (last-word W row p)))))

@@ -6,12 +6,15 @@ ghost use lib.ListN.{length};
 ghost use Rattle.int32.specs.Integers.{value};
 ghost use Rattle.rules.specs.Choose.{below};
 ghost use Rattle.tables.specs.Layout.{pairs-word, cells-word, entry-word};
-ghost use Rattle.findings.specs.Findings.{marks-read, marks-of, contested, stale, mixed, blocked, blocked-of, last-word, gathered, merged};
+ghost use Rattle.findings.specs.Findings.{marks-read, marks-of, contested, stale, late, mixed, blocked, blocked-of, last-word, gathered, merged};
+use rules::COPIED;
 use rules::LASTPRIVATE;
 use rules::Processor;
 use rules::SHARED;
 use tables::CELLS;
 use tables::FLAGS;
+use tables::HIGHEST;
+use tables::LOWEST;
 use tables::MET;
 use tables::PAIRS;
 use tables::SUM;
@@ -62,7 +65,7 @@ fn marks_by(met: u32, writers: u32, flags: u32) -> u32
 
 // The marks of a cell.
 pub fn marks_of(w: &[u32], row: usize) -> u32
-    requires { ⌜ row + 4 ≤ length (now w) ⌝ }
+    requires { ⌜ row + 6 ≤ length (now w) ⌝ }
     ensures { λ r. ⌜ r ≡ marks-of (now (w .entry)) row ⌝ }
 {
     marks_by(w[row + MET], w[row + WRITERS], w[row + FLAGS])
@@ -90,6 +93,13 @@ fn is_stale(met: u32, writers: u32, flags: u32) -> bool
     false
 }
 
+// A group wrote a cell and a higher one read it exposed, by the record of the cell.
+fn is_late(lowest: u32, highest: u32) -> bool
+    ensures { λ r. ⌜ r ≡ late lowest highest ⌝ }
+{
+    if 0 < lowest { lowest < highest } else { false }
+}
+
 // A cell has an update and an ordinary access.
 fn is_mixed(met: u32, flags: u32) -> bool
     ensures { λ r. ⌜ r ≡ mixed met flags ⌝ }
@@ -97,13 +107,16 @@ fn is_mixed(met: u32, flags: u32) -> bool
     if 0 < met { flags / 2 % 2 == 1 } else { false }
 }
 
-// Whether a cell has an obstacle, by three words of its row.
-fn is_obstacle(met: u32, writers: u32, flags: u32) -> bool
-    ensures { λ r. ⌜ r ≡ blocked met writers flags ⌝ }
+// Whether a cell has an obstacle, by five words of its row.
+fn is_obstacle(met: u32, writers: u32, flags: u32, lowest: u32, highest: u32) -> bool
+    ensures { λ r. ⌜ r ≡ blocked met writers flags lowest highest ⌝ }
 {
     let class = flags / 4;
     if class == SHARED {
         return is_contested(met, writers);
+    }
+    if class == COPIED {
+        return is_late(lowest, highest);
     }
     let stale = is_stale(met, writers, flags);
     if class == LASTPRIVATE {
@@ -117,17 +130,23 @@ fn is_obstacle(met: u32, writers: u32, flags: u32) -> bool
 
 // Whether a cell has an obstacle.
 pub fn is_blocked(w: &[u32], row: usize) -> bool
-    requires { ⌜ row + 4 ≤ length (now w) ⌝ }
+    requires { ⌜ row + 6 ≤ length (now w) ⌝ }
     ensures { λ r. ⌜ r ≡ blocked-of (now (w .entry)) row ⌝ }
 {
-    is_obstacle(w[row + MET], w[row + WRITERS], w[row + FLAGS])
+    is_obstacle(
+        w[row + MET],
+        w[row + WRITERS],
+        w[row + FLAGS],
+        w[row + LOWEST],
+        w[row + HIGHEST],
+    )
 }
 
 // ---- the merge
 
 // The private value of the highest processor that wrote the cell, else the entry value.
 fn last_value(w: &[u32], row: usize, processors: u32) -> i32
-    requires { ⌜ (row < 4294967296) × (row + 4 + 5 * processors ≤ length (now w)) ⌝ }
+    requires { ⌜ (row < 4294967296) × (row + 6 + 5 * processors ≤ length (now w)) ⌝ }
     ensures { λ r. ⌜ r ≡ value (last-word (now (w .entry)) row processors) ⌝ }
 {
     let mut x = w[row];
@@ -143,7 +162,7 @@ fn last_value(w: &[u32], row: usize, processors: u32) -> i32
 
 // The sums of the processors, taken together.
 fn total(w: &[u32], row: usize, processors: u32) -> i32
-    requires { ⌜ (row < 4294967296) × (row + 4 + 5 * processors ≤ length (now w)) ⌝ }
+    requires { ⌜ (row < 4294967296) × (row + 6 + 5 * processors ≤ length (now w)) ⌝ }
     ensures { λ r. ⌜ r ≡ gathered (now (w .entry)) row processors ⌝ }
 {
     let mut sum = 0;
@@ -159,7 +178,7 @@ fn total(w: &[u32], row: usize, processors: u32) -> i32
 
 // What a cell is left with after a run that passed; `shared` is what stands in it.
 pub fn merged_value(w: &[u32], row: usize, shared: i32, processors: u32) -> i32
-    requires { ⌜ (row < 4294967296) × (row + 4 + 5 * processors ≤ length (now w)) ⌝ }
+    requires { ⌜ (row < 4294967296) × (row + 6 + 5 * processors ≤ length (now w)) ⌝ }
     ensures { λ r. ⌜ r ≡ merged (now (w .entry)) row processors shared ⌝ }
 {
     let flags = w[row + FLAGS];
@@ -168,6 +187,9 @@ pub fn merged_value(w: &[u32], row: usize, shared: i32, processors: u32) -> i32
     }
     let last = last_value(w, row, processors);
     if flags / 4 == LASTPRIVATE {
+        return last;
+    }
+    if flags / 4 == COPIED {
         return last;
     }
     if flags / 2 % 2 == 1 {

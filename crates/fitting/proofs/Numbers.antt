@@ -10,8 +10,8 @@ use lib.Dec.{leb, ltb}
 use Rattle.syntax.specs.Bytes.{all}
 use Rattle.answers.specs.Answers.{needed, fitNumber}
 
-pub needed-most : (n p : ℕ) → n ≤ 4096 → p ≤ 8 → n * (4 + 6 * p) ≤ 4096 * 52
-needed-most n p a b = let q : 4 + 6 * p ≤ 52 = omega arith in mul-le-mul a q
+pub needed-most : (n p : ℕ) → n ≤ 4096 → p ≤ 8 → n * (4 + 8 * p) ≤ 4096 * 68
+needed-most n p a b = let q : 4 + 8 * p ≤ 68 = omega arith in mul-le-mul a q
 
 pub other-cells : (n p m w : ℕ) (ps : List ℕ) → (m ≡ n → ⊥) → 5 ≡ fitNumber n p m w ps
 other-cells n p m w ps h = sym (ap (λ (b : Bool). cond b (cond (leb (needed n p) w) (cond (all (λ x. ltb x p) ps) 0 7) 6) 5) (ne-eqb m n h))

@@ -24,7 +24,7 @@ fn needed_words(n: u32, processors: u32) -> usize
     ensures { λ r. ⌜ r ≡ needed n processors ⌝ }
 {
     let p = processors as usize;
-    4352 + 64 * p + n as usize * (4 + 6 * p)
+    4352 + 64 * p + n as usize * (4 + 8 * p)
 }
 
 // Whether each byte of a schedule names a processor.

@@ -13,7 +13,7 @@ use Rattle.rules.specs.declared.Grouping.{Grouping}
 use Rattle.syntax.specs.Bytes.{bytes, all, choose}
 use Rattle.syntax.specs.Grammar.{number, Clause, Line, direct}
 use Rattle.syntax.specs.Known.{Entry, classify, threads-in, processors-by, statics-in, grouping-by, State, after}
-use Rattle.syntax.specs.Conditions.{digits, inLine, rightly, small, clauseNames, names, limits, fits, may-follow}
+use Rattle.syntax.specs.Conditions.{digits, inLine, rightly, small, names, limits, fits, may-follow}
 use Rattle.syntax.specs.Text.{initial, loaded}
 use Rattle.syntax.specs.Reader.{Parsed, broken, done, Reader, next, kind, finish, expects, wants, readClauses, readOpening, peek-in, skip-in}
 use Rattle.syntax.proofs.ReaderLaws.{next-assoc}
@@ -21,11 +21,12 @@ use Rattle.syntax.proofs.Spelling.{both-true}
 use Rattle.syntax.proofs.TestLaws.{both-hold}
 use Rattle.syntax.proofs.TableLines.{classify-cells}
 use Rattle.lexer.specs.Places.{Lands, Goes, Any, passes}
-use Rattle.names.specs.Table.{Tabled}
+use Rattle.names.specs.Table.{Tabled, Unclaimed}
 use Rattle.heading.specs.Lists.{order, Keeps}
-use Rattle.clauses.specs.Directive.{frees, few, Clausal, none-before, Directive}
+use Rattle.clauses.specs.Directive.{twice-fit, few, Directing, Directive}
 use Rattle.clauses.specs.declared.Directed.{Directed}
-use Rattle.clauses.proofs.ClassesGiven.{frees-are, classes-are, unmarked, counted-once, counted-most, counted-grouping, last-once}
+use Rattle.clauses.proofs.Readings.{names-fit, classes-are, unmarked}
+use Rattle.clauses.proofs.Times.{counted-once, counted-most, counted-grouping, last-once}
 use Rattle.heading.proofs.Lists.{good-order}
 use Rattle.lines.specs.declared.Progress.{Progress}
 use Rattle.lines.specs.Progress.{Held, held, before-do, Represents, numberOf, numbered, whole, Concludes, Numbers}
@@ -51,9 +52,10 @@ few-small (p ∷ ps) h =
     let (a, b) = both-true (few p) _ h in
     both-hold (le-leb (number p) 2147483647 (omega (arith, leb-true (number p) 8 (both-true (leb 1 (number p)) _ a .1)))) (few-small ps b)
 
-names-are : (st : State) (cs : List Clause) → names st (direct cs) ≡ frees (st .table) [] (clauseNames cs)
+names-are : (T : List ℕ) (st : State) (cs : List Clause) → Tabled T (st .table) → Unclaimed T (length (st .table))
+    → names st (direct cs) ≡ twice-fit (st .table) cs
 unfolding names inLine
-names-are st cs = (λ i. digits-right (st .table) (st .variable) (threads-in cs) i && sym (frees-are (st .table) (clauseNames cs)) i)
+names-are T st cs tab u = λ i. digits-right (st .table) (st .variable) (threads-in cs) i && sym (names-fit T (st .table) cs tab u) i
 
 limits-are : (st : State) (cs : List Clause) → limits st (direct cs) ≡ all few (threads-in cs)
 unfolding limits inLine
@@ -86,7 +88,7 @@ module _ (k : ℕ) (s : List ℕ) (H : Held) (T′ : List ℕ) (x y a : ℕ) (gx
 
     -- these clauses were found
     abbrev Found : List Clause → Type 0
-    Found cs = Clausal t [] (none-before a) T′ r cs
+    Found cs = Directing t T′ r cs
 
     abbrev good : Line → Type 0
     good l = Represents (leaves progress) (after k l st)
@@ -98,7 +100,7 @@ module _ (k : ℕ) (s : List ℕ) (H : Held) (T′ : List ℕ) (x y a : ℕ) (gx
         follows-not m h e = let z : _≡_ {A = ℕ} 0 1 = ap (λ (b : Bool). cond b 1 0) (sym (ap (λ (j : ℕ). may-follow j 3) e) ∙ h) in omega arith
 
     reads : (f : ℕ) → 3 * length s + 4 ≤ f → Goes Found s a (readClauses peek-in skip-in f) (r .next)
-    reads f b = h t [] (unmarked (H .table) t (rp .table) (rp .unclaimed early)) f (omega arith)
+    reads f b = h t (unmarked (H .table) t (rp .table) (rp .unclaimed early)) f (omega arith)
 
     -- by how often `num_threads` and `schedule(static)` stand
     abbrev rightly-so : Bool
@@ -129,19 +131,17 @@ module _ (k : ℕ) (s : List ℕ) (H : Held) (T′ : List ℕ) (x y a : ℕ) (gx
 
       rank-is : (cs : List Clause) → Found cs → numbered (r .rank) ≡ numberOf st (direct cs)
       rank-is cs e =
-          let o : r .rank ≡ order (frees t [] (clauseNames cs)) (all few (threads-in cs)) = e .rank-is ∙ omega arith in
-          ap numbered (o ∙ (λ i. order (sym (names-are st cs) i) (sym (limits-are st cs) i)))
+          ap numbered (e .rank-is ∙ (λ i. order (sym (names-are (H .table) st cs (rp .table) (rp .unclaimed early)) i) (sym (limits-are st cs) i)))
           ∙ number-by st (direct cs) (fitting cs e) (names st (direct cs)) (limits st (direct cs)) refl refl
 
       represents : (cs : List Clause) → Found cs → r .rank ≡ 0 → good (direct cs)
       unfolding after
       represents cs e zero-rank =
-          let o : r .rank ≡ order (frees t [] (clauseNames cs)) (all few (threads-in cs)) = e .rank-is ∙ omega arith in
-          let (free-all, in-limits) = good-order (frees t [] (clauseNames cs)) (all few (threads-in cs)) (sym o ∙ zero-rank) in
+          let (free-all, in-limits) = good-order (twice-fit t cs) (all few (threads-in cs)) (sym (e .rank-is) ∙ zero-rank) in
           let one = eqb-true (length (threads-in cs)) 1 (both-true (eqb (length (threads-in cs)) 1) _ (fitting cs e) .0) in
           headed H st rp (omega (arith, early)) T′ kp (H .initial) n 3 (H .progress .cells) (r .processors) (processors-by (threads-in cs))
           γ (grouping-by (statics-in cs)) (map (classify cs) t)
-          (subst (Tabled T′) (classes-are (H .table) t cs (rp .table) (rp .unclaimed early) free-all) (e .marked .table))
+          (subst (Tabled T′) (classes-are (H .table) t cs (rp .table) (rp .unclaimed early) free-all) (e .table))
           (λ m. absurd (omega arith)) (rp .cells-so-far ∙ sym (classify-cells cs t))
           (rp .filled ∙ (λ i. sym (loaded-classify cs t) i ++ replicate (4096 - sym (classify-cells cs t) i) (pos 0)))
           (omega (arith, e .processors-are, last-once (threads-in cs) one, most (threads-in cs) in-limits))

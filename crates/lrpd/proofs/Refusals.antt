@@ -43,4 +43,4 @@ module _ (s : State) where
 
 -- 6 is never printed
 pub enough : (n p : ℕ) → n ≤ 128 → p ≤ 8 → needed n p ≤ lentWords
-enough n p h k = let q : 4 + 6 * p ≤ 52 = omega arith in let m : n * (4 + 6 * p) ≤ 128 * 52 = mul-le-mul h q in omega arith
+enough n p h k = let q : 4 + 8 * p ≤ 68 = omega arith in let m : n * (4 + 8 * p) ≤ 128 * 68 = mul-le-mul h q in omega arith

@@ -8,7 +8,7 @@ ghost use Rattle.lrpd.specs.Output.{lentFor, printedOver, printed, Print
 use answers::Checked;
 
 // The words that are lent: as many as 128 cells and 8 processors need.
-const WORKSPACE: usize = 11520;
+const WORKSPACE: usize = 13568;
 
 // How many cells are lent.
 fn lent(answer: Checked) -> usize

@@ -78,7 +78,7 @@ or-false : {a b : Bool} → a ≡ false → b ≡ false → a || b ≡ false
 or-false {b} p q = ap (λ (a : Bool). a || b) p ∙ q
 
 -- none of the names
-find-none : (w : List ℕ) (t : List Entry) → ((k : ℕ) → k < length t → same w (getD t k nowhere .name) ≡ false) → (known w t ≡ false) × (find w t ≡ nowhere)
+pub find-none : (w : List ℕ) (t : List Entry) → ((k : ℕ) → k < length t → same w (getD t k nowhere .name) ≡ false) → (known w t ≡ false) × (find w t ≡ nowhere)
 unfolding find
 find-none w [] h = (refl, refl)
 find-none w (e ∷ t) h =

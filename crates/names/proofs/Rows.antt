@@ -9,7 +9,7 @@ use lib.Dec.{eqb}
 use lib.IntN.{ℤ}
 use lib.ListN.{length, getD, set, length-set, length-map, length-append}
 use lib.Seq.{getD-set-same, getD-append-seam}
-use Rattle.rules.specs.Loop.{Class}
+use Rattle.rules.specs.Loop.{Class, copied}
 use Rattle.rules.specs.Numbers.{class-number}
 use Rattle.rules.specs.Cells.{listed}
 use Rattle.rules.proofs.CellsLaws.{listed-length, listed-same}
@@ -19,7 +19,7 @@ use Rattle.syntax.specs.Conditions.{isGiven}
 use Rattle.syntax.specs.Sane.{Each}
 use Rattle.syntax.proofs.Table.{find-each}
 use Rattle.syntax.proofs.TestLaws.{neither-holds, same-refl, same-comm-false}
-use Rattle.names.specs.Table.{wordAt, nameAt, Row, Tabled, Put, declared, Added, Gave, class-to, Classed, classAt, countIn, factsAt, firstAt, lengthAt, numberIn, sizeAt, tableWords, variableEntry, nameWords, lengthWord, firstWord, sizeWord, factsWord, entryWords, mostNames, numberWord}
+use Rattle.names.specs.Table.{wordAt, nameAt, Row, Tabled, Put, declared, Added, Gave, class-to, Classed, CopiedIn, classAt, isClaimed, countIn, factsAt, firstAt, lengthAt, numberIn, sizeAt, tableWords, variableEntry, nameWords, lengthWord, firstWord, sizeWord, factsWord, entryWords, mostNames, numberWord}
 use Rattle.names.proofs.Laws.{set-elsewhere}
 
 -- ---- one entry
@@ -138,6 +138,10 @@ claimed-facts : (c f : ℕ)
     × ((c * 8 + 4 + f % 4) / 8 ≡ c)
 claimed-facts c f = (omega arith, omega arith, omega arith, omega arith)
 
+copied-facts : (c f : ℕ)
+    → ((c * 8 + f % 8) % 2 ≡ f % 2) × ((c * 8 + f % 8) / 2 % 2 ≡ f / 2 % 2) × ((c * 8 + f % 8) / 4 % 2 ≡ f / 4 % 2) × ((c * 8 + f % 8) / 8 ≡ c)
+copied-facts c f = (omega arith, omega arith, omega arith, omega arith)
+
 untouched : (b : Bool) (x e : Entry) → b ≡ false → cond b x e ≡ e
 untouched b x e h = ap (λ (y : Bool). cond y x e) h
 
@@ -181,30 +185,50 @@ module _ (T : List ℕ) (i : ℕ) (b : i < mostNames) (facts : ℕ) (ef : facts 
       kept x vs e true = (refl, refl, refl, refl)
       kept x vs e false = (refl, refl, refl, refl)
 
+  -- facts that differ in the class, and in whether the name stands in a clause
+  class-tabled : (other class : ℕ) → other % 2 ≡ facts % 2 → other / 2 % 2 ≡ facts / 2 % 2 → other / 8 ≡ class
+      → (t : List Entry) (k : Class) → class ≡ class-number k → Tabled T t → i < length t
+      → Tabled (set T (i * entryWords + factsWord) other) (map (class-to (getD t i nowhere .name) k) t)
+  class-tabled other class q0 q1 q3 t k ek d h =
+      let e = getD t i nowhere in
+      let o = d .rows i h in
+      let here : named (e .name) e ≡ true = same-refl (e .name) in
+      let g = ap (λ (x : Bool). cond x (with-class k e) e) here in
+      let n0 = q0 ∙ ap (λ (n : ℕ). n % 2) ef in
+      let n1 = q1 ∙ ap (λ (n : ℕ). n / 2 % 2) ef in
+      tabled-with T i other b t d h (class-to (e .name) k)
+      (λ x. kept (e .name) k x (named (e .name) x))
+      (λ j l n. untouched _ _ (getD t j nowhere) (other-name t d h j l n))
+      (ap (λ (n : ℕ). eqb n 1) n0 ∙ o .subscripted ∙ sym (ap (λ (x : Entry). x .subscripted) g))
+      (ap (λ (n : ℕ). eqb n 1) n1 ∙ o .given ∙ sym (ap (λ (x : Entry). isGiven (x .given)) g))
+      (q3 ∙ ek ∙ sym (ap (λ (x : Entry). class-number (x .class)) g))
+    where
+      kept : (x : List ℕ) (c : Class) (e : Entry) (y : Bool) → Alike e (cond y (with-class c e) e)
+      kept x c e true = (refl, refl, refl, refl)
+      kept x c e false = (refl, refl, refl, refl)
+
   pub classed : (class : ℕ) → Classed T i class (set T (i * entryWords + factsWord) (class * 8 + 4 + facts % 4))
   classed class = record {
     variable = variable-kept T i _ b;
     here = λ l. ap (λ (n : ℕ). eqb (n / 4 % 2) 1) (facts-here T i (class * 8 + 4 + facts % 4) b l) ∙ ap (λ (n : ℕ). eqb n 1) (claimed-facts class facts .2);
     others = λ j n. others-kept T i (class * 8 + 4 + facts % 4) b j factsWord (omega arith) n;
-    table = λ t k ek d h.
-        let e = getD t i nowhere in
-        let o = d .rows i h in
-        let here : named (e .name) e ≡ true = same-refl (e .name) in
-        let g = ap (λ (x : Bool). cond x (with-class k e) e) here in
+    table =
         let q = claimed-facts class facts in
-        let n0 = q .0 ∙ ap (λ (n : ℕ). n % 2) ef in
-        let n1 = q .1 ∙ ap (λ (n : ℕ). n / 2 % 2) ef in
-        tabled-with T i (class * 8 + 4 + facts % 4) b t d h (class-to (e .name) k)
-        (λ x. kept (e .name) k x (named (e .name) x))
-        (λ j l n. untouched _ _ (getD t j nowhere) (other-name t d h j l n))
-        (ap (λ (n : ℕ). eqb n 1) n0 ∙ o .subscripted ∙ sym (ap (λ (x : Entry). x .subscripted) g))
-        (ap (λ (n : ℕ). eqb n 1) n1 ∙ o .given ∙ sym (ap (λ (x : Entry). isGiven (x .given)) g))
-        (q .3 ∙ ek ∙ sym (ap (λ (x : Entry). class-number (x .class)) g));
+        class-tabled (class * 8 + 4 + facts % 4) class (q .0) (q .1) (q .3);
   }
-    where
-      kept : (x : List ℕ) (c : Class) (e : Entry) (y : Bool) → Alike e (cond y (with-class c e) e)
-      kept x c e true = (refl, refl, refl, refl)
-      kept x c e false = (refl, refl, refl, refl)
+
+  pub copied-in : CopiedIn T i (set T (i * entryWords + factsWord) (3 * 8 + facts % 8))
+  copied-in = record {
+    variable = variable-kept T i _ b;
+    claimed = λ l j. elim (ℕ-discrete j i) [
+      | yes x ↦
+          ap (isClaimed (set T (i * entryWords + factsWord) (3 * 8 + facts % 8))) x
+          ∙ ap (λ (n : ℕ). eqb (n / 4 % 2) 1) (facts-here T i (3 * 8 + facts % 8) b l)
+          ∙ ap (λ (n : ℕ). eqb n 1) (copied-facts 3 facts .2 ∙ ap (λ (n : ℕ). n / 4 % 2) ef) ∙ ap (isClaimed T) (sym x)
+      | no x ↦ ap (λ (n : ℕ). eqb (n / 4 % 2) 1) (others-kept T i (3 * 8 + facts % 8) b j factsWord (omega arith) x)
+    ];
+    table = λ t d h. let q = copied-facts 3 facts in class-tabled (3 * 8 + facts % 8) 3 (q .0) (q .1) (q .3) t copied refl d h;
+  }
 
 -- ---- a name more
 

@@ -7,7 +7,7 @@ use Prim.Native.Nat.{ℕ, _+_, _*_, _/_, _%_, _≤_, _<_, min}
 use lib.Dec.{eqb}
 use lib.ListN.{length, getD}
 use lib.IntN.{ℤ}
-use Rattle.rules.specs.Loop.{Class, shared}
+use Rattle.rules.specs.Loop.{Class, shared, copied}
 use Rattle.rules.specs.Numbers.{class-number}
 use Rattle.rules.specs.Cells.{listed}
 use Rattle.syntax.specs.Bytes.{same}
@@ -152,6 +152,12 @@ pub record Classed (T : List ℕ) (i class : ℕ) (T′ : List ℕ) : Type 0 whe
   pub here : tableWords ≤ length T → isClaimed T′ i ≡ true
   pub others : (j : ℕ) → (j ≡ i → ⊥) → factsAt T′ j ≡ factsAt T j
   pub table : (t : List Entry) (k : Class) → class ≡ class-number k → Tabled T t → i < length t → Tabled T′ (map (class-to (getD t i nowhere .name) k) t)
+
+-- T′ is T with entry i copied in; whether names stand in a clause stays
+pub record CopiedIn (T : List ℕ) (i : ℕ) (T′ : List ℕ) : Type 0 where
+  pub variable : lengthAt T variableEntry ≤ nameWords → variableOf T′ ≡ variableOf T
+  pub claimed : tableWords ≤ length T → (j : ℕ) → isClaimed T′ j ≡ isClaimed T j
+  pub table : (t : List Entry) → Tabled T t → i < length t → Tabled T′ (map (class-to (getD t i nowhere .name) copied) t)
 
 -- what is known of the name w
 pub record Knows (t : List Entry) (w : List ℕ) (r : Named) : Type 0 where

@@ -6,7 +6,7 @@ ghost use Prim.Native.Nat.{_≤_, _<_, _+_, _*_, _/_, _%_};
 ghost use lib.ListN.{length};
 ghost use Rattle.syntax.specs.Bytes.{same};
 ghost use Rattle.syntax.specs.Known.{Entry};
-ghost use Rattle.names.specs.Table.{nameWords, entryWords, mostNames, variableEntry, wordAt, lengthAt, firstAt, sizeAt, classAt, nameAt, Tabled, Found, Knows, Stands, Put, Added, Gave, Classed, countIn};
+ghost use Rattle.names.specs.Table.{nameWords, entryWords, mostNames, variableEntry, wordAt, lengthAt, firstAt, sizeAt, classAt, nameAt, Tabled, Found, Knows, Stands, Put, Added, Gave, Classed, CopiedIn, countIn};
 
 // The layout, in words. Of an entry: the bytes of its name from 0 on, how many bytes, the first cell, how many cells, facts.
 const LENGTH: usize = 32;
@@ -233,9 +233,18 @@ pub fn give(table: &mut Table, i: usize)
 
 // Entry i stands in a clause, and has the class of that number.
 pub fn classify(table: &mut Table, i: usize, class: u32)
-    requires { ⌜ (i < mostNames) × (class ≤ 2) ⌝ }
+    requires { ⌜ (i < mostNames) × (class ≤ 3) ⌝ }
     ensures { λ _. ⌜ Classed (now (table .entry)) i class (now (table .exit)) ⌝ }
 {
     let base = i * ENTRY;
     table[base + FACTS] = class * 8 + 4 + table[base + FACTS] % 4;
+}
+
+// Entry i is copied in (document 02, Point 5).
+pub fn copy_in(table: &mut Table, i: usize)
+    requires { ⌜ i < mostNames ⌝ }
+    ensures { λ _. ⌜ CopiedIn (now (table .entry)) i (now (table .exit)) ⌝ }
+{
+    let base = i * ENTRY;
+    table[base + FACTS] = rules::COPIED * 8 + table[base + FACTS] % 8;
 }

@@ -1,5 +1,6 @@
 -- After a function has noted an access, the words stand for the tables that `note` gives.
 use mathlib.Core.Path.{_≡_, sym, _∙_, ap}
+use mathlib.Core.Logic.{inl, inr}
 use mathlib.Core.Bool.{Bool, true, cond}
 use mathlib.Core.List.{List}
 use Prim.Native.Nat.{ℕ, suc, _+_, _*_, _/_, _%_, _≤_, _<_}
@@ -20,9 +21,9 @@ use Rattle.rules.specs.Numbers.{class-number}
 use Rattle.shadow.specs.Tables.{Own, Tables, note}
 use Rattle.tables.specs.Layout.{row-at, own-at, bit, flags-of, RowHeld, Holds}
 use Rattle.noting.specs.Changes.{Placed, one-more, read-noted, counted, written, updated}
-use Rattle.noting.proofs.Words.{read-length, read-met, read-exposed, read-other, counted-length, counted-other, counted-pairs, counted-cells, counted-touched, counted-placed, written-length, written-met, written-writers, written-flags, written-value, written-wrote, written-other, updated-length, updated-flags, updated-sum, updated-other}
+use Rattle.noting.proofs.Words.{read-length, read-met, read-highest, read-exposed, read-other, counted-length, counted-other, counted-pairs, counted-cells, counted-touched, counted-placed, written-length, written-met, written-writers, written-flags, written-lowest, written-value, written-wrote, written-other, updated-length, updated-flags, updated-sum, updated-other}
 use Rattle.tables.proofs.Flags.{bit-most, flags-updated, pick-bit}
-use Rattle.tables.proofs.Held.{rows-apart, outside-other, row-changed, holds-changed}
+use Rattle.tables.proofs.Held.{rows-apart, outside-other, outside-part, row-changed, holds-changed}
 
 -- ---- flags
 
@@ -89,21 +90,25 @@ module _ (n p : ℕ) (class : ℕ → Class) (entry : ℕ → ℤ) (W : List ℕ
       let x = r .own (π (γ i)) a in
       let other = read-other W row own g placed in
       holds-changed W (read-noted W row own g) n p class entry t h c b (read-length W row own g placed) _
-      (row-changed W (read-noted W row own g) p (class c) (entry c) row (t .rows c) r (π (γ i)) _ _ _ _ _
-      (other row (omega arith) (omega arith))
+      (row-changed W (read-noted W row own g) p (class c) (entry c) row (t .rows c) r (π (γ i)) _ _ _ _ _ _ _
+      (other row (omega arith) (omega arith) (omega arith))
       (read-met W row own g placed ∙ one-more-is g (x .wrote) (x .exposed) (r .met))
-      (other (row + 2) (omega arith) (omega arith) ∙ r .writers)
-      (other (row + 3) (omega arith) (omega arith) ∙ r .flags)
+      (other (row + 2) (omega arith) (omega arith) (omega arith) ∙ r .writers)
+      (other (row + 3) (omega arith) (omega arith) (omega arith) ∙ r .flags)
+      (other (row + 4) (omega arith) (omega arith) (omega arith) ∙ r .lowest)
+      (read-highest W row own g placed ∙ rw (x .wrote, r .highest, add-one g))
       (record {
-        value = ap value (other own (omega arith) (omega arith)) ∙ x .value;
-        wrote = other (own + 1) (omega arith) (omega arith) ∙ x .wrote;
+        value = ap value (other own (omega arith) (omega arith) (omega arith)) ∙ x .value;
+        wrote = other (own + 1) (omega arith) (omega arith) (omega arith) ∙ x .wrote;
         exposed = read-exposed W row own g placed ∙ rw (x .wrote, x .exposed, add-one g);
-        sum = ap value (other (own + 3) (omega arith) (omega arith)) ∙ x .sum;
-        touched = other (own + 4) (omega arith) (omega arith) ∙ x .touched;
+        sum = ap value (other (own + 3) (omega arith) (omega arith) (omega arith)) ∙ x .sum;
+        touched = other (own + 4) (omega arith) (omega arith) (omega arith) ∙ x .touched;
       })
-      (λ j (f : row + 4 ≤ j) s. other j (omega arith) (outside-other (own + 2) s (omega arith) (omega arith))))
-      (λ k f s. other k (outside-other (row + 1) s (omega arith) (omega arith)) (outside-other (own + 2) s (omega arith) (omega arith)))
-      _ _ (other 0 (omega arith) (omega arith) ∙ h .pairs) (other 1 (omega arith) (omega arith) ∙ h .cells)
+      (λ j (f : row + 6 ≤ j) s. other j (omega arith) (omega arith) (outside-other (own + 2) s (omega arith) (omega arith))))
+      (λ k f s.
+      other k (outside-other (row + 1) s (omega arith) (omega arith)) (outside-other (row + 5) s (omega arith) (omega arith))
+      (outside-other (own + 2) s (omega arith) (omega arith)))
+      _ _ (other 0 (omega arith) (omega arith) (omega arith) ∙ h .pairs) (other 1 (omega arith) (omega arith) (omega arith) ∙ h .cells)
 
   -- the words after the counts
   abbrev X : List ℕ
@@ -130,36 +135,36 @@ module _ (n p : ℕ) (class : ℕ → Class) (entry : ℕ → ℤ) (W : List ℕ
       let wrote : getD X (own + 1) 0 ≡ o .wrote = still (own + 1) (omega arith) (omega arith) ∙ x .wrote in
       let exposed : getD X (own + 2) 0 ≡ o .exposed = still (own + 2) (omega arith) (omega arith) ∙ x .exposed in
       let flags : getD X (row + 3) 0 ≡ flags-of (class c) (t .rows c .crossed) (t .rows c .updated) = still (row + 3) (omega arith) (omega arith) ∙ r .flags in
+      let lowest : getD X (row + 4) 0 ≡ t .rows c .lowest = still (row + 4) (omega arith) (omega arith) ∙ r .lowest in
       let other = written-other X row own g v placed-counted in
       holds-changed W (written X row own g v) n p class entry t h c b (written-length X row own g v placed-counted ∙ counted-length W row own i) _
-      (row-changed W (written X row own g v) p (class c) (entry c) row (t .rows c) r (π (γ i)) _ _ _ _ _
-      (other row (omega arith) (omega arith) (omega arith) (omega arith) (omega arith) ∙ still row (omega arith) (omega arith))
+      (row-changed W (written X row own g v) p (class c) (entry c) row (t .rows c) r (π (γ i)) _ _ _ _ _ _ _
+      (other row (inl (omega arith)) (inl (omega arith)) ∙ still row (omega arith) (omega arith))
       (written-met X row own g v placed-counted ∙ one-more-is g wrote exposed (still (row + 1) (omega arith) (omega arith) ∙ r .met))
       (written-writers X row own g v placed-counted ∙ unless-is g wrote (still (row + 2) (omega arith) (omega arith) ∙ r .writers))
       (written-flags X row own g v placed-counted
       ∙ rw (exposed, flags, add-one g) (pick-flags (class c) (t .rows c .crossed) (t .rows c .updated) (o .exposed) (suc g)))
+      (written-lowest X row own g v placed-counted ∙ rw (wrote, lowest, add-one g))
+      (other (row + 5) (inr (omega arith)) (inl (omega arith)) ∙ still (row + 5) (omega arith) (omega arith) ∙ r .highest)
       (record {
         value = ap value (written-value X row own g v placed-counted) ∙ value-word v f;
         wrote = written-wrote X row own g v placed-counted ∙ add-one g;
-        exposed = other (own + 2) (omega arith) (omega arith) (omega arith) (omega arith) (omega arith) ∙ exposed;
+        exposed = other (own + 2) (inr (omega arith)) (inr (omega arith)) ∙ exposed;
         sum =
             ap value
-            (other (own + 3) (omega arith) (omega arith) (omega arith) (omega arith) (omega arith) ∙ still (own + 3) (omega arith) (omega arith))
+            (other (own + 3) (inr (omega arith)) (inr (omega arith)) ∙ still (own + 3) (omega arith) (omega arith))
             ∙ x .sum;
-        touched = other (own + 4) (omega arith) (omega arith) (omega arith) (omega arith) (omega arith) ∙ counted-touched W row own i placed ∙ add-one i;
+        touched = other (own + 4) (inr (omega arith)) (inr (omega arith)) ∙ counted-touched W row own i placed ∙ add-one i;
       })
-      (λ j (y : row + 4 ≤ j) s.
-      other j (omega arith) (omega arith) (omega arith) (outside-other own s (omega arith) (omega arith))
-      (outside-other (own + 1) s (omega arith) (omega arith))
+      (λ j (y : row + 6 ≤ j) s.
+      other j (inr (omega arith)) (outside-part own (own + 2) s (omega arith) (omega arith))
       ∙ still j (omega arith) (outside-other (own + 4) s (omega arith) (omega arith))))
       (λ k (y : 2 ≤ k) s.
-      other k (outside-other (row + 1) s (omega arith) (omega arith)) (outside-other (row + 2) s (omega arith) (omega arith))
-      (outside-other (row + 3) s (omega arith) (omega arith)) (outside-other own s (omega arith) (omega arith))
-      (outside-other (own + 1) s (omega arith) (omega arith))
+      other k (outside-part (row + 1) (row + 5) s (omega arith) (omega arith)) (outside-part own (own + 2) s (omega arith) (omega arith))
       ∙ still k (omega arith) (outside-other (own + 4) s (omega arith) (omega arith)))
       _ _
-      (other 0 (omega arith) (omega arith) (omega arith) (omega arith) (omega arith) ∙ pairs-after)
-      (other 1 (omega arith) (omega arith) (omega arith) (omega arith) (omega arith) ∙ cells-after)
+      (other 0 (inl (omega arith)) (inl (omega arith)) ∙ pairs-after)
+      (other 1 (inl (omega arith)) (inl (omega arith)) ∙ cells-after)
 
   pub holds-update : (v : ℤ) → Holds n p class entry (updated X row own v) (note γ π sum nought (access updates i c v) t)
   unfolding note
@@ -169,11 +174,13 @@ module _ (n p : ℕ) (class : ℕ → Class) (entry : ℕ → ℤ) (W : List ℕ
       let flags : getD X (row + 3) 0 ≡ flags-of (class c) (t .rows c .crossed) (t .rows c .updated) = still (row + 3) (omega arith) (omega arith) ∙ r .flags in
       let other = updated-other X row own v placed-counted in
       holds-changed W (updated X row own v) n p class entry t h c b (updated-length X row own v placed-counted ∙ counted-length W row own i) _
-      (row-changed W (updated X row own v) p (class c) (entry c) row (t .rows c) r (π (γ i)) _ _ _ _ _
+      (row-changed W (updated X row own v) p (class c) (entry c) row (t .rows c) r (π (γ i)) _ _ _ _ _ _ _
       (other row (omega arith) (omega arith) ∙ still row (omega arith) (omega arith))
       (other (row + 1) (omega arith) (omega arith) ∙ still (row + 1) (omega arith) (omega arith) ∙ r .met)
       (other (row + 2) (omega arith) (omega arith) ∙ still (row + 2) (omega arith) (omega arith) ∙ r .writers)
       (updated-flags X row own v placed-counted ∙ rw flags (update-flags (class c) (t .rows c .crossed) (t .rows c .updated)))
+      (other (row + 4) (omega arith) (omega arith) ∙ still (row + 4) (omega arith) (omega arith) ∙ r .lowest)
+      (other (row + 5) (omega arith) (omega arith) ∙ still (row + 5) (omega arith) (omega arith) ∙ r .highest)
       (record {
         value = ap value (other own (omega arith) (omega arith) ∙ still own (omega arith) (omega arith)) ∙ x .value;
         wrote = other (own + 1) (omega arith) (omega arith) ∙ still (own + 1) (omega arith) (omega arith) ∙ x .wrote;
@@ -183,7 +190,7 @@ module _ (n p : ℕ) (class : ℕ → Class) (entry : ℕ → ℤ) (W : List ℕ
             ∙ ap (sum v) (ap value (still (own + 3) (omega arith) (omega arith)) ∙ x .sum);
         touched = other (own + 4) (omega arith) (omega arith) ∙ counted-touched W row own i placed ∙ add-one i;
       })
-      (λ j (y : row + 4 ≤ j) s. other j (omega arith) (outside-other (own + 3) s (omega arith) (omega arith))
+      (λ j (y : row + 6 ≤ j) s. other j (omega arith) (outside-other (own + 3) s (omega arith) (omega arith))
       ∙ still j (omega arith) (outside-other (own + 4) s (omega arith) (omega arith))))
       (λ k (y : 2 ≤ k) s.
       other k (outside-other (row + 3) s (omega arith) (omega arith)) (outside-other (own + 3) s (omega arith) (omega arith))

@@ -1,13 +1,15 @@
 -- The words after each function, one by one.
 use mathlib.Core.Path.{_≡_, _∙_}
 use mathlib.Core.List.{List}
-use Prim.Native.Nat.{ℕ, _+_, _*_, _/_, _%_, _<_}
+use Prim.Native.Nat.{ℕ, max, _+_, _*_, _/_, _%_, _<_}
 use native.Mathlib.Omega.{arith}
 use lib.IntN.{ℤ}
 use lib.ListN.{length, getD, set, length-set}
 use Rattle.int32.specs.Integers.{word, value, sum}
 use Rattle.rules.specs.Choose.{pick}
+use Rattle.shadow.specs.Tables.{lower}
 use Rattle.tables.proofs.Words.{hit, unset}
+use Rattle.tables.proofs.Held.{Outside, outside-other}
 use Rattle.noting.specs.Changes.{Placed, Ready, one-more, read-noted, counted, row-written, own-written, written, updated}
 
 -- ---- a read
@@ -16,21 +18,33 @@ module _ (W : List ℕ) (row own g : ℕ) (p : Placed W row own) where
   abbrev met-set : List ℕ
   met-set = set W (row + 1) (one-more (getD W (own + 1) 0) (getD W (own + 2) 0) (g + 1) (getD W (row + 1) 0))
 
+  abbrev highest-set : List ℕ
+  highest-set = set met-set (row + 5) (pick (getD W (own + 1) 0) (g + 1) (getD W (row + 5) 0) (max (g + 1) (getD W (row + 5) 0)))
+
   pub read-length : length (read-noted W row own g) ≡ length W
   unfolding read-noted
   read-length = simp length-set
 
   pub read-met : getD (read-noted W row own g) (row + 1) 0 ≡ one-more (getD W (own + 1) 0) (getD W (own + 2) 0) (g + 1) (getD W (row + 1) 0)
   unfolding read-noted
-  read-met = unset met-set (own + 2) (row + 1) _ (omega (arith, p .apart)) ∙ hit W (row + 1) _ (omega (arith, p .apart, p .inside))
+  read-met =
+      unset highest-set (own + 2) (row + 1) _ (omega (arith, p .apart))
+      ∙ unset met-set (row + 5) (row + 1) _ (omega arith)
+      ∙ hit W (row + 1) _ (omega (arith, p .apart, p .inside))
+
+  pub read-highest : getD (read-noted W row own g) (row + 5) 0 ≡ pick (getD W (own + 1) 0) (g + 1) (getD W (row + 5) 0) (max (g + 1) (getD W (row + 5) 0))
+  unfolding read-noted
+  read-highest =
+      unset highest-set (own + 2) (row + 5) _ (omega (arith, p .apart))
+      ∙ hit met-set (row + 5) _ (simp length-set (omega (arith, p .apart, p .inside)))
 
   pub read-exposed : getD (read-noted W row own g) (own + 2) 0 ≡ pick (getD W (own + 1) 0) (g + 1) (getD W (own + 2) 0) (g + 1)
   unfolding read-noted
-  read-exposed = hit met-set (own + 2) _ (simp length-set (omega (arith, p .inside)))
+  read-exposed = hit highest-set (own + 2) _ (simp length-set (omega (arith, p .inside)))
 
-  pub read-other : (k : ℕ) → (k ≡ row + 1 → ⊥) → (k ≡ own + 2 → ⊥) → getD (read-noted W row own g) k 0 ≡ getD W k 0
+  pub read-other : (k : ℕ) → (k ≡ row + 1 → ⊥) → (k ≡ row + 5 → ⊥) → (k ≡ own + 2 → ⊥) → getD (read-noted W row own g) k 0 ≡ getD W k 0
   unfolding read-noted
-  read-other k m n = unset met-set (own + 2) k _ n ∙ unset W (row + 1) k _ m
+  read-other k m h n = unset highest-set (own + 2) k _ n ∙ unset met-set (row + 5) k _ h ∙ unset W (row + 1) k _ m
 
 -- ---- the counts of a write or an update
 
@@ -91,7 +105,15 @@ module _ (W : List ℕ) (row own g : ℕ) (v : ℤ) (p : Placed W row own) where
   write3 = set write2 (row + 3) (pick (getD W (own + 2) 0) (g + 1) (getD W (row + 3) 0 / 2 * 2 + 1) (getD W (row + 3) 0))
 
   abbrev write4 : List ℕ
-  write4 = set write3 own (word v)
+  write4 = set write3 (row + 4) (pick (getD W (own + 1) 0) (g + 1) (getD W (row + 4) 0) (lower (g + 1) (getD W (row + 4) 0)))
+
+  abbrev write5 : List ℕ
+  write5 = set write4 own (word v)
+
+  -- the words of the row
+  in-row : (k : ℕ) → k < row + 6 → getD (written W row own g v) k 0 ≡ getD write4 k 0
+  unfolding written row-written own-written
+  in-row k b = let a = p .apart in unset write5 (own + 1) k _ (omega arith) ∙ unset write4 own k _ (omega arith)
 
   pub written-length : length (written W row own g v) ≡ length W
   unfolding written row-written own-written
@@ -101,8 +123,8 @@ module _ (W : List ℕ) (row own g : ℕ) (v : ℤ) (p : Placed W row own) where
   unfolding written row-written own-written
   written-met =
       let a = p .apart in
-      unset write4 (own + 1) (row + 1) _ (omega arith)
-      ∙ unset write3 own (row + 1) _ (omega arith)
+      in-row (row + 1) (omega arith)
+      ∙ unset write3 (row + 4) (row + 1) _ (omega arith)
       ∙ unset write2 (row + 3) (row + 1) _ (omega arith)
       ∙ unset write1 (row + 2) (row + 1) _ (omega arith)
       ∙ hit W (row + 1) _ (omega (arith, p .inside))
@@ -111,8 +133,8 @@ module _ (W : List ℕ) (row own g : ℕ) (v : ℤ) (p : Placed W row own) where
   unfolding written row-written own-written
   written-writers =
       let a = p .apart in
-      unset write4 (own + 1) (row + 2) _ (omega arith)
-      ∙ unset write3 own (row + 2) _ (omega arith)
+      in-row (row + 2) (omega arith)
+      ∙ unset write3 (row + 4) (row + 2) _ (omega arith)
       ∙ unset write2 (row + 3) (row + 2) _ (omega arith)
       ∙ hit write1 (row + 2) _ (simp length-set (omega (arith, p .inside)))
 
@@ -120,23 +142,35 @@ module _ (W : List ℕ) (row own g : ℕ) (v : ℤ) (p : Placed W row own) where
   unfolding written row-written own-written
   written-flags =
       let a = p .apart in
-      unset write4 (own + 1) (row + 3) _ (omega arith)
-      ∙ unset write3 own (row + 3) _ (omega arith)
+      in-row (row + 3) (omega arith)
+      ∙ unset write3 (row + 4) (row + 3) _ (omega arith)
       ∙ hit write2 (row + 3) _ (simp length-set (omega (arith, p .inside)))
+
+  pub written-lowest : getD (written W row own g v) (row + 4) 0
+      ≡ pick (getD W (own + 1) 0) (g + 1) (getD W (row + 4) 0) (lower (g + 1) (getD W (row + 4) 0))
+  unfolding written row-written own-written
+  written-lowest =
+      let a = p .apart in
+      in-row (row + 4) (omega arith)
+      ∙ hit write3 (row + 4) _ (simp length-set (omega (arith, p .inside)))
 
   pub written-value : getD (written W row own g v) own 0 ≡ word v
   unfolding written row-written own-written
-  written-value = unset write4 (own + 1) own _ (omega arith) ∙ hit write3 own _ (simp length-set (omega (arith, p .inside)))
+  written-value = unset write5 (own + 1) own _ (omega arith) ∙ hit write4 own _ (simp length-set (omega (arith, p .inside)))
 
   pub written-wrote : getD (written W row own g v) (own + 1) 0 ≡ g + 1
   unfolding written row-written own-written
-  written-wrote = hit write4 (own + 1) _ (simp length-set (omega (arith, p .inside)))
+  written-wrote = hit write5 (own + 1) _ (simp length-set (omega (arith, p .inside)))
 
-  pub written-other : (k : ℕ) → (k ≡ row + 1 → ⊥) → (k ≡ row + 2 → ⊥) → (k ≡ row + 3 → ⊥) → (k ≡ own → ⊥) → (k ≡ own + 1 → ⊥)
-      → getD (written W row own g v) k 0 ≡ getD W k 0
+  pub written-other : (k : ℕ) → Outside k (row + 1) (row + 5) → Outside k own (own + 2) → getD (written W row own g v) k 0 ≡ getD W k 0
   unfolding written row-written own-written
-  written-other k a b c d e =
-      unset write4 (own + 1) k _ e ∙ unset write3 own k _ d ∙ unset write2 (row + 3) k _ c ∙ unset write1 (row + 2) k _ b ∙ unset W (row + 1) k _ a
+  written-other k r o =
+      unset write5 (own + 1) k _ (outside-other (own + 1) o (omega arith) (omega arith))
+      ∙ unset write4 own k _ (outside-other own o (omega arith) (omega arith))
+      ∙ unset write3 (row + 4) k _ (outside-other (row + 4) r (omega arith) (omega arith))
+      ∙ unset write2 (row + 3) k _ (outside-other (row + 3) r (omega arith) (omega arith))
+      ∙ unset write1 (row + 2) k _ (outside-other (row + 2) r (omega arith) (omega arith))
+      ∙ unset W (row + 1) k _ (outside-other (row + 1) r (omega arith) (omega arith))
 
 -- ---- an update
 

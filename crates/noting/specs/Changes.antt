@@ -1,17 +1,18 @@
 -- What the functions do to the words, word by word, and what an access reads of its own. Nothing here has to be believed: proofs/ says what this means for the
 -- tables.
 use mathlib.Core.List.{List}
-use Prim.Native.Nat.{ℕ, _+_, _*_, _/_, _%_, _≤_, _<_}
+use Prim.Native.Nat.{ℕ, max, _+_, _*_, _/_, _%_, _≤_, _<_}
 use lib.ListN.{length, set}
 use lib.IntN.{ℤ}
 use Rattle.int32.specs.Integers.{word, value, sum}
 use Rattle.rules.specs.Choose.{pick}
-use Rattle.tables.specs.Layout.{met-at, writers-at, flags-at, wrote-at, exposed-at, sum-at, touched-at, pairs-word, cells-word, entry-word, met-word, writers-word, flags-word, private-word, wrote-word, exposed-word, sum-word, touched-word}
+use Rattle.shadow.specs.Tables.{lower}
+use Rattle.tables.specs.Layout.{met-at, writers-at, flags-at, lowest-at, highest-at, wrote-at, exposed-at, sum-at, touched-at, pairs-word, cells-word, entry-word, met-word, writers-word, flags-word, lowest-word, highest-word, private-word, wrote-word, exposed-word, sum-word, touched-word}
 
 -- a row and an own part after it lie in the words
 pub record Placed (W : List ℕ) (row own : ℕ) : Type 0 where
   pub first : 2 ≤ row
-  pub apart : row + 4 ≤ own
+  pub apart : row + 6 ≤ own
   pub inside : own + 5 ≤ length W
 
 -- and each count has room for one more
@@ -32,7 +33,10 @@ one-more wrote exposed g m = pick wrote g m (pick exposed g m (m + 1))
 unfoldable pub read-noted : List ℕ → ℕ → ℕ → ℕ → List ℕ
 read-noted W row own g =
     set
+    (set
     (set W (met-at row) (one-more (wrote-word W own) (exposed-word W own) (g + 1) (met-word W row)))
+    (highest-at row)
+    (pick (wrote-word W own) (g + 1) (highest-word W row) (max (g + 1) (highest-word W row))))
     (exposed-at own)
     (pick (wrote-word W own) (g + 1) (exposed-word W own) (g + 1))
 
@@ -52,11 +56,14 @@ unfoldable pub row-written : List ℕ → ℕ → ℕ → ℕ → List ℕ
 row-written W row own g =
     set
     (set
+    (set
     (set W (met-at row) (one-more (wrote-word W own) (exposed-word W own) (g + 1) (met-word W row)))
     (writers-at row)
     (pick (wrote-word W own) (g + 1) (writers-word W row) (writers-word W row + 1)))
     (flags-at row)
-    (pick (exposed-word W own) (g + 1) (flags-word W row / 2 * 2 + 1) (flags-word W row))
+    (pick (exposed-word W own) (g + 1) (flags-word W row / 2 * 2 + 1) (flags-word W row)))
+    (lowest-at row)
+    (pick (wrote-word W own) (g + 1) (lowest-word W row) (lower (g + 1) (lowest-word W row)))
 
 -- and those of the processor
 unfoldable pub own-written : List ℕ → ℕ → ℕ → ℤ → List ℕ

@@ -1,8 +1,9 @@
 // Notes of accesses in the shadow tables (crates/tables). A caller works out the places of a cell's row and of a processor's own part in it; each function then
 // takes a few steps.
 ghost use mathlib.Core.Path.{_≡_};
-ghost use Prim.Native.Nat.{_+_, _*_, _/_, _%_, _≤_, _<_};
+ghost use Prim.Native.Nat.{max, _+_, _*_, _/_, _%_, _≤_, _<_};
 ghost use lib.ListN.{length};
+ghost use Rattle.shadow.specs.Tables.{lower};
 ghost use Rattle.tables.specs.Layout.{met-word, writers-word};
 ghost use Rattle.noting.specs.Changes.{Placed, Ready, one-more, read-noted, counted, row-written, own-written, written, updated, own-seen};
 use rules::Group;
@@ -10,6 +11,8 @@ use rules::Iteration;
 use tables::CELLS;
 use tables::EXPOSED;
 use tables::FLAGS;
+use tables::HIGHEST;
+use tables::LOWEST;
 use tables::MET;
 use tables::PAIRS;
 use tables::SUM;
@@ -43,6 +46,23 @@ fn met_by(wrote: u32, exposed: u32, stamp: u32, met: u32) -> u32
     choose(wrote, stamp, met, more)
 }
 
+// The lower of a stamp and a word that is a stamp or 0 for none.
+fn lower_of(stamp: u32, word: u32) -> u32
+    ensures { λ r. ⌜ r ≡ lower stamp word ⌝ }
+{
+    if word == 0 {
+        return stamp;
+    }
+    if stamp < word { stamp } else { word }
+}
+
+// The higher of both.
+fn higher_of(stamp: u32, word: u32) -> u32
+    ensures { λ r. ⌜ r ≡ max stamp word ⌝ }
+{
+    if stamp < word { word } else { stamp }
+}
+
 // A group reads the cell.
 pub fn note_read(w: &mut [u32], row: usize, own: usize, group: Group)
     requires { ⌜ (Ready (now w) row own) × (group .0 < 4294967295) ⌝ }
@@ -51,7 +71,9 @@ pub fn note_read(w: &mut [u32], row: usize, own: usize, group: Group)
     let g = group_stamp(group);
     let wrote = w[own + WROTE];
     let exposed = w[own + EXPOSED];
+    let highest = w[row + HIGHEST];
     w[row + MET] = met_by(wrote, exposed, g, w[row + MET]);
+    w[row + HIGHEST] = choose(wrote, g, highest, higher_of(g, highest));
     w[own + EXPOSED] = choose(wrote, g, exposed, g);
 }
 
@@ -97,9 +119,11 @@ fn mark_row(w: &mut [u32], row: usize, own: usize, group: Group)
     let met = w[row + MET];
     let writers = w[row + WRITERS];
     let flags = w[row + FLAGS];
+    let lowest = w[row + LOWEST];
     w[row + MET] = met_by(wrote, exposed, g, met);
     w[row + WRITERS] = choose(wrote, g, writers, writers + 1);
     w[row + FLAGS] = choose(exposed, g, crossed(flags), flags);
+    w[row + LOWEST] = choose(wrote, g, lowest, lower_of(g, lowest));
 }
 
 // A group writes the cell: the words of its processor.

@@ -21,7 +21,7 @@ use Rattle.trial.specs.declared.Setting.{Setting}
 use Rattle.trial.specs.Running.{dealt, nobody, Run, AllOver}
 use Rattle.outcome.specs.Leaves.{Leaves}
 use Rattle.trial.proofs.Turns.{run-turn, turn-end, turn-fault}
-use Rattle.outcome.proofs.ReadingOff.{is-fault}
+use Rattle.outcome.proofs.ReadingOff.{standing-record, is-fault}
 
 module _ (code : List ℕ) (g : Setting) (l : Loop) (M : List ℤ) (W : List ℕ) (ws : List Worker) (s : State) (r : Run code g l M W ws s) (o : AllOver g ws) where
   abbrev δ : Partition
@@ -60,6 +60,7 @@ module _ (code : List ℕ) (g : Setting) (l : Loop) (M : List ℤ) (W : List ℕ
         sums = λ c q b d. subst (λ (k : ℕ). value (sum-word W (own-at (row-at k c) q)) ≡ total l c (block δ q (s .log))) e
             (rows c b .own q (omega (arith, d, e)) .sum ∙ shows .sums c q);
         marked = λ c b. rw e at (logged-marks l δ (s .log) W (h .words) shows c b);
+        cell-records = standing-record (g .processors) l δ M W s h;
         records = r .crew;
         pair-count = logged-pairs l δ (s .log) W (h .words) shows;
         cell-count = logged-cells l δ (s .log) W (h .words) shows;

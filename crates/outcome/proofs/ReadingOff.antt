@@ -15,13 +15,14 @@ use Rattle.rules.proofs.CellsLaws.{cell-listed, listed-same, listed-cells}
 use Rattle.rules.specs.Loop.{Act, fault, Loop, Partition}
 use Rattle.rules.specs.Log.{only}
 use Rattle.rules.specs.Obstacles.{ObstacleAt, Obstructed}
+use Rattle.rules.specs.Record.{Recorded}
 use Rattle.rules.specs.Steps.{State, Faulty, IsFault}
 use Rattle.shadow.proofs.Shows.{Shows, tables-right, obstructed-right}
 use Rattle.shadow.specs.Tables.{table}
-use Rattle.tables.specs.Layout.{row-at, entry-word}
+use Rattle.tables.specs.Layout.{row-at, entry-word, lowest-word, highest-word}
 use Rattle.findings.specs.Findings.{blocked-of}
 use Rattle.tables.proofs.Held.{rows-apart}
-use Rattle.findings.proofs.Logged.{logged-obstacle, logged-merged, logged-entry}
+use Rattle.findings.proofs.Logged.{logged-record, logged-obstacle, logged-merged, logged-entry}
 use Rattle.trial.specs.declared.Worker.{Worker}
 use Rattle.trial.specs.declared.Setting.{Setting}
 use Rattle.trial.specs.Standing.{Standing, Kept}
@@ -74,6 +75,11 @@ module _ (k : ℕ) (l : Loop) (δ : Partition) (M : List ℤ) (W : List ℕ) (s 
   -- a cell's obstacle
   pub standing-obstacle : (c : ℕ) → c < length M → ObstacleAt (l .class c) (λ i. only (δ .group) i (s .log)) c ↔ (blocked-at W k c ≡ true)
   standing-obstacle c b = rw (h .suits .processors) at (logged-obstacle l δ (s .log) W (h .words) shows c (omega (arith, standing-size k l δ M W s h)))
+
+  -- its record, at any moment of a run
+  pub standing-record : (c : ℕ) → c < l .size
+      → Recorded (λ i. only (δ .group) i (s .log)) c (lowest-word W (row-at k c)) (highest-word W (row-at k c))
+  standing-record c b = rw (h .suits .processors) at (logged-record l δ (s .log) W (h .words) shows c b)
 
   pub standing-obstructed : (c : ℕ) → c < length M → blocked-at W k c ≡ true → Obstructed l (δ .group) (s .log)
   standing-obstructed c b e = (c, standing-obstacle c b .1 e)

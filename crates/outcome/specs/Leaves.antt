@@ -13,9 +13,10 @@ use Rattle.rules.specs.Loop.{Loop}
 use Rattle.rules.specs.Log.{only, written}
 use Rattle.rules.specs.Marks.{marks}
 use Rattle.rules.specs.Obstacles.{ObstacleAt}
+use Rattle.rules.specs.Record.{Recorded}
 use Rattle.rules.specs.Merge.{block, total, pairs, written-cells}
 use Rattle.rules.specs.Steps.{State, Stopped}
-use Rattle.tables.specs.Layout.{row-at, own-at, pairs-word, cells-word, sum-word}
+use Rattle.tables.specs.Layout.{row-at, own-at, pairs-word, cells-word, lowest-word, highest-word, sum-word}
 use Rattle.findings.specs.Findings.{marks-of, blocked-of, private-of}
 use Rattle.trial.specs.declared.Worker.{Worker}
 use Rattle.trial.specs.declared.Setting.{Setting}
@@ -30,6 +31,10 @@ pub record Leaves (code : List ℕ) (g : Setting) (l : Loop) (s : State) (M : Li
   pub sums : (c q : ℕ) → c < l .size → q < g .processors
       → value (sum-word W (own-at (row-at (g .processors) c) q)) ≡ total l c (block (dealt g) q (s .log))
   pub marked : (c : ℕ) → c < l .size → marks-of W (row-at (g .processors) c) ≡ marks (dealt g .group) c (s .log)
+  -- document 02, Point 5: "The record of a cell now holds the lowest-numbered iteration that writes it and the highest-numbered that so reads it; with
+  -- Point 3's clause, blocks"
+  pub cell-records : (c : ℕ) → c < l .size → Recorded (λ i. only (dealt g .group) i (s .log)) c (lowest-word W (row-at (g .processors) c))
+      (highest-word W (row-at (g .processors) c))
   pub records : (q : ℕ) → q < g .processors → Held code g l (getD ws q nobody) (s .places q)
   pub pair-count : pairs-word W ≡ pairs l (s .log)
   pub cell-count : cells-word W ≡ written-cells l (s .log)

@@ -16,7 +16,7 @@ use Rattle.tables.specs.Layout.{row-at}
 use Rattle.trial.specs.Running.{dealt}
 use Rattle.trial.specs.Start.{Starts, CanTry}
 use Rattle.setup.specs.Settings.{settingOf}
-use Rattle.setup.proofs.Setting.{starts-by}
+use Rattle.setup.proofs.Setting.{late, starts-by}
 use Rattle.preparing.specs.declared.Ready.{Ready}
 use Rattle.answers.specs.Answers.{needed, fitNumber, runNumber}
 use Rattle.preparing.specs.Prepared.{Prepares, Prepared}
@@ -53,9 +53,9 @@ module _ (text : List ℕ) (r : Ready) (K C : List ℕ) (h : Prepared (read text
 
 -- ---- the tables have room
 
-row-room : (n p : ℕ) → row-at p n ≤ needed n p
-row-room n p =
-    let q : n * (4 + 5 * p) ≤ n * (4 + 6 * p) = (let a : n ≤ n = omega arith in let b : 4 + 5 * p ≤ 4 + 6 * p = omega arith in mul-le-mul a b) in
+row-room : (n p : ℕ) → 1 ≤ p → row-at p n ≤ needed n p
+row-room n p h =
+    let q : n * (6 + 5 * p) ≤ n * (4 + 8 * p) = (let a : n ≤ n = omega arith in let b : 6 + 5 * p ≤ 4 + 8 * p = omega arith in mul-le-mul a b) in
     omega (arith, q)
 
 -- the number by what the reader found, and by the text
@@ -83,8 +83,11 @@ module _ (text : List ℕ) (r : Ready) (K C : List ℕ) (a : Accepted text r K C
   enough : row-at (s .processors) (cells (s .table)) ≤ w
   enough = subst (λ (p : ℕ). row-at p (cells (s .table)) ≤ w) (pr .processors)
       (subst (λ (n : ℕ). row-at (r .setting .processors) n ≤ w) (pr .cells-are)
-      (le-trans (row-room (r .cells) (r .setting .processors)) (f .words-are)))
+      (le-trans (row-room (r .cells) (r .setting .processors) some) (f .words-are)))
     where
+      some : 1 ≤ r .setting .processors
+      some = omega (arith, pr .processors, accepted-sane text s (a .verdict) .some-processors (omega (arith, late text s (a .verdict))))
+
       le-trans : {x y z : ℕ} → x ≤ y → y ≤ z → x ≤ z
       le-trans p q = omega arith
 

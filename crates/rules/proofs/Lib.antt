@@ -4,6 +4,7 @@ pub mod Theorem
 pub mod MarkExamples
 -- The argument, bottom up: what holds of obstacles and of a group's work, a group by itself, runs of any kind,
 pub mod ObstacleLaws
+pub mod RecordLaws
 pub mod Job
 pub mod ProperLaws
 pub mod Isolated

@@ -1,11 +1,16 @@
--- Obstacles only grow with the log.
+-- Obstacles only grow with the log, and one of them is another.
 use mathlib.Core.Logic.{inl, inr}
 use mathlib.Core.List.{_∷_}
 use Prim.Native.Nat.{ℕ}
-use Rattle.rules.specs.Loop.{Class, shared, lastprivate, reduction, Loop}
-use Rattle.rules.specs.Obstacles.{Clash, ObstacleAt, Obstacle, Obstructed}
+use native.Mathlib.Omega.{arith}
+use Rattle.rules.specs.Loop.{Class, shared, lastprivate, copied, reduction, Loop}
+use Rattle.rules.specs.Obstacles.{Clash, Stale, Late, ObstacleAt, Obstacle, Obstructed}
 use Rattle.rules.specs.Log.{Access, Log, only}
 use Rattle.rules.specs.LogLaws.{Extends, extends-only, has-more, exposed-more, ordinary-more}
+
+-- a copied cell's obstacle would be a lastprivate cell's
+pub stale-of-late : {f : ℕ → Log} {c : ℕ} → Late f c → Stale f c
+stale-of-late (i, j, n, w, o) = (i, j, omega arith, w, o)
 
 module _ (f g : ℕ → Log) (x : (i : ℕ) → Extends (f i) (g i)) where
   pub clash-more : (c : ℕ) → Clash f c → Clash g c
@@ -14,6 +19,7 @@ module _ (f g : ℕ → Log) (x : (i : ℕ) → Extends (f i) (g i)) where
   obstacle-at-more : (k : Class) (c : ℕ) → ObstacleAt k f c → ObstacleAt k g c
   obstacle-at-more shared c o = clash-more c o
   obstacle-at-more lastprivate c (i, j, n, w, o) = (i, j, n, has-more (x i) w, exposed-more (x j) o)
+  obstacle-at-more copied c (i, j, n, w, o) = (i, j, n, has-more (x i) w, exposed-more (x j) o)
   obstacle-at-more reduction c (inl (i, j, n, w, o)) = inl (i, j, n, has-more (x i) w, exposed-more (x j) o)
   obstacle-at-more reduction c (inr (i, j, u, o)) = inr (i, j, has-more (x i) u, ordinary-more (x j) o)
 

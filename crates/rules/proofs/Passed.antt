@@ -7,7 +7,7 @@ use mathlib.Core.Option.{Option, Option·getD}
 use Prim.Native.Nat.{ℕ, suc}
 use native.Mathlib.Omega.{arith}
 use lib.IntN.{ℤ}
-use Rattle.rules.specs.Loop.{Class, shared, lastprivate, reduction, Loop, Partition}
+use Rattle.rules.specs.Loop.{Class, shared, lastprivate, copied, reduction, Loop, Partition}
 use Rattle.rules.specs.Log.{Log, writes, updates, Has, a-write, each}
 use Rattle.rules.specs.LogLaws.{has-only}
 use Rattle.rules.proofs.Job.{Job, span-none}
@@ -88,6 +88,7 @@ module _ (l : Loop) (δ : Partition) (h : Proper l δ) (ps : List ℕ) (t : Tria
     merged-is shared e =
         trial-holds l δ h ps .memory c e ∙ same-latest e ∙ sym (plain (λ (r : l .class c ≡ reduction). let z : _≡_ {A = ℕ} 0 1 = cc in omega arith))
     merged-is lastprivate e = same-last ∙ serial-last ∙ sym (plain (λ (r : l .class c ≡ reduction). let z : _≡_ {A = ℕ} 0 1 = cc in omega arith))
+    merged-is copied e = same-last ∙ serial-last ∙ sym (plain (λ (r : l .class c ≡ reduction). let z : _≡_ {A = ℕ} 0 1 = cc in omega arith))
     merged-is reduction e = rw (same-updated (trial l δ ps .log) (serial l .log) same c) (go (updated c (serial l .log)) refl)
       where
         go : (b : Bool) → updated c (serial l .log) ≡ b

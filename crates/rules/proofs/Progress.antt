@@ -120,6 +120,13 @@ module _ (l : Loop) (δ : Partition) where
         let hi = owner-to (δ .cut) (h .cut-grows) (h .cut-first) n i (omega arith) in
         rw (h .group-is g i lo (hi .0)) (lo, hi .0)
 
+    -- groups ascend with iterations
+    pub group-grows : (i j : ℕ) → i < l .iterations → j < l .iterations → δ .group i < δ .group j → i < j
+    group-grows i j a b g = elim (decLt i j) [
+      | yes y ↦ y
+      | no y ↦ absurd (omega (arith, group-holds i a .1, group-holds j b .0, bounds-grow (δ .cut) (h .cut-grows) (suc (δ .group i)) (δ .group j) g))
+    ]
+
 -- the processors' blocks of iterations follow one another and cover the iterations
 module _ (l : Loop) (δ : Partition) (h : Proper l δ) where
   pub cuts-grow : (x y : ℕ) → x ≤ y → δ .cut x ≤ δ .cut y

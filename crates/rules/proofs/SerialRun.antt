@@ -9,11 +9,11 @@ use native.Mathlib.Omega.{arith}
 use lib.IntN.{ℤ}
 use Rattle.rules.specs.Choose.{pick, put}
 use Rattle.rules.specs.ChooseLaws.{pick-same, pick-other, put-same, put-other}
-use Rattle.rules.specs.Loop.{Act, read, write, update, fault, done, Class, shared, lastprivate, reduction, Loop, Partition}
-use Rattle.rules.specs.Log.{reads, writes, updates, Access, access, iteration, Log, only, each, written, Has, newest, older, Exposed, first, Ordinary, a-read}
+use Rattle.rules.specs.Loop.{Act, read, write, update, fault, done, Class, shared, lastprivate, copied, reduction, Loop, Partition}
+use Rattle.rules.specs.Log.{reads, writes, updates, Access, access, iteration, Log, only, each, written, Has, newest, older, first, Ordinary, a-read}
 use Rattle.rules.specs.LogLaws.{only-same, only-other, only-nil, written-newest, written-none, written-only-leaving, some-or-none, Writing, writing, leaving, writing?, has-only, has-nil, has-more, extends-only, own-or-other}
-use Rattle.rules.specs.Obstacles.{ObstacleAt}
-use Rattle.rules.proofs.ObstacleLaws.{obstructed-more}
+use Rattle.rules.specs.Obstacles.{ObstacleAt, Late}
+use Rattle.rules.proofs.ObstacleLaws.{obstructed-more, stale-of-late}
 use Rattle.rules.specs.Steps.{latest, opening}
 use Rattle.rules.proofs.Isolated.{finish, finish-sums}
 use Rattle.rules.proofs.Runs.{Moved, Agree, Status, Allowed, inside-extends, step-read, step-write, step-update}
@@ -109,16 +109,20 @@ module _ (l : Loop) (δ : Partition) where
               (inr (j, γ i, has-more (extends-only γ j (access reads i c y) g) x, read-there y)),
         ))
 
-        stale : replay l c g ≡ latest l c g → (j : ℕ) × (j ≢ γ i) × Has writes c (only γ j g) → (o : Option ℤ) → written c (only γ (γ i) g) ≡ o
-            → (replay l c g ≡ latest l c (only γ (γ i) g)) ⊎ ((y : ℤ) → (a : ℕ) × (b : ℕ) × (a ≢ b) × Has writes c (log′ y a) × Exposed c (log′ y b))
-        stale q (j, n, x) none e = inr (λ y. (
+        -- a group that wrote c is a lower one
+        lower : (j : ℕ) → j ≢ γ i → Has writes c (only γ j g) → j < γ i
+        lower j n x = elim (decLt j (γ i)) [ yes y ↦ y | no y ↦ absurd (has-nil (rw (u j (omega arith)) at x)) ]
+
+        late : replay l c g ≡ latest l c g → (j : ℕ) × (j ≢ γ i) × Has writes c (only γ j g) → (o : Option ℤ) → written c (only γ (γ i) g) ≡ o
+            → (replay l c g ≡ latest l c (only γ (γ i) g)) ⊎ ((y : ℤ) → Late (log′ y) c)
+        late q (j, n, x) none e = inr (λ y. (
           j,
           γ i,
-          n,
+          omega (arith, lower j n x),
           has-more (extends-only γ j (access reads i c y) g) x,
           rw (only-same γ (access reads i c y) refl g) (first (λ z. written-none c z e)),
         ))
-        stale q (j, n, x) (some v) e = inl (q ∙ ap value (sorted-own γ c (γ i) v t u e ∙ sym e))
+        late q (j, n, x) (some v) e = inl (q ∙ ap value (sorted-own γ c (γ i) v t u e ∙ sym e))
 
         foreign : replay l c g ≡ latest l c g → (j : ℕ) × (j ≢ γ i) × Has writes c (only γ j g) → (k : Class) → l .class c ≡ k
             → Allowed l δ g i c (replay l c g)
@@ -126,13 +130,17 @@ module _ (l : Loop) (δ : Partition) where
           c,
           subst (λ (k : Class). ObstacleAt k (log′ y) c) (sym e) (j, γ i, n, has-more (extends-only γ j (access reads i c y) g) x, read-there y),
         ))
-        foreign q o lastprivate e = elim (stale q o (written c (only γ (γ i) g)) refl) [
+        foreign q o lastprivate e = elim (late q o (written c (only γ (γ i) g)) refl) [
+          | inl r ↦ inl r
+          | inr f ↦ inr (λ y. (c, subst (λ (k : Class). ObstacleAt k (log′ y) c) (sym e) (stale-of-late (f y))))
+        ]
+        foreign q o copied e = elim (late q o (written c (only γ (γ i) g)) refl) [
           | inl r ↦ inl r
           | inr f ↦ inr (λ y. (c, subst (λ (k : Class). ObstacleAt k (log′ y) c) (sym e) (f y)))
         ]
-        foreign q o reduction e = elim (stale q o (written c (only γ (γ i) g)) refl) [
+        foreign q o reduction e = elim (late q o (written c (only γ (γ i) g)) refl) [
           | inl r ↦ inl r
-          | inr f ↦ inr (λ y. (c, subst (λ (k : Class). ObstacleAt k (log′ y) c) (sym e) (inl (f y))))
+          | inr f ↦ inr (λ y. (c, subst (λ (k : Class). ObstacleAt k (log′ y) c) (sym e) (inl (stale-of-late (f y)))))
         ]
 
   -- in the midst of iteration i, of which a is left

@@ -34,4 +34,4 @@ grouping-decides-the-word l δ ε h k ps qs =
 pub neighbours-pass-too : (l : Loop) (P : ℕ) (δ : Partition) → Proper l (singles (l .iterations) P) → Proper l δ
     → (ps qs : List ℕ) → TrialPasses l (singles (l .iterations) P) ps → TrialPasses l δ qs
 unfolding singles
-neighbours-pass-too l P δ h k ps qs t = passes l δ k qs .1 (passes-coarser l (δ .group) (passes l (singles (l .iterations) P) h ps .0 t))
+neighbours-pass-too l P δ h k ps qs t = passes l δ k qs .1 (passes-coarser l δ k (passes l (singles (l .iterations) P) h ps .0 t))

@@ -9,7 +9,7 @@ use native.Mathlib.Omega.{arith}
 use lib.IntN.{ℤ}
 use Rattle.rules.specs.ChooseLaws.{pick-same, pick-other, put-same, put-other, below-yes, below-no}
 use Rattle.rules.specs.Choose.{put}
-use Rattle.rules.specs.Loop.{Act, read, write, update, fault, done, Class, shared, lastprivate, reduction, Loop, bound, Partition}
+use Rattle.rules.specs.Loop.{Act, read, write, update, fault, done, Class, shared, lastprivate, copied, reduction, Loop, bound, Partition}
 use Rattle.rules.specs.Log.{reads, writes, access, Log, only, written, Has, newest, a-read}
 use Rattle.rules.specs.LogLaws.{only-same, has-more, extends-only, own-or-other}
 use Rattle.rules.specs.Obstacles.{ObstacleAt}
@@ -42,6 +42,7 @@ module _ (l : Loop) (δ : Partition) where
   allowed : (s : State) (i c : ℕ) → ((d : ℕ) → l .class d ≡ shared → s .cells d ≡ latest l d (s .log)) → (k : Class) → l .class c ≡ k
       → Allowed l δ (s .log) i c (given l δ k s i c)
   allowed s i c m lastprivate e = inl refl
+  allowed s i c m copied e = inl refl
   allowed s i c m reduction e = inl refl
   allowed s i c m shared e = go (own-or-other γ c (γ i) (s .log))
     where
@@ -66,6 +67,10 @@ module _ (l : Loop) (δ : Partition) where
     | no p ↦ put-other p m v ∙ h d f ∙ sym (ap (λ (o : Option ℤ). Option·getD o (l .entry d)) (pick-other p (some v) (written d g)))
   ]
   stored-latest m g i c v h lastprivate e d f =
+      h d f
+      ∙ sym (ap (λ (o : Option ℤ). Option·getD o (l .entry d))
+      (pick-other (λ (p : c ≡ d). let z : _≡_ {A = ℕ} 0 1 = cc (ap (l .class) p) in omega arith) (some v) (written d g)))
+  stored-latest m g i c v h copied e d f =
       h d f
       ∙ sym (ap (λ (o : Option ℤ). Option·getD o (l .entry d))
       (pick-other (λ (p : c ≡ d). let z : _≡_ {A = ℕ} 0 1 = cc (ap (l .class) p) in omega arith) (some v) (written d g)))

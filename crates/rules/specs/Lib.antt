@@ -6,6 +6,7 @@ pub mod Steps
 pub mod Marks
 pub mod Serial
 pub mod Obstacles
+pub mod Record
 pub mod Merge
 pub mod Answer
 pub mod Proper

@@ -13,9 +13,10 @@ pub data Act : Type 0 where
   fault : ℕ → ℕ → Act
   done : Act
 
--- what a cell is by the clauses of its name; "a name in no clause is shared"
+-- what a cell is by the clauses of its name; "a name in no clause is shared". Document 02, Point 5: "A name may stand in `firstprivate` and
+-- `lastprivate` together": its cells are `copied`
 pub data Class : Type 0 where
-  shared lastprivate reduction : Class
+  shared lastprivate copied reduction : Class
 
 pub record Loop : Type 0 where
   pub size : ℕ  -- "N is the number of cells"

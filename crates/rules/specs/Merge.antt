@@ -5,7 +5,7 @@ use mathlib.Core.Bool.{Bool, true, false, cond}
 use Prim.Native.Nat.{ℕ, zero, suc, _+_}
 use lib.IntN.{ℤ}
 use Rattle.rules.specs.Choose.{pick, below}
-use Rattle.rules.specs.Loop.{Class, shared, lastprivate, reduction, Loop, Partition, bound}
+use Rattle.rules.specs.Loop.{Class, shared, lastprivate, copied, reduction, Loop, Partition, bound}
 use Rattle.rules.specs.Log.{reads, writes, updates, Access, access, iteration, Log, each, written}
 use Rattle.rules.specs.Steps.{State}
 
@@ -64,6 +64,7 @@ gathered l δ c g = sum-of l (δ .processors) (λ p. total l c (block δ p g))
 abbrev pub merged-as : Loop → Partition → Class → State → ℕ → ℤ
 merged-as l δ shared s c = s .cells c
 merged-as l δ lastprivate s c = last-value l c (s .log)
+merged-as l δ copied s c = last-value l c (s .log)
 merged-as l δ reduction s c = cond (updated c (s .log)) (l .plus (last-value l c (s .log)) (gathered l δ c (s .log))) (last-value l c (s .log))
 
 unfoldable pub merged : Loop → Partition → State → ℕ → ℤ

@@ -2,13 +2,14 @@
 use Prim.Native.Nat.{ℕ}
 use Rattle.rules.specs.declared.Grouping.{Grouping}
 use Rattle.rules.specs.declared.Grouping.the-variants.{Iterations, Blocks}
-use Rattle.rules.specs.Loop.{Class, shared, lastprivate, reduction}
+use Rattle.rules.specs.Loop.{Class, shared, lastprivate, copied, reduction}
 
 -- of a class, in the table of names and in the shadow tables
 abbrev pub class-number : Class → ℕ
 class-number shared = 0
 class-number lastprivate = 1
 class-number reduction = 2
+class-number copied = 3
 
 -- of the group of iteration i, which processor p has (`tested-group`, proofs/BlocksLaws)
 abbrev pub grouped : Grouping → ℕ → ℕ → ℕ

@@ -3,9 +3,9 @@
 use mathlib.Core.Logic.{_≢_, _⊎_, inl, inr}
 use mathlib.Core.Path.{subst}
 use Prim.Native.Nat.{ℕ, _<_}
-use native.Mathlib.Decide.{ℕ-discrete}
+use native.Mathlib.Decide.{ℕ-discrete, decLt}
 use native.Mathlib.Omega.{arith}
-use Rattle.rules.specs.Loop.{Class, shared, lastprivate, reduction, Loop}
+use Rattle.rules.specs.Loop.{Class, shared, lastprivate, copied, reduction, Loop}
 use Rattle.rules.specs.Log.{Kind, writes, updates, Access, access, Log, only, Has, newest, older, Exposed, Ordinary}
 use Rattle.rules.specs.LogLaws.{has-all, exposed-nil, ordinary-nil}
 use Rattle.rules.specs.Decide.{change, either?, both?, not?, find, has?, exposed?, ordinary?, over, two?}
@@ -19,6 +19,10 @@ Clash f c = (i : ℕ) × (j : ℕ) × (i ≢ j) × Has writes c (f i) × Ordinar
 abbrev pub Stale : (ℕ → Log) → ℕ → Type 0
 Stale f c = (i : ℕ) × (j : ℕ) × (i ≢ j) × Has writes c (f i) × Exposed c (f j)
 
+-- document 02, Point 5: "an iteration reads it before writing it and a lower-numbered iteration writes it, whichever of the two steps came first"
+abbrev pub Late : (ℕ → Log) → ℕ → Type 0
+Late f c = (i : ℕ) × (j : ℕ) × (i < j) × Has writes c (f i) × Exposed c (f j)
+
 -- reduction: "it has an update and an ordinary access, even in one iteration"
 abbrev pub Mixed : (ℕ → Log) → ℕ → Type 0
 Mixed f c = (i : ℕ) × (j : ℕ) × Has updates c (f i) × Ordinary c (f j)
@@ -26,6 +30,7 @@ Mixed f c = (i : ℕ) × (j : ℕ) × Has updates c (f i) × Ordinary c (f j)
 abbrev pub ObstacleAt : Class → (ℕ → Log) → ℕ → Type 0
 ObstacleAt shared f c = Clash f c
 ObstacleAt lastprivate f c = Stale f c
+ObstacleAt copied f c = Late f c
 ObstacleAt reduction f c = Stale f c ⊎ Mixed f c
 
 -- some cell has an obstacle
@@ -54,6 +59,12 @@ module _ (γ : ℕ → ℕ) (g : Log) (c : ℕ) where
       (λ i j. both? (not? (ℕ-discrete i j)) (both? (has? writes c (f i)) (exposed? c (f j))))
       (λ i j q. (has-some (q .1 .0), λ e. exposed-nil (subst (Exposed c) e (q .1 .1)))))
 
+  unfoldable pub late? : Dec (Late (λ i. only γ i g) c)
+  late? = change (λ (i, j, (n, (w, o))). (i, j, n, w, o)) (λ (i, j, n, w, o). (i, j, (n, (w, o))))
+      (two? γ g (λ i j. (i < j) × (Has writes c (f i) × Exposed c (f j)))
+      (λ i j. both? (decLt i j) (both? (has? writes c (f i)) (exposed? c (f j))))
+      (λ i j q. (has-some (q .1 .0), λ e. exposed-nil (subst (Exposed c) e (q .1 .1)))))
+
   unfoldable pub mixed? : Dec (Mixed (λ i. only γ i g) c)
   mixed? = change (λ (i, j, (u, o)). (i, j, u, o)) (λ (i, j, u, o). (i, j, (u, o)))
       (two? γ g (λ i j. Has updates c (f i) × Ordinary c (f j)) (λ i j. both? (has? updates c (f i)) (ordinary? c (f j)))
@@ -62,6 +73,7 @@ module _ (γ : ℕ → ℕ) (g : Log) (c : ℕ) where
   unfoldable pub obstacle-at? : (k : Class) → Dec (ObstacleAt k (λ i. only γ i g) c)
   obstacle-at? shared = clash?
   obstacle-at? lastprivate = stale?
+  obstacle-at? copied = late?
   obstacle-at? reduction = either? stale? mixed?
 
 abbrev pub cell : Access → ℕ
@@ -76,6 +88,7 @@ module _ (l : Loop) (γ : ℕ → ℕ) (g : Log) where
   pub at-below : (k : Class) (c : ℕ) → ObstacleAt k (λ i. only γ i g) c → c < over cell g
   at-below shared c (i, j, n, w, o) = has-over (has-all γ i g w)
   at-below lastprivate c (i, j, n, w, o) = has-over (has-all γ i g w)
+  at-below copied c (i, j, n, w, o) = has-over (has-all γ i g w)
   at-below reduction c (inl (i, j, n, w, o)) = has-over (has-all γ i g w)
   at-below reduction c (inr (i, j, u, o)) = has-over (has-all γ i g u)
 

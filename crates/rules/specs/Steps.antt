@@ -5,7 +5,7 @@ use Prim.Native.Nat.{ℕ, zero, suc, _-_, _<_}
 use native.Mathlib.Decide.{decLt}
 use lib.IntN.{ℤ}
 use Rattle.rules.specs.Choose.{put, below}
-use Rattle.rules.specs.Loop.{Act, read, write, update, fault, done, Class, shared, lastprivate, reduction, Loop, Partition, bound}
+use Rattle.rules.specs.Loop.{Act, read, write, update, fault, done, Class, shared, lastprivate, copied, reduction, Loop, Partition, bound}
 use Rattle.rules.specs.Log.{reads, writes, updates, Access, access, Log, only, written}
 use Rattle.rules.specs.Decide.{both?, find}
 
@@ -32,6 +32,7 @@ latest l c g = Option·getD (written c g) (l .entry c)
 abbrev pub stored : Class → (ℕ → ℤ) → ℕ → ℤ → ℕ → ℤ
 stored shared m c v = put m c v
 stored lastprivate m c v = m
+stored copied m c v = m
 stored reduction m c v = m
 
 -- processor p makes the access e, which leaves a of its iteration and the shared cells m
@@ -44,6 +45,7 @@ module _ (l : Loop) (δ : Partition) where
   abbrev pub given : Class → State → ℕ → ℕ → ℤ
   given shared s i c = s .cells c
   given lastprivate s i c = latest l c (only (δ .group) (δ .group i) (s .log))
+  given copied s i c = latest l c (only (δ .group) (δ .group i) (s .log))
   given reduction s i c = latest l c (only (δ .group) (δ .group i) (s .log))
 
   -- processor p "goes on up to and including its next cell access, or ends its iteration if none is left"; "a fault stops its processor for good"

@@ -37,6 +37,8 @@ pub const LASTPRIVATE: u32 = 1;
 
 pub const REDUCTION: u32 = 2;
 
+pub const COPIED: u32 = 3;
+
 // A processor's place among the records.
 pub fn index_of(p: Processor) -> usize
     ensures { λ r. ⌜ r ≡ p .0 ⌝ }

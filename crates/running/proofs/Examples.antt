@@ -15,7 +15,7 @@ use Rattle.rules.specs.Blocks.{blockStart, singles, blocks, tested}
 use Rattle.rules.specs.Log.{only, written}
 use Rattle.rules.specs.Decide.{change, either?, both?, not?, find as find?, kind?, has?, exposed?, ordinary?, over, one?, two?}
 use Rattle.rules.specs.Marks.{mark1?, mark2?, mark4?, weight, marks}
-use Rattle.rules.specs.Obstacles.{clash?, stale?, mixed?, obstacle-at?, obstructed?}
+use Rattle.rules.specs.Obstacles.{clash?, stale?, late?, mixed?, obstacle-at?, obstructed?}
 use Rattle.rules.specs.Steps.{go-on, step, steps, through, through-all, run-out, run-on, trial, is-fault?, stopped?, faulty?}
 use Rattle.rules.specs.Serial.{along, from, serial, finished?}
 use Rattle.rules.specs.Merge.{highest, updated, add, total, sum-of, block, gathered, merged, touches, count, pairs, written-cells}
@@ -113,6 +113,18 @@ wording =
     dealing "integer schedule, static" "shared(schedule) num_threads(2) schedule(static) lastprivate(static)" "do i = 1, 1"
     ("static = schedule" ∷ [])
 
+-- Document 02, Point 5: z in both clauses, and its own value read and written
+abbrev both : String
+both = "num_threads(2) firstprivate(z) lastprivate(z)"
+
+abbrev lessening : String → List ℕ
+lessening bounds = dealing "integer z" both bounds ("z = z - 1" ∷ [])
+
+-- the clause's word as a name
+abbrev wording-first : List ℕ
+wording-first =
+    dealing "integer firstprivate" "firstprivate(firstprivate) lastprivate(firstprivate) num_threads(2)" "do i = 1, 1" ("firstprivate = i" ∷ [])
+
 -- a text, and blanks up to n bytes
 abbrev up-to : ℕ → List ℕ → List ℕ
 up-to n t = t ++ replicate (n - length t) 32
@@ -150,8 +162,11 @@ looked t n ps = views (viewShown (read t) (lent t n) 8192 ps (replicate (n + n) 
 abbrev looked-on : List ℕ → List ℤ → List ℕ → Shown
 looked-on t m ps = views (viewShown (read t) m 8192 ps (replicate (length m + length m) 7))
 
+abbrev ran-in : ℕ → List ℕ → List ℤ → List ℕ → Shown
+ran-in w t m ps = ends (runOf (read t) m w ps) (cellsRun (read t) m w ps)
+
 abbrev ran-on : List ℕ → List ℤ → List ℕ → Shown
-ran-on t m ps = ends (runOf (read t) m 8192 ps) (cellsRun (read t) m 8192 ps)
+ran-on = ran-in 8192
 
 abbrev ran : List ℕ → ℕ → List ℕ → Shown
 ran t n ps = ran-on t (lent t n) ps
@@ -261,6 +276,37 @@ rows =
     ∷ row (checked (recurring "num_threads(2) schedule(static, 1)")) (checks (Refused 2 2))
     ∷ row (checked (recurring "num_threads(2) schedule()")) (checks (Refused 2 2))
     ∷ row (checked wording) (checks (Sizes 2 2))
+    -- document 02, Point 5: an old value read early and overwritten later passes, whichever step comes first; with lastprivate alone it does not
+    ∷ row (ran-on (read-first both) (pos 3 ∷ pos 4 ∷ []) []) (ends (Passed 2 2) (pos 7 ∷ pos 3 ∷ []))
+    ∷ row (ran-on (read-first both) (pos 3 ∷ pos 4 ∷ []) (1 ∷ [])) (ends (Passed 2 2) (pos 7 ∷ pos 3 ∷ []))
+    ∷ row (by-steps (read (read-first both)) (pos 3 ∷ pos 4 ∷ []) (1 ∷ [])) (ends (Passed 2 2) (pos 7 ∷ pos 3 ∷ []))
+    ∷ row (ran-on (read-first "num_threads(2) lastprivate(z)") (pos 3 ∷ pos 4 ∷ []) []) (ends (Rerun 2 2) (pos 7 ∷ pos 3 ∷ []))
+    -- a lower iteration writes and a higher reads, whichever step comes first
+    ∷ row (ran-on (written-first both) (pos 3 ∷ pos 4 ∷ []) []) (ends (Rerun 2 2) (pos 7 ∷ pos 7 ∷ []))
+    ∷ row (ran-on (written-first both) (pos 3 ∷ pos 4 ∷ []) (1 ∷ 1 ∷ [])) (ends (Rerun 2 2) (pos 7 ∷ pos 7 ∷ []))
+    ∷ row (by-steps (read (written-first both)) (pos 3 ∷ pos 4 ∷ []) (1 ∷ 1 ∷ [])) (ends (Rerun 2 2) (pos 7 ∷ pos 7 ∷ []))
+    -- read and then written by one iteration, and by two
+    ∷ row (ran-on (lessening "do i = 1, 1") (pos 5 ∷ []) []) (ends (Passed 1 1) (pos 4 ∷ []))
+    ∷ row (ran-on (lessening "do i = 1, 2") (pos 5 ∷ []) []) (ends (Rerun 2 1) (pos 3 ∷ []))
+    -- blocks; the cell at entry while it is written privately
+    ∷ row (ran-on (written-first "schedule(static) num_threads(1) lastprivate(z) firstprivate(z)") (pos 3 ∷ pos 4 ∷ []) [])
+    (ends (Passed 2 2) (pos 7 ∷ pos 7 ∷ []))
+    ∷ row (ran-on (written-first "schedule(static) num_threads(2) lastprivate(z) firstprivate(z)") (pos 3 ∷ pos 4 ∷ []) (1 ∷ 1 ∷ []))
+    (ends (Rerun 2 2) (pos 7 ∷ pos 7 ∷ []))
+    ∷ row (looked-on (read-first both) (pos 3 ∷ pos 4 ∷ []) (1 ∷ [])) (views (3 ∷ 1 ∷ 4 ∷ 0 ∷ []))
+    -- 4,352 + 64 × 2 + 2 × (4 + 8 × 2) words are enough, one fewer is not
+    ∷ row (ran-in 4520 (read-first both) (pos 3 ∷ pos 4 ∷ []) []) (ends (Passed 2 2) (pos 7 ∷ pos 3 ∷ []))
+    ∷ row (ran-in 4519 (read-first both) (pos 3 ∷ pos 4 ∷ []) []) (ends (Unfit 6 0) (pos 3 ∷ pos 4 ∷ []))
+    -- both clauses in either order, with other names beside; `firstprivate` alone, with a third clause, twice; its word as a name
+    ∷ row (checked (read-first "LASTPRIVATE(y, z) num_threads(2) FirstPrivate ( z )")) (checks (Sizes 2 2))
+    ∷ row (checked (read-first "num_threads(2) firstprivate(z)")) (checks (Refused 3 2))
+    ∷ row (checked (read-first "num_threads(2) firstprivate(z) shared(z)")) (checks (Refused 3 2))
+    ∷ row (checked (read-first "num_threads(2) firstprivate(z) lastprivate(z) reduction(+:z)")) (checks (Refused 3 2))
+    ∷ row (checked (read-first "num_threads(2) firstprivate(z, z) lastprivate(z)")) (checks (Refused 3 2))
+    ∷ row (checked (read-first "num_threads(9) lastprivate(z) firstprivate(y)")) (checks (Refused 3 2))
+    ∷ row (checked (read-first "num_threads(9) lastprivate(z) firstprivate(z)")) (checks (Refused 4 2))
+    ∷ row (checked (read-first "num_threads(2) lastprivate(z) firstprivate()")) (checks (Refused 2 2))
+    ∷ row (checked wording-first) (checks (Sizes 1 2))
     ∷ row (checked []) (checks (Refused 2 1))
     ∷ row (checked (up-to 2048 rising)) (checks (Sizes 3 2))
     ∷ row (checked (up-to 2049 rising)) (checks (Refused 1 0))
@@ -271,7 +317,7 @@ pub examples : map (λ (r : Row). r .got) rows ≡ map (λ (r : Row). r .want) r
 unfolding rows rising writing writing-last adding idle reading aiming scattering
     word value wrap sum difference negation product quotient rdiv bySigns evenOf nearer nearest integers.same related
     blockStart singles blocks tested owner cellOf listed pick below put only written
-    change either? both? not? find? kind? has? exposed? ordinary? over one? two? mark1? mark2? mark4? weight marks clash? stale? mixed? obstacle-at? obstructed?
+    change either? both? not? find? kind? has? exposed? ordinary? over one? two? mark1? mark2? mark4? weight marks clash? stale? late? mixed? obstacle-at? obstructed?
     go-on step steps through through-all run-out run-on trial is-fault? stopped? faulty? along from serial finished? highest updated add total sum-of
     block gathered merged touches count merge.sum pairs written-cells
     viewed look trial-passes? serial-passes? again run-by run settled-by settled ℕ-discrete decLt

@@ -3,8 +3,8 @@
 -- alone, and only in these texts", which have the clause `schedule(static)` (`alike-but-for-the-word`). And a text that passes without this clause passes
 -- with it (`passes-with-the-clause-too`).
 use mathlib.Core.Path.{_≡_, refl, sym, _∙_, ap}
-use mathlib.Core.Bool.{cond}
-use mathlib.Core.List.{List, [], _∷_}
+use mathlib.Core.Bool.{Bool, cond}
+use mathlib.Core.List.{List, [], _∷_, _++_}
 use Prim.Native.Nat.{ℕ, suc, _≤_}
 use native.Mathlib.Omega.{arith}
 use lib.ListN.{length}
@@ -13,16 +13,18 @@ use Rattle.rules.specs.declared.Grouping.{Grouping}
 use Rattle.rules.specs.declared.Grouping.the-variants.{Iterations, Blocks}
 use Rattle.rules.specs.Answer.{Answer, passed, rerun, faulted, Ending, wordless, AlikeButForTheWord, settled}
 use Rattle.rules.specs.Blocks.{singles, tested}
-use Rattle.rules.specs.Loop.{Class}
+use Rattle.rules.specs.Loop.{shared, lastprivate, copied, reduction}
 use Rattle.rules.specs.Numbers.{grouped}
 use Rattle.rules.proofs.AnswerRun.{settled-alike}
 use Rattle.rules.proofs.CoarserRun.{has-passed, settled-coarser}
 use Rattle.syntax.specs.Bytes.{any, same}
+use Rattle.syntax.specs.declared.ClauseKind.{ClauseKind}
 use Rattle.syntax.specs.Grammar.{number, Clause, clause, threads, static}
-use Rattle.syntax.specs.Known.{State, nothing, threads-in, processors-by, statics-in, grouping-by, class-by, class-in}
+use Rattle.syntax.specs.Known.{State, nothing, threads-in, processors-by, statics-in, grouping-by, names-in, in-lastprivate, in-firstprivate, in-reduction, class-in}
 use Rattle.syntax.specs.Follows.{Program, InOrder, Follows, learnt}
 use Rattle.syntax.specs.Text.{Verdict, good, read}
 use Rattle.syntax.specs.Meaning.{loopOf, partitionOf}
+use Rattle.syntax.proofs.ProperLoop.{accepted-proper}
 use Rattle.syntax.proofs.Theorem.{accepted-complete}
 use Rattle.answers.specs.Answers.{runNumber, taken, answered, settles, runOf, cellsRun}
 use Rattle.answers.specs.declared.Ran.{Ran}
@@ -139,19 +141,25 @@ answered-passed s (passed c d) a b h = ap if-passed h
 answered-passed s (rerun c d) a b h = let z : _≡_ {A = ℕ} 0 1 = ap (λ (r : Ran). has-passed (if-passed r)) h in absurd (omega arith)
 answered-passed s (faulted n t i) a b h = let z : _≡_ {A = ℕ} 0 1 = ap (λ (r : Ran). has-passed (if-passed r)) h in absurd (omega arith)
 
-settles-too : (s : State) (M : List ℤ) (a b : ℕ) → settles (ungrouping s) M .answer ≡ passed a b → settles s M ≡ settles (ungrouping s) M
+settles-too : (text : List ℕ) (s : State) → read text ≡ good s → (M : List ℤ) (a b : ℕ)
+    → settles (ungrouping s) M .answer ≡ passed a b → settles s M ≡ settles (ungrouping s) M
 unfolding loopOf partitionOf tested singles
-settles-too s M a b h = settled-coarser (loopOf s M) (partitionOf s .group) a b h
+settles-too text s e M a b h = settled-coarser (loopOf s M) (partitionOf s) (accepted-proper text s M e) a b h
 
 -- ---- texts alike in all but the number of processors
 
 -- the directive gives the same classes and the same grouping, and another P
-same-class : (d : List ℕ) (cs : List Clause) (x : List ℕ) → class-in (rethreaded d cs) x ≡ class-in cs x
+same-names : (d : List ℕ) (f : ClauseKind → Bool) (cs : List Clause) → names-in f (rethreaded d cs) ≡ names-in f cs
+same-names d f [] = refl
+same-names d f (clause k y ys ∷ cs) = ap (λ (l : List (List ℕ)). cond (f k) (y ∷ (ys ++ l)) l) (same-names d f cs)
+same-names d f (threads p ∷ cs) = same-names d f cs
+same-names d f (static ∷ cs) = same-names d f cs
+
+-- the class goes by the names in clauses of each kind
+by-names : (cs ds : List Clause) → ((f : ClauseKind → Bool) → names-in f cs ≡ names-in f ds) → (x : List ℕ) → class-in cs x ≡ class-in ds x
 unfolding class-in
-same-class d [] x = refl
-same-class d (clause k y ys ∷ cs) x = ap (λ (c : Class). cond (any (same x) (y ∷ ys)) (class-by k) c) (same-class d cs x)
-same-class d (threads p ∷ cs) x = same-class d cs x
-same-class d (static ∷ cs) x = same-class d cs x
+by-names cs ds h x = λ i. cond (any (same x) (h in-firstprivate i)) copied
+    (cond (any (same x) (h in-lastprivate i)) lastprivate (cond (any (same x) (h in-reduction i)) reduction shared))
 
 same-statics : (d : List ℕ) (cs : List Clause) → statics-in (rethreaded d cs) ≡ statics-in cs
 same-statics d [] = refl
@@ -166,7 +174,7 @@ other-processors d (threads p ∷ cs) h = refl
 other-processors d (static ∷ cs) h = other-processors d cs h
 
 rethreads : (d : List ℕ) → Redirects (rethreaded d) (λ _. number d) (λ γ. γ)
-rethreads d = record { classes = same-class d; processors = other-processors d; grouping = λ cs. ap grouping-by (same-statics d cs) }
+rethreads d = record { classes = λ cs. by-names (rethreaded d cs) cs (λ f. same-names d f cs); processors = other-processors d; grouping = λ cs. ap grouping-by (same-statics d cs) }
 
 -- what each then makes known, and that Run takes it
 module _ {f : List Clause → List Clause} {P : ℕ → ℕ} {G : Grouping → Grouping} (r : Redirects f P G) (text′ : List ℕ) (p : Program)
@@ -201,12 +209,11 @@ alike-but-for-the-word text text′ p d f f′ M w w′ ps ps′ z z′ =
 -- ---- texts alike in all but the clause
 
 -- the directive without it gives the same classes and the same P
-unscheduled-class : (cs : List Clause) (x : List ℕ) → class-in (unscheduled cs) x ≡ class-in cs x
-unfolding class-in
-unscheduled-class [] x = refl
-unscheduled-class (clause k y ys ∷ cs) x = ap (λ (c : Class). cond (any (same x) (y ∷ ys)) (class-by k) c) (unscheduled-class cs x)
-unscheduled-class (threads p ∷ cs) x = unscheduled-class cs x
-unscheduled-class (static ∷ cs) x = unscheduled-class cs x
+unscheduled-names : (f : ClauseKind → Bool) (cs : List Clause) → names-in f (unscheduled cs) ≡ names-in f cs
+unscheduled-names f [] = refl
+unscheduled-names f (clause k y ys ∷ cs) = ap (λ (l : List (List ℕ)). cond (f k) (y ∷ (ys ++ l)) l) (unscheduled-names f cs)
+unscheduled-names f (threads p ∷ cs) = unscheduled-names f cs
+unscheduled-names f (static ∷ cs) = unscheduled-names f cs
 
 unscheduled-threads : (cs : List Clause) → threads-in (unscheduled cs) ≡ threads-in cs
 unscheduled-threads [] = refl
@@ -222,7 +229,7 @@ unscheduled-none (static ∷ cs) = unscheduled-none cs
 
 unschedules : Redirects unscheduled (λ p. p) (λ _. Iterations)
 unschedules = record {
-  classes = unscheduled-class;
+  classes = λ cs. by-names (unscheduled cs) cs (λ f. unscheduled-names f cs);
   processors = λ cs h. ap processors-by (unscheduled-threads cs);
   grouping = λ cs. ap grouping-by (unscheduled-none cs);
 }
@@ -239,7 +246,7 @@ passes-with-the-clause-too text text′ p f f′ M w w′ ps ps′ z z′ a b h 
     let e′ = read-so unschedules text′ p (f .ordered) f′ in
     let y = fits-so unschedules text′ p (f .ordered) (length M) w′ ps′ z′ in
     let n = answered-passed (ungrouping s) (settles (ungrouping s) M .answer) a b (sym (answer-is text′ (ungrouping s) e′ M w′ ps′ y) ∙ h) in
-    let t = settles-too s M a b n in (
+    let t = settles-too text s e M a b n in (
       answer-is text s e M w ps z ∙ ap (answered s) (ap (λ (x : Ending). x .answer) t ∙ n),
       cells-are text s e M w ps z ∙ ap (λ (x : Ending). x .cells) t ∙ sym (cells-are text′ (ungrouping s) e′ M w′ ps′ y),
     )

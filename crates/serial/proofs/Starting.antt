@@ -35,8 +35,8 @@ suits-one k l δ h =
 pub serials-of : (code : List ℕ) (g : Setting) (l : Loop) (M : List ℤ) (C : List ℕ) (n : ℕ) → Starts code g l M C n → Serials code g l M C n
 serials-of code g l M C n h =
     let e = h .entry in
-    let q : 4 + 5 * 1 ≤ 4 + 5 * g .processors = omega (arith, e .suits .some) in
-    let r : l .size * (4 + 5 * 1) ≤ l .size * (4 + 5 * g .processors) = mul-le-mul-left (l .size) q in
+    let q : 6 + 5 * 1 ≤ 6 + 5 * g .processors = omega (arith, e .suits .some) in
+    let r : l .size * (6 + 5 * 1) ≤ l .size * (6 + 5 * g .processors) = mul-le-mul-left (l .size) q in
     record {
       coded = h .coded;
       iterations = h .iterations;

@@ -28,7 +28,7 @@ use Rattle.trial.specs.Start.{Entry, Starts}
 use Rattle.setup.specs.Settings.{settingOf}
 
 -- a finished text has every kind of line
-late : (text : List ℕ) (s : State) → read text ≡ good s → 6 ≤ s .stage
+pub late : (text : List ℕ) (s : State) → read text ≡ good s → 6 ≤ s .stage
 late text s e = leb-true 6 (s .stage) (accepted-finished text s e)
 
 -- the words of the code are the code

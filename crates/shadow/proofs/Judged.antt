@@ -3,7 +3,7 @@ use mathlib.Core.Path.{_≡_, refl, subst}
 use mathlib.Core.Logic.{_≢_, _⊎_, inl, inr, _↔_}
 use mathlib.Core.List.{_∷_}
 use mathlib.Core.Bool.{Bool, true}
-use Prim.Native.Nat.{ℕ, suc, _<_}
+use Prim.Native.Nat.{ℕ, suc, max, _<_}
 use native.Mathlib.Decide.{ℕ-discrete}
 use native.Mathlib.Omega.{arith}
 use lib.IntN.{ℤ}
@@ -12,8 +12,9 @@ use Rattle.rules.specs.ChooseLaws.{pick-same, pick-other}
 use Rattle.rules.specs.Log.{Kind, reads, writes, updates, Access, access, Log, only, Has, newest, older, Exposed, first, earlier}
 use Rattle.rules.specs.LogLaws.{has-nil, exposed-nil}
 use Rattle.rules.specs.Marks.{Mark4}
-use Rattle.shadow.specs.Tables.{Own, Row, noted, kept, newcomer}
-use Rattle.shadow.proofs.Sets.{Same, Adds, adds-same, Size, size-same, size-add, Stamp, stamp-same, stamp-has, stamp-put, stamp-keep}
+use Rattle.rules.specs.Record.{Lowest, Highest, Recorded}
+use Rattle.shadow.specs.Tables.{Own, Row, noted, kept, newcomer, lower}
+use Rattle.shadow.proofs.Sets.{Same, Adds, adds-same, Size, size-same, size-add, lowest-same, lowest-add, highest-same, highest-add, Stamp, stamp-same, stamp-has, stamp-put, stamp-keep}
 use Rattle.shadow.proofs.Change.{latest-tops, same-of, adds-of, has-leaves, exposed-leaves}
 use Rattle.shadow.specs.Orderly.{Latest}
 
@@ -52,6 +53,7 @@ pub record Judged (γ π : ℕ → ℕ) (n c : ℕ) (l : Log) (r : Row) : Type 0
   pub exposed : Stamp π (E γ c l) (λ p. r .own p .exposed)
   pub writers : Size (W γ c l) n (r .writers)
   pub met : Size (M γ c l) n (r .met)
+  pub recorded : Recorded (λ g. only γ g l) c (r .lowest) (r .highest)
   pub crossed : (r .crossed ≡ true) ↔ Mark4 γ c l
 
 union-same : {S S′ T T′ : ℕ → Type 0} → Same S S′ → Same T T′ → Same (λ g. S g ⊎ T g) (λ g. S′ g ⊎ T′ g)
@@ -82,6 +84,7 @@ module _ (γ π : ℕ → ℕ) (n c : ℕ) (e : Access) (l : Log) (w : Same (W �
     exposed = stamp-same π x (j .exposed);
     writers = size-same w (j .writers);
     met = size-same (union-same w x) (j .met);
+    recorded = record { lowest = lowest-same w (j .recorded .lowest); highest = highest-same x (j .recorded .highest) };
     crossed = mark4-same (j .crossed);
   }
 
@@ -147,12 +150,19 @@ module _ (γ π : ℕ → ℕ) (plus : ℤ → ℤ → ℤ) (n c : ℕ) (l : Log
     | no p ↦ newcomer-right (access reads i c v) (union-right read-keeps-W (read-adds-E (wrote-no p)))
   ]
 
+  read-highest : Highest (E γ c (access reads i c v ∷ l)) (pick (o .wrote) (suc g) (r .highest) (max (suc g) (r .highest)))
+  read-highest = elim (ℕ-discrete (o .wrote) (suc g)) [
+    | yes p ↦ rw (pick-same p (r .highest) (max (suc g) (r .highest))) (highest-same (read-keeps-E (wrote-yes p)) (j .recorded .highest))
+    | no p ↦ rw (pick-other p (r .highest) (max (suc g) (r .highest))) (highest-add (read-adds-E (wrote-no p)) (j .recorded .highest))
+  ]
+
   judged-read : Judged γ π n c (access reads i c v ∷ l) (noted plus reads (π (γ i)) (γ i) i v r)
   judged-read = record {
     wrote = stamp-keep π (λ (a : Own). a .wrote) (r .own) read-keeps-W refl (j .wrote);
     exposed = read-exposed;
     writers = size-same read-keeps-W (j .writers);
     met = read-met;
+    recorded = record { lowest = lowest-same read-keeps-W (j .recorded .lowest); highest = read-highest };
     crossed = read-crossed;
   }
 
@@ -167,6 +177,12 @@ module _ (γ π : ℕ → ℕ) (plus : ℤ → ℤ → ℤ) (n c : ℕ) (l : Log
   write-writers = elim (ℕ-discrete (o .wrote) (suc g)) [
     | yes p ↦ rw (pick-same p (r .writers) (suc (r .writers))) (size-same (adds-same write-adds-W (wrote-yes p)) (j .writers))
     | no p ↦ rw (pick-other p (r .writers) (suc (r .writers))) (size-add write-adds-W (wrote-no p) low (j .writers))
+  ]
+
+  write-lowest : Lowest (W γ c (access writes i c v ∷ l)) (pick (o .wrote) (suc g) (r .lowest) (lower (suc g) (r .lowest)))
+  write-lowest = elim (ℕ-discrete (o .wrote) (suc g)) [
+    | yes p ↦ rw (pick-same p (r .lowest) (lower (suc g) (r .lowest))) (lowest-same (adds-same write-adds-W (wrote-yes p)) (j .recorded .lowest))
+    | no p ↦ rw (pick-other p (r .lowest) (lower (suc g) (r .lowest))) (lowest-add write-adds-W (j .recorded .lowest))
   ]
 
   write-crossed : (pick (o .exposed) (suc g) true (r .crossed) ≡ true) ↔ Mark4 γ c (access writes i c v ∷ l)
@@ -184,6 +200,7 @@ module _ (γ π : ℕ → ℕ) (plus : ℤ → ℤ → ℤ) (n c : ℕ) (l : Log
     exposed = stamp-keep π (λ (a : Own). a .exposed) (r .own) write-keeps-E refl (j .exposed);
     writers = write-writers;
     met = newcomer-right (access writes i c v) (union-left write-adds-W write-keeps-E);
+    recorded = record { lowest = write-lowest; highest = highest-same write-keeps-E (j .recorded .highest) };
     crossed = write-crossed;
   }
 
@@ -200,6 +217,7 @@ module _ (γ π : ℕ → ℕ) (plus : ℤ → ℤ → ℤ) (n c : ℕ) (l : Log
     exposed = stamp-keep π (λ (a : Own). a .exposed) (r .own) update-keeps-E refl (j .exposed);
     writers = size-same update-keeps-W (j .writers);
     met = size-same (union-same update-keeps-W update-keeps-E) (j .met);
+    recorded = record { lowest = lowest-same update-keeps-W (j .recorded .lowest); highest = highest-same update-keeps-E (j .recorded .highest) };
     crossed = mark4-same γ π n c (access updates i c v) l update-keeps-W update-keeps-E (j .crossed);
   }
 

@@ -11,6 +11,7 @@ use Rattle.rules.specs.Loop.{Act, read, write, update, fault, done, Loop, bound
 use Rattle.rules.specs.Log.{Kind, reads, writes, updates, access, Log, only, each}
 use Rattle.rules.specs.LogLaws.{only-other}
 use Rattle.rules.specs.Proper.{Sized, Proper}
+use Rattle.rules.specs.Record.{Recorded}
 use Rattle.rules.specs.Steps.{Place, opening, State, moved, go-on, step, steps, start, trial}
 use Rattle.rules.proofs.TrialRun.{Home, home, steps-keep, run-on-keeps}
 use Rattle.rules.specs.Serial.{Result, along, from, serial}
@@ -90,6 +91,11 @@ module _ (l : Loop) (δ : Partition) (h : Proper l δ) where
 
   pub look-shows : (ps : List ℕ) → Shows l δ (steps l δ ps (start l δ) .log) (table l δ (steps l δ ps (start l δ) .log))
   look-shows ps = let o = steps-orderly ps in tables-right l δ h (steps l δ ps (start l δ) .log) (o .inside) (o .ascending)
+
+  -- document 02, Point 5: after every prefix ps of a schedule the two words of a cell's row are its record
+  pub record-after : (ps : List ℕ) (c : ℕ) → let g = steps l δ ps (start l δ) .log in
+      Recorded (λ i. only (δ .group) i g) c (table l δ g .rows c .lowest) (table l δ g .rows c .highest)
+  record-after ps c = look-shows ps .recorded c
 
   pub trial-shows : (ps : List ℕ) → Shows l δ (trial l δ ps .log) (table l δ (trial l δ ps .log))
   trial-shows ps = let o = trial-orderly ps in tables-right l δ h (trial l δ ps .log) (o .inside) (o .ascending)

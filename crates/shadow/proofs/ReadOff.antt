@@ -9,10 +9,11 @@ use native.Mathlib.Omega.{arith}
 use lib.IntN.{ℤ}
 use Rattle.rules.specs.Choose.{below}
 use Rattle.rules.specs.ChooseLaws.{below-yes, below-no}
-use Rattle.rules.specs.Loop.{Class, shared, lastprivate, reduction}
+use Rattle.rules.specs.Loop.{Class, shared, lastprivate, copied, reduction}
 use Rattle.rules.specs.Log.{reads, writes, updates, Log, only, Has, newest, older, Exposed, first, earlier, Ordinary, a-read, a-write}
 use Rattle.rules.specs.LogLaws.{has-nil, has-only, has-all, exposed-nil}
-use Rattle.rules.specs.Obstacles.{Clash, Stale, Mixed, ObstacleAt}
+use Rattle.rules.specs.Obstacles.{Clash, Stale, Late, Mixed, ObstacleAt}
+use Rattle.rules.proofs.RecordLaws.{late-by-record}
 use Rattle.rules.proofs.SumLaws.{Within}
 use Rattle.rules.specs.Marks.{Mark1, Mark2, Mark4, mark1?, mark2?, mark4?, weight, marks}
 use Rattle.rules.specs.Decide.{has?}
@@ -131,6 +132,9 @@ module _ (γ π : ℕ → ℕ) (plus : ℤ → ℤ → ℤ) (nought : ℤ) (n c 
       one a w x b m (inl y) = (b, a, λ (q : b ≡ a). m (sym q), y, x)
       one a w x b m (inr y) = (a, b, m, w, y)
 
+  late-right : Blocked copied r ↔ Late (λ g. only γ g l) c
+  late-right = let e = late-by-record (j .recorded) in (e .1, e .0)
+
   mixed-right : ((0 < r .met) × (r .updated ≡ true)) ↔ Mixed (λ g. only γ g l) c
   mixed-right = (
     λ (b, q).
@@ -144,6 +148,7 @@ module _ (γ π : ℕ → ℕ) (plus : ℤ → ℤ → ℤ) (nought : ℤ) (n c 
   pub obstacle-right : (k : Class) → Blocked k r ↔ ObstacleAt k (λ g. only γ g l) c
   obstacle-right shared = clash-right
   obstacle-right lastprivate = stale-right
+  obstacle-right copied = late-right
   obstacle-right reduction = (
     λ x. elim x [ inl y ↦ inl (stale-right .0 y) | inr y ↦ inr (mixed-right .0 y) ],
     λ x. elim x [ inl y ↦ inl (stale-right .1 y) | inr y ↦ inr (mixed-right .1 y) ],

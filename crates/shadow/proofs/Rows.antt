@@ -16,7 +16,7 @@ use Rattle.rules.specs.LogLaws.{only-same, only-other, written-newest, written-
 use Rattle.rules.specs.Merge.{touches, add, total}
 use Rattle.rules.proofs.SumLaws.{Within, within-tail, within-newest}
 use Rattle.shadow.specs.Tables.{Own, Row, kept, noted, note, blank, tables}
-use Rattle.shadow.proofs.Sets.{size-none, Stamp, stamp-same, stamp-put, stamp-keep, put-keeps}
+use Rattle.shadow.proofs.Sets.{size-none, lowest-none, highest-none, Stamp, stamp-same, stamp-put, stamp-keep, put-keeps}
 use Rattle.shadow.proofs.Change.{latest-tops, same-of, adds-of, has-leaves, exposed-leaves, touches-else, written-else}
 use Rattle.shadow.specs.Orderly.{Latest, InTurn, turn-cons}
 use Rattle.shadow.proofs.Judged.{Judged, judged-same, judged-noted, apart-ru, apart-wu}
@@ -82,6 +82,7 @@ module _ (γ π : ℕ → ℕ) (plus : ℤ → ℤ → ℤ) (nought : ℤ) (c : 
           exposed = record { up = λ g x. absurd (exposed-nil x); down = λ p g (q : 0 ≡ suc g). absurd (omega arith) };
           writers = size-none (λ g x. has-nil x) n;
           met = size-none (λ g x. elim x [ inl y ↦ has-nil y | inr y ↦ exposed-nil y ]) n;
+          recorded = record { lowest = lowest-none (λ g x. has-nil x); highest = highest-none (λ g x. exposed-nil x) };
           crossed = (λ (q : false ≡ true). absurd (let z : _≡_ {A = ℕ} 0 1 = cc in omega arith), λ (g, x, y). absurd (has-nil y));
         })
         (λ k i v l h t u. judged-noted γ π plus n c l i v (row l) (within-newest γ n (access k i c v) l u) (turn-newest γ π t)

@@ -1,11 +1,13 @@
--- Sets of numbers: how many members below n, and the highest member of each processor.
+-- Sets of numbers: how many members below n, the lowest and the highest, and the highest of each processor.
 use mathlib.Core.Path.{_≡_, refl, sym, _∙_, ap, subst}
 use mathlib.Core.Logic.{_≢_, _↔_}
-use Prim.Native.Nat.{ℕ, zero, suc, _≤_, _<_}
+use Prim.Native.Nat.{ℕ, zero, suc, min, max, _≤_, _<_}
 use native.Mathlib.Decide.{ℕ-discrete}
 use native.Mathlib.Omega.{arith}
 use Rattle.rules.specs.Choose.{put}
-use Rattle.rules.specs.ChooseLaws.{put-same, put-other}
+use Rattle.rules.specs.ChooseLaws.{pick-same, pick-other, put-same, put-other}
+use Rattle.rules.specs.Record.{Lowest, Highest}
+use Rattle.shadow.specs.Tables.{lower}
 
 -- the same set
 abbrev pub Same : (ℕ → Type 0) → (ℕ → Type 0) → Type 0
@@ -104,6 +106,38 @@ module _ {S : ℕ → Type 0} where
     | yes e ↦ omega (arith, size-has s (omega arith) y)
     | no p ↦ omega (arith, size-has s (omega arith) x)
   ]
+
+-- 1 + the lowest member and 1 + the highest
+pub lowest-none : {S : ℕ → Type 0} → ((g : ℕ) → ¬ S g) → Lowest S 0
+lowest-none f = record { least = λ g x. absurd (f g x); holds = λ g (e : 0 ≡ suc g). absurd (omega arith) }
+
+pub highest-none : {S : ℕ → Type 0} → ((g : ℕ) → ¬ S g) → Highest S 0
+highest-none f = record { most = λ g x. absurd (f g x); holds = λ g (e : 0 ≡ suc g). absurd (omega arith) }
+
+module _ {S S′ : ℕ → Type 0} where
+  pub lowest-same : {n : ℕ} → Same S S′ → Lowest S n → Lowest S′ n
+  lowest-same f t = record { least = λ g x. t .least g (f g .1 x); holds = λ g e. f g .0 (t .holds g e) }
+
+  pub highest-same : {n : ℕ} → Same S S′ → Highest S n → Highest S′ n
+  highest-same f t = record { most = λ g x. t .most g (f g .1 x); holds = λ g e. f g .0 (t .holds g e) }
+
+  pub lowest-add : {n i : ℕ} → Adds i S S′ → Lowest S n → Lowest S′ (lower (suc i) n)
+  lowest-add {n} {i} a t = elim (ℕ-discrete n 0) [
+    | yes z ↦ rw (pick-same z (suc i) (min (suc i) n)) (record {
+      least = λ g x. elim (ℕ-discrete g i) [ yes e ↦ (omega arith, omega arith) | no m ↦ absurd (omega (arith, t .least g (a .others g m x) .0)) ];
+      holds = λ g e. subst S′ (omega arith) (a .member);
+    })
+    | no z ↦ rw (pick-other z (suc i) (min (suc i) n)) (record {
+      least = λ g x. elim (ℕ-discrete g i) [ yes e ↦ (omega arith, omega arith) | no m ↦ (omega arith, omega (arith, t .least g (a .others g m x) .1)) ];
+      holds = λ g e. elim (ℕ-discrete g i) [ yes q ↦ subst S′ (sym q) (a .member) | no m ↦ a .keeps g (t .holds g (omega arith)) ];
+    })
+  ]
+
+  pub highest-add : {n i : ℕ} → Adds i S S′ → Highest S n → Highest S′ (max (suc i) n)
+  highest-add {n} {i} a t = record {
+    most = λ g x. elim (ℕ-discrete g i) [ yes e ↦ omega arith | no m ↦ omega (arith, t .most g (a .others g m x)) ];
+    holds = λ g e. elim (ℕ-discrete g i) [ yes q ↦ subst S′ (sym q) (a .member) | no m ↦ a .keeps g (t .holds g (omega arith)) ];
+  }
 
 -- what one processor keeps changes, and the part f of it does not
 pub put-keeps : {A B : Type 0} (f : A → B) (own : ℕ → A) (p : ℕ) (o : A) → f o ≡ f (own p) → (q : ℕ) → f (put own p o q) ≡ f (own q)

@@ -10,12 +10,12 @@ use native.Mathlib.Omega.{arith}
 use lib.IntN.{ℤ}
 use Rattle.rules.specs.Choose.{below}
 use Rattle.rules.specs.ChooseLaws.{below-yes, below-no}
-use Rattle.rules.specs.Loop.{Class, shared, lastprivate, reduction, Loop, bound, Partition}
+use Rattle.rules.specs.Loop.{Class, shared, lastprivate, copied, reduction, Loop, bound, Partition}
 use Rattle.rules.specs.Log.{Kind, access, Log, only, each, written, Has, newest, older}
 use Rattle.rules.specs.LogLaws.{only-same, only-other, only-nil, has-all}
 use Rattle.rules.specs.Obstacles.{ObstacleAt, Obstructed}
 use Rattle.rules.specs.Proper.{Proper}
-use Rattle.rules.proofs.Progress.{owner-from, owner-to, bounds-grow, group-holds, bound-first, bound-grows, bound-last}
+use Rattle.rules.proofs.Progress.{owner-from, owner-to, bounds-grow, group-holds, group-grows, bound-first, bound-grows, bound-last}
 use Rattle.rules.specs.Owner.{owner, whose}
 use Rattle.rules.specs.Steps.{State}
 use Rattle.rules.proofs.TrialRun.{home}
@@ -23,6 +23,7 @@ use Rattle.rules.specs.Merge.{highest, updated, block, total, sum-of, gathered,
 use Rattle.rules.proofs.TouchLaws.{updated-has, has-updated, both-ways}
 use Rattle.rules.proofs.SumLaws.{Within, sum-same}
 use Rattle.rules.specs.Marks.{marks}
+use Rattle.rules.specs.Record.{Recorded}
 use Rattle.shadow.specs.Tables.{Row, Tables, table, shown, Blocked, chosen, own-value, last-own}
 use Rattle.shadow.proofs.Sets.{Stamp}
 use Rattle.shadow.proofs.Judged.{W}
@@ -62,13 +63,6 @@ module _ (l : Loop) (δ : Partition) (h : Proper l δ) where
     ))
   ]
 
-  -- groups ascend with iterations
-  group-grows : (i j : ℕ) → i < l .iterations → j < l .iterations → δ .group i < δ .group j → i < j
-  group-grows i j a b g = elim (decLt i j) [
-    | yes y ↦ y
-    | no y ↦ absurd (omega (arith, group-holds l δ h i a .1, group-holds l δ h j b .0, bounds-grow (δ .cut) (h .cut-grows) (suc (δ .group i)) (δ .group j) g))
-  ]
-
   group-below : (i : ℕ) → i < l .iterations → δ .group i < δ .groups
   group-below i b = elim (decLt (δ .group i) (δ .groups)) [
     | yes y ↦ y
@@ -92,7 +86,7 @@ module _ (l : Loop) (δ : Partition) (h : Proper l δ) where
   unfolding only
   latest-group i a inside-nil t j e b = refl
   latest-group i a (inside-cons {q = q} {i = m} {c = c} {v = v} {l = g} w z x) t j e b = only-other (δ .group) (access q m c v)
-      (λ (y : δ .group m ≡ j). only-nil (λ i. i) m (access q m c v) g (t m (ap (whose δ) y ∙ e) (group-grows i m a w (omega arith))) .0 refl) g
+      (λ (y : δ .group m ≡ j). only-nil (λ i. i) m (access q m c v) g (t m (ap (whose δ) y ∙ e) (group-grows l δ h i m a w (omega arith))) .0 refl) g
       ∙ latest-group i a x (λ k p r. only-nil (λ i. i) k (access q m c v) g (t k p r) .1) j e b
 
   pub ascending-groups : {g : Log} → Inside (l .iterations) (l .size) g → Ascending l δ g → InTurn (δ .group) (whose δ) g
@@ -124,6 +118,8 @@ module _ (l : Loop) (δ : Partition) (h : Proper l δ) where
 pub record Shows (l : Loop) (δ : Partition) (g : Log) (t : Tables) : Type 0 where
   -- the marks
   pub marked : (c : ℕ) → shown (t .rows c) ≡ marks (δ .group) c g
+  -- the record of each cell
+  pub recorded : (c : ℕ) → Recorded (λ i. only (δ .group) i g) c (t .rows c .lowest) (t .rows c .highest)
   -- the obstacles, by class
   pub obstacle : (k : Class) (c : ℕ) → Blocked k (t .rows c) ↔ ObstacleAt k (λ i. only (δ .group) i g) c
   -- `wrote` is 1 + the highest group of the processor that wrote, 0 if none did, and the private value what that group wrote last
@@ -149,6 +145,7 @@ tables-right l δ h g x a =
     let u = within-groups l δ h x in
     record {
       marked = λ c. marks-right (δ .group) (whose δ) (l .plus) (l .zero) (δ .groups) c g t u;
+      recorded = λ c. judged (δ .group) (whose δ) (l .plus) (l .zero) c (δ .groups) g t u .recorded;
       obstacle = λ k c. obstacle-right (δ .group) (whose δ) (l .plus) (l .zero) (δ .groups) c g t u k;
       wrote = λ c. judged (δ .group) (whose δ) (l .plus) (l .zero) c (δ .groups) g t u .wrote;
       private = λ c p i. valued (δ .group) (whose δ) (l .plus) (l .zero) c (δ .groups) g t u p i;
@@ -168,6 +165,7 @@ tables-right l δ h g x a =
 abbrev pub merged-off : Loop → Partition → Class → (ℕ → ℤ) → ℕ → Row → ℤ
 merged-off l δ shared m c r = m c
 merged-off l δ lastprivate m c r = Option·getD (chosen (r .own) (δ .processors)) (l .entry c)
+merged-off l δ copied m c r = Option·getD (chosen (r .own) (δ .processors)) (l .entry c)
 merged-off l δ reduction m c r = cond (r .updated)
     (l .plus (Option·getD (chosen (r .own) (δ .processors)) (l .entry c)) (sum-of l (δ .processors) (λ p. r .own p .sum)))
     (Option·getD (chosen (r .own) (δ .processors)) (l .entry c))
@@ -180,6 +178,7 @@ merged-right l δ h s t w c = go (l .class c)
     go : (k : Class) → merged-off l δ k (s .cells) c (t .rows c) ≡ merged-as l δ k s c
     go shared = refl
     go lastprivate = ap (λ (o : Option ℤ). Option·getD o (l .entry c)) (w .last c)
+    go copied = ap (λ (o : Option ℤ). Option·getD o (l .entry c)) (w .last c)
     go reduction = cc (
       w .last c,
       w .update c,
@@ -202,5 +201,6 @@ obstructed-right l δ g t x w = (λ (c, o). (c, low (l .class c) c o, w .obstacl
     low : (k : Class) (c : ℕ) → ObstacleAt k (λ i. only (δ .group) i g) c → c < l .size
     low shared c (i, j, n, y, o) = at i y
     low lastprivate c (i, j, n, y, o) = at i y
+    low copied c (i, j, n, y, o) = at i y
     low reduction c (inl (i, j, n, y, o)) = at i y
     low reduction c (inr (i, j, y, o)) = at i y

@@ -4,10 +4,10 @@ use mathlib.Core.Bool.{Bool, true, false, cond}
 use mathlib.Core.Logic.{_⊎_}
 use mathlib.Core.Path.{_≡_}
 use mathlib.Core.Option.{Option, none, some}
-use Prim.Native.Nat.{ℕ, zero, suc, _+_, _<_}
+use Prim.Native.Nat.{ℕ, zero, suc, min, max, _+_, _<_}
 use lib.IntN.{ℤ}
 use Rattle.rules.specs.Choose.{pick, put, below}
-use Rattle.rules.specs.Loop.{Class, shared, lastprivate, reduction, Loop, Partition}
+use Rattle.rules.specs.Loop.{Class, shared, lastprivate, copied, reduction, Loop, Partition}
 use Rattle.rules.specs.Owner.{whose}
 use Rattle.rules.specs.Log.{Kind, reads, writes, updates, Access, access, Log}
 
@@ -23,6 +23,9 @@ pub record Own : Type 0 where
 pub record Row : Type 0 where
   pub met : ℕ  -- how many groups wrote it or read it exposed
   pub writers : ℕ  -- how many groups wrote it
+  -- document 02, Point 5: "The record of a cell now holds the lowest-numbered iteration that writes it and the highest-numbered that so reads it"
+  pub lowest : ℕ  -- 1 + the lowest group that wrote it, 0 if none
+  pub highest : ℕ  -- 1 + the highest group that read it exposed, 0 if none
   pub crossed : Bool  -- a group read it first and then wrote it
   pub updated : Bool  -- it was updated
   pub own : ℕ → Own
@@ -36,6 +39,10 @@ pub record Tables : Type 0 where
 abbrev pub newcomer : ℕ → Own → ℕ → ℕ
 newcomer g o m = pick (o .wrote) (suc g) m (pick (o .exposed) (suc g) m (suc m))
 
+-- the lower of the stamp s, 1 + a group, and a word that is a stamp or 0 for none
+abbrev pub lower : ℕ → ℕ → ℕ
+lower s w = pick w 0 s (min s w)
+
 module _ (plus : ℤ → ℤ → ℤ) where
   -- an access by iteration i of group g, with the value v: what its processor keeps of the cell
   abbrev pub kept : Kind → ℕ → ℕ → ℤ → Own → Own
@@ -48,6 +55,8 @@ module _ (plus : ℤ → ℤ → ℤ) where
   noted reads p g i v r = record {
     met = newcomer g (r .own p) (r .met);
     writers = r .writers;
+    lowest = r .lowest;
+    highest = pick (r .own p .wrote) (suc g) (r .highest) (max (suc g) (r .highest));
     crossed = r .crossed;
     updated = r .updated;
     own = put (r .own) p (kept reads g i v (r .own p));
@@ -55,6 +64,8 @@ module _ (plus : ℤ → ℤ → ℤ) where
   noted writes p g i v r = record {
     met = newcomer g (r .own p) (r .met);
     writers = pick (r .own p .wrote) (suc g) (r .writers) (suc (r .writers));
+    lowest = pick (r .own p .wrote) (suc g) (r .lowest) (lower (suc g) (r .lowest));
+    highest = r .highest;
     crossed = pick (r .own p .exposed) (suc g) true (r .crossed);
     updated = r .updated;
     own = put (r .own) p (kept writes g i v (r .own p));
@@ -62,6 +73,8 @@ module _ (plus : ℤ → ℤ → ℤ) where
   noted updates p g i v r = record {
     met = r .met;
     writers = r .writers;
+    lowest = r .lowest;
+    highest = r .highest;
     crossed = r .crossed;
     updated = true;
     own = put (r .own) p (kept updates g i v (r .own p));
@@ -91,6 +104,8 @@ module _ (γ π : ℕ → ℕ) (plus : ℤ → ℤ → ℤ) (nought : ℤ) where
   blank = record {
     met = 0;
     writers = 0;
+    lowest = 0;
+    highest = 0;
     crossed = false;
     updated = false;
     own = λ p. record { value = nought; wrote = 0; exposed = 0; sum = nought; touched = 0 };
@@ -130,4 +145,5 @@ Stale-row r = (0 < r .writers) × (1 < r .met) × ((r .writers < r .met) ⊎ (r 
 abbrev pub Blocked : Class → Row → Type 0
 Blocked shared r = (0 < r .writers) × (1 < r .met)
 Blocked lastprivate r = Stale-row r
+Blocked copied r = (0 < r .lowest) × (r .lowest < r .highest)
 Blocked reduction r = Stale-row r ⊎ ((0 < r .met) × (r .updated ≡ true))

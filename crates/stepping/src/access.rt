@@ -18,7 +18,7 @@ fn seen(
     own: usize,
     group: Group,
 ) -> i32
-    requires { ⌜ (cell < length (now cells)) × (row + 4 ≤ own) × (own + 5 ≤ length (now w)) × (group .0 < 4294967295) ⌝ }
+    requires { ⌜ (cell < length (now cells)) × (row + 6 ≤ own) × (own + 5 ≤ length (now w)) × (group .0 < 4294967295) ⌝ }
     ensures { λ r. ⌜ r ≡ seen-by manner (now (cells .entry)) (now (w .entry)) row own (group .0) cell ⌝ }
 {
     match manner {

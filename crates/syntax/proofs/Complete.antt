@@ -12,7 +12,7 @@ use lib.ListN.{length, length-append}
 use Rattle.int32.specs.declared.Relation.{Relation}
 use Rattle.int32.specs.declared.Relation.the-variants.{Equal, Unequal, Less, AtMost, Greater, AtLeast}
 use Rattle.syntax.specs.declared.ClauseKind.{ClauseKind}
-use Rattle.syntax.specs.declared.ClauseKind.the-variants.{Shared, Lastprivate, Reduction}
+use Rattle.syntax.specs.declared.ClauseKind.the-variants.{Shared, Lastprivate, Firstprivate, Reduction}
 use Rattle.syntax.specs.Bytes.{bytes, Token, digits, sign, word-of}
 use Rattle.syntax.specs.Grammar.{Lead, bare, plus, minus, Expr, expr, Ref, single, element, Declared, one, array, Item, item, Clause, clause, threads, static, assign, when, otherwise, end-if, Line, declare, give, direct, loop, inside, end-do, close, showLead, showRel, showMore, showList, showName, show, showRef, showDeclared, showSigned, showItem, showKind, showClause, showClauses, showLine}
 use Rattle.syntax.specs.Reader.{done, Reader, kind, is, sees, says, readName, isDigits, readMore, readDeclared, readDeclare, readSigned, readItem, readGive, readKind, readNames, readClause, readClauses, readDirective, readLoop, readAssign, readWhen, readEnd, readStart, readLine, first, rest, syntaxOf, parse}
@@ -126,6 +126,7 @@ module _ {S : Type 0} (peek : S → Option Token) (skip : S → S) where
   kind-other : (k : ClauseKind) {s u : S} → Sp s (showKind k) u → (says peek skip "num_threads" s ≡ false) × (says peek skip "schedule" s ≡ false)
   kind-other Shared (token e h) = (ap (is (word-of (bytes "num_threads"))) e, ap (is (word-of (bytes "schedule"))) e)
   kind-other Lastprivate (token e h) = (ap (is (word-of (bytes "num_threads"))) e, ap (is (word-of (bytes "schedule"))) e)
+  kind-other Firstprivate (token e h) = (ap (is (word-of (bytes "num_threads"))) e, ap (is (word-of (bytes "schedule"))) e)
   kind-other Reduction (token e h) = (ap (is (word-of (bytes "num_threads"))) e, ap (is (word-of (bytes "schedule"))) e)
 
   kind-it : (k : ClauseKind) (s u : S) → Sp s (showKind k) u → readKind peek skip s ≡ done k u
@@ -133,11 +134,15 @@ module _ {S : Type 0} (peek : S → Option Token) (skip : S → S) where
   kind-it Lastprivate s u (token e h) =
       no-choose _ _ (ap (is (word-of (bytes "shared"))) e)
       (yes-choose _ _ (ap (is (word-of (bytes "lastprivate"))) e) (binds _ (expect-it peek skip "(" h) refl))
+  kind-it Firstprivate s u (token e h) =
+      no-choose _ _ (ap (is (word-of (bytes "shared"))) e) (no-choose _ _ (ap (is (word-of (bytes "lastprivate"))) e)
+      (yes-choose _ _ (ap (is (word-of (bytes "firstprivate"))) e) (binds _ (expect-it peek skip "(" h) refl)))
   kind-it Reduction s u (token e (token e2 (token e3 h))) =
       no-choose _ _ (ap (is (word-of (bytes "shared"))) e) (no-choose _ _ (ap (is (word-of (bytes "lastprivate"))) e)
+      (no-choose _ _ (ap (is (word-of (bytes "firstprivate"))) e)
       (binds _ (want-it peek skip "reduction" (token e here))
       (binds _ (expect-it peek skip "(" (token e2 here))
-      (binds _ (expect-it peek skip "+" (token e3 here)) (binds _ (expect-it peek skip ":" h) refl)))))
+      (binds _ (expect-it peek skip "+" (token e3 here)) (binds _ (expect-it peek skip ":" h) refl))))))
 
   clause-it : (f : ℕ) (c : Clause) (s u : S) → length (showClause c) ≤ f → Sp s (showClause c) u → readClause peek skip f s ≡ done c u
   clause-it f (clause k x xs) s u b h =
@@ -163,6 +168,7 @@ module _ {S : Type 0} (peek : S → Option Token) (skip : S → S) where
   clause-begins : (c : Clause) (ys : List Token) {s u : S} → Sp s (showClause c ++ ys) u → over (peek s) ≡ false
   clause-begins (clause Shared x xs) ys (token e h) = ap over e
   clause-begins (clause Lastprivate x xs) ys (token e h) = ap over e
+  clause-begins (clause Firstprivate x xs) ys (token e h) = ap over e
   clause-begins (clause Reduction x xs) ys (token e h) = ap over e
   clause-begins (threads p) ys (token e h) = ap over e
   clause-begins static ys (token e h) = ap over e
@@ -170,6 +176,7 @@ module _ {S : Type 0} (peek : S → Option Token) (skip : S → S) where
   clause-long : (c : Clause) → 1 ≤ length (showClause c)
   clause-long (clause Shared x xs) = omega arith
   clause-long (clause Lastprivate x xs) = omega arith
+  clause-long (clause Firstprivate x xs) = omega arith
   clause-long (clause Reduction x xs) = omega arith
   clause-long (threads p) = omega arith
   clause-long static = omega arith

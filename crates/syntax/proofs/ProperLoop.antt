@@ -11,7 +11,7 @@ use borrow.Author.Tests.{leb-true}
 use Rattle.int32.specs.declared.Relation.{Relation}
 use Rattle.int32.specs.Integers.{sum, quotient, related}
 use Rattle.int32.proofs.Laws.{sum-assoc, sum-comm, sum-zero-r, sum-fits}
-use Rattle.rules.specs.Loop.{Act, read, write, update, fault, done, Class, shared, lastprivate, reduction}
+use Rattle.rules.specs.Loop.{Act, read, write, update, fault, done, Class, shared, lastprivate, copied, reduction}
 use Rattle.rules.specs.Proper.{Sums, Sized, Proper}
 use Rattle.rules.proofs.BlocksLaws.{tested-proper}
 use Rattle.syntax.specs.Bytes.{choose}
@@ -35,6 +35,7 @@ update-reduces t r e u = go (find (refName r) t .class) (both-true _ (same-ref r
     go : (c : Class) → is-reduction c ≡ true → c ≡ reduction
     go shared h = let z : _≡_ {A = ℕ} 0 1 = cc in absurd (omega arith)
     go lastprivate h = let z : _≡_ {A = ℕ} 0 1 = cc in absurd (omega arith)
+    go copied h = let z : _≡_ {A = ℕ} 0 1 = cc in absurd (omega arith)
     go reduction h = refl
 
 -- ---- the cell of a reference

@@ -104,14 +104,20 @@ module _ {S : Type 0} (peek : S → Option Token) (skip : S → S) where
           bound (expects peek skip "(" (skip s)) _ (d .1) λ _ m1 h1 k1.
           same-done (λ e u. Spells peek skip s (showKind e) u) k1
           (says-sound peek skip "lastprivate" s (d .0) ▸ expects-sound peek skip "(" (skip s) h1)
-      | inr d ↦
-          bound (wants peek skip "reduction" s) _ (d .1) λ _ m1 h1 k1.
-          bound (expects peek skip "(" m1) _ k1 λ _ m2 h2 k2.
-          bound (expects peek skip "+" m2) _ k2 λ _ m3 h3 k3.
-          bound (expects peek skip ":" m3) _ k3 λ _ m4 h4 k4.
-          same-done (λ e u. Spells peek skip s (showKind e) u) k4
-          (wants-sound peek skip "reduction" s h1
-          ▸ (expects-sound peek skip "(" m1 h2 ▸ (expects-sound peek skip "+" m2 h3 ▸ expects-sound peek skip ":" m3 h4)))
+      | inr d ↦ elim (chosen (says peek skip "firstprivate" s) _ _ (d .1)) [
+        | inl e ↦
+            bound (expects peek skip "(" (skip s)) _ (e .1) λ _ m1 h1 k1.
+            same-done (λ e u. Spells peek skip s (showKind e) u) k1
+            (says-sound peek skip "firstprivate" s (e .0) ▸ expects-sound peek skip "(" (skip s) h1)
+        | inr e ↦
+            bound (wants peek skip "reduction" s) _ (e .1) λ _ m1 h1 k1.
+            bound (expects peek skip "(" m1) _ k1 λ _ m2 h2 k2.
+            bound (expects peek skip "+" m2) _ k2 λ _ m3 h3 k3.
+            bound (expects peek skip ":" m3) _ k3 λ _ m4 h4 k4.
+            same-done (λ e u. Spells peek skip s (showKind e) u) k4
+            (wants-sound peek skip "reduction" s h1
+            ▸ (expects-sound peek skip "(" m1 h2 ▸ (expects-sound peek skip "+" m2 h3 ▸ expects-sound peek skip ":" m3 h4)))
+      ]
     ]
   ]
 

@@ -7,8 +7,8 @@ use Prim.Native.Nat.{ℕ, suc, _+_}
 use lib.Dec.{ltb, leb, eqb}
 use lib.ListN.{length}
 use Rattle.syntax.specs.Bytes.{all, any, same, between}
-use Rattle.syntax.specs.Grammar.{number, Expr, expr, Terms, no-terms, terms, Term, term, Factors, no-factors, factors, Factor, literal, cell, rdiv, brackets, Ref, single, element, Declared, one, array, Item, item, Clause, clause, threads, static, assign, when, otherwise, end-if, Line, declare, give, direct, loop, inside, end-do, close}
-use Rattle.syntax.specs.Known.{Entry, Open, State, declaredName, declaredSize, total, signed, copies, iterations, cells, known, find, threads-in, statics-in}
+use Rattle.syntax.specs.Grammar.{number, Expr, expr, Terms, no-terms, terms, Term, term, Factors, no-factors, factors, Factor, literal, cell, rdiv, brackets, Ref, single, element, Declared, one, array, Item, item, assign, when, otherwise, end-if, Line, declare, give, direct, loop, inside, end-do, close}
+use Rattle.syntax.specs.Known.{Entry, Open, State, declaredName, declaredSize, total, signed, copies, iterations, cells, known, find, threads-in, statics-in, names-in, in-lastprivate, in-firstprivate, in-another}
 
 -- ---- what a line's names and limits are judged by
 
@@ -89,18 +89,19 @@ abbrev pub different : List (List ℕ) → Bool
 different [] = true
 different (x ∷ xs) = not (any (same x) xs) && different xs
 
-abbrev pub clauseNames : List Clause → List (List ℕ)
-clauseNames [] = []
-clauseNames (clause k x xs ∷ cs) = x ∷ (xs ++ clauseNames cs)
-clauseNames (threads p ∷ cs) = clauseNames cs
-clauseNames (static ∷ cs) = clauseNames cs
+-- names of which none stands twice, each as K says
+abbrev pub eachOnce : (List ℕ → Bool) → List (List ℕ) → Bool
+eachOnce K xs = different xs && all K xs
 
--- not "declared or given data twice, in two clauses or twice in one, ... v declared or assigned, data of the wrong count"
+-- not "declared or given data twice, in two clauses or twice in one, ... v declared or assigned, data of the wrong count". Document 02, Point 5: "A
+-- name in firstprivate alone is 3 at the directive; two clauses are no fault for this pair"
 abbrev pub singly : State → Line → Bool
 singly s (declare d ds) = let xs = map declaredName (d ∷ ds) in different xs && not (any (λ x. known x (s .table)) xs)
 singly s (give x i is) =
     known x (s .table) && (not (isGiven (find x (s .table) .given)) && eqb (total copies (i ∷ is)) (find x (s .table) .size))
-singly s (direct cs) = let xs = clauseNames cs in different xs && all (λ x. known x (s .table)) xs
+singly s (direct cs) =
+    eachOnce (λ x. known x (s .table)) (names-in in-another cs)
+    && eachOnce (λ x. any (same x) (names-in in-lastprivate cs)) (names-in in-firstprivate cs)
 singly s (loop v l m k n) = not (known v (s .table))
 singly s (inside (assign r e)) = not (same (refName r) (s .variable))
 singly s (inside (when a r b)) = true

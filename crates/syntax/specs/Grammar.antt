@@ -8,7 +8,7 @@ use Prim.Native.String.{String}
 use Rattle.int32.specs.declared.Relation.{Relation}
 use Rattle.int32.specs.declared.Relation.the-variants.{Equal, Unequal, Less, AtMost, Greater, AtLeast}
 use Rattle.syntax.specs.declared.ClauseKind.{ClauseKind}
-use Rattle.syntax.specs.declared.ClauseKind.the-variants.{Shared, Lastprivate, Reduction}
+use Rattle.syntax.specs.declared.ClauseKind.the-variants.{Shared, Lastprivate, Firstprivate, Reduction}
 use Rattle.syntax.specs.Bytes.{bytes, Token, name, digits, sign, word-of}
 
 -- ---- literals
@@ -64,7 +64,7 @@ pub data Item : Type 0 where
   item : Option (List ℕ) → Lead → List ℕ → Item
 
 -- "`shared(list)`, `lastprivate(list)`, `reduction(+:list)`": "a list is one or more names parted by commas"; and "`num_threads(p)`".
--- Document 02, Point 3: "the clause `schedule(static)`"
+-- Document 02, Point 3: "the clause `schedule(static)`"; Point 5: "A name may stand in `firstprivate` and `lastprivate` together"
 pub data Clause : Type 0 where
   clause : ClauseKind → List ℕ → List (List ℕ) → Clause
   threads : List ℕ → Clause
@@ -172,6 +172,7 @@ showItem (item r l d) = showRepeat r ⌢ showSigned l d
 abbrev pub showKind : ClauseKind → List Token
 showKind Shared = wd "shared" ⌢ sg "("
 showKind Lastprivate = wd "lastprivate" ⌢ sg "("
+showKind Firstprivate = wd "firstprivate" ⌢ sg "("
 showKind Reduction = wd "reduction" ⌢ sg "(" ⌢ sg "+" ⌢ sg ":"
 
 abbrev pub showClause : Clause → List Token

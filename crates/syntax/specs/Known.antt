@@ -1,6 +1,6 @@
 -- Document 01, The loop text: what the lines of a text make known, one after another: its names with their cells, classes and data, P, v, m
 -- and the iterations, and the statements.
-use mathlib.Core.Bool.{Bool, true, false, cond}
+use mathlib.Core.Bool.{Bool, true, false, cond, not}
 use mathlib.Core.List.{List, [], _∷_, _++_, map}
 use mathlib.Core.Option.{Option, none, some}
 use Prim.Native.Nat.{ℕ, zero, suc, _+_}
@@ -9,9 +9,9 @@ use lib.ListN.{replicate}
 use Rattle.int32.specs.declared.Relation.{Relation}
 use Rattle.rules.specs.declared.Grouping.{Grouping}
 use Rattle.rules.specs.declared.Grouping.the-variants.{Iterations, Blocks}
-use Rattle.rules.specs.Loop.{Class, shared, lastprivate, reduction}
+use Rattle.rules.specs.Loop.{Class, shared, lastprivate, copied, reduction}
 use Rattle.syntax.specs.declared.ClauseKind.{ClauseKind}
-use Rattle.syntax.specs.declared.ClauseKind.the-variants.{Shared, Lastprivate, Reduction}
+use Rattle.syntax.specs.declared.ClauseKind.the-variants.{Shared, Lastprivate, Firstprivate, Reduction}
 use Rattle.syntax.specs.Bytes.{any, same}
 use Rattle.syntax.specs.Grammar.{number, Lead, bare, plus, minus, Expr, Ref, Declared, one, array, Item, item, Clause, clause, threads, static, assign, when, otherwise, end-if, Line, declare, give, direct, loop, inside, end-do, close}
 
@@ -186,18 +186,44 @@ abbrev pub grouping-by : ℕ → Grouping
 grouping-by zero = Iterations
 grouping-by (suc n) = Blocks
 
--- the class that a clause gives its names
-abbrev pub class-by : ClauseKind → Class
-class-by Shared = shared
-class-by Lastprivate = lastprivate
-class-by Reduction = reduction
+-- the names in the clauses of some kinds, as often as they stand there
+abbrev pub names-in : (ClauseKind → Bool) → List Clause → List (List ℕ)
+names-in f [] = []
+names-in f (clause k x xs ∷ cs) = cond (f k) (x ∷ (xs ++ names-in f cs)) (names-in f cs)
+names-in f (threads p ∷ cs) = names-in f cs
+names-in f (static ∷ cs) = names-in f cs
 
--- "A name in no clause is shared"
+abbrev pub in-lastprivate : ClauseKind → Bool
+in-lastprivate Shared = false
+in-lastprivate Lastprivate = true
+in-lastprivate Firstprivate = false
+in-lastprivate Reduction = false
+
+abbrev pub in-firstprivate : ClauseKind → Bool
+in-firstprivate Shared = false
+in-firstprivate Lastprivate = false
+in-firstprivate Firstprivate = true
+in-firstprivate Reduction = false
+
+abbrev pub in-reduction : ClauseKind → Bool
+in-reduction Shared = false
+in-reduction Lastprivate = false
+in-reduction Firstprivate = false
+in-reduction Reduction = true
+
+abbrev pub in-another : ClauseKind → Bool
+in-another k = not (in-firstprivate k)
+
+-- "A name in no clause is shared". Document 02, Point 5: "A name may stand in `firstprivate` and `lastprivate` together": then it is copied
 unfoldable pub class-in : List Clause → List ℕ → Class
-class-in [] x = shared
-class-in (clause k y ys ∷ cs) x = cond (any (same x) (y ∷ ys)) (class-by k) (class-in cs x)
-class-in (threads p ∷ cs) x = class-in cs x
-class-in (static ∷ cs) x = class-in cs x
+class-in cs x =
+    cond
+    (any (same x) (names-in in-firstprivate cs))
+    copied
+    (cond
+    (any (same x) (names-in in-lastprivate cs))
+    lastprivate
+    (cond (any (same x) (names-in in-reduction cs)) reduction shared))
 
 abbrev pub classify : List Clause → Entry → Entry
 classify cs e = with-class (class-in cs (e .name)) e

@@ -6,7 +6,7 @@ use Prim.Native.Nat.{ℕ, _+_, _-_}
 use lib.Dec.{ltb, leb, eqb}
 use lib.IntN.{ℤ, pos, negsuc, _+ℤ_}
 use Rattle.int32.specs.Integers.{sum, difference, product, negation, quotient, related}
-use Rattle.rules.specs.Loop.{Act, read, write, update, fault, done, Class, shared, lastprivate, reduction, Loop, Partition}
+use Rattle.rules.specs.Loop.{Act, read, write, update, fault, done, Class, shared, lastprivate, copied, reduction, Loop, Partition}
 use Rattle.rules.specs.Blocks.{tested}
 use Rattle.rules.specs.Cells.{cellOf}
 use Rattle.syntax.specs.Bytes.{choose, same, Token, name, other-word, digits, sign, equal}
@@ -63,6 +63,7 @@ same-ref r (some q) = alike (showRef r) (showRef q)
 abbrev pub is-reduction : Class → Bool
 is-reduction shared = false
 is-reduction lastprivate = false
+is-reduction copied = false
 is-reduction reduction = true
 
 -- "An update is an assignment to a cell of a reduction name whose right side begins with the same reference"

@@ -11,7 +11,7 @@ use lib.ListN.{length, take, drop}
 use Rattle.int32.specs.declared.Relation.{Relation}
 use Rattle.int32.specs.declared.Relation.the-variants.{Equal, Unequal, Less, AtMost, Greater, AtLeast}
 use Rattle.syntax.specs.declared.ClauseKind.{ClauseKind}
-use Rattle.syntax.specs.declared.ClauseKind.the-variants.{Shared, Lastprivate, Reduction}
+use Rattle.syntax.specs.declared.ClauseKind.the-variants.{Shared, Lastprivate, Firstprivate, Reduction}
 use Rattle.syntax.specs.Bytes.{choose, same, bytes, Token, kindOf, bytesOf, sign, word-of, token-of, token-size, trimmed}
 use Rattle.syntax.specs.Grammar.{Lead, bare, plus, minus, Expr, expr, Terms, no-terms, terms, Term, term, Factors, no-factors, factors, Factor, literal, cell, rdiv, brackets, Ref, single, element, Declared, one, array, Item, item, Clause, clause, threads, static, assign, when, otherwise, end-if, Line, declare, give, direct, loop, inside, end-do, close}
 
@@ -252,12 +252,15 @@ module _ {S : Type 0} (peek : S → Option Token) (skip : S → S) where
         yield Shared) (λ _.
       choose (says "lastprivate" s) (λ _. at (skip s) do
         expects "("
-        yield Lastprivate) (λ _. at s do
+        yield Lastprivate) (λ _.
+      choose (says "firstprivate" s) (λ _. at (skip s) do
+        expects "("
+        yield Firstprivate) (λ _. at s do
           wants "reduction"
           expects "("
           expects "+"
           expects ":"
-          yield Reduction))
+          yield Reduction)))
 
   -- the names, after them
   abbrev pub readNames : ℕ → ClauseKind → Reader S Clause

@@ -19,14 +19,14 @@ use Rattle.tables.specs.Layout.{row-at, own-at, flags-of, OwnHeld, RowHe
 -- ---- places
 
 -- a row ends where the next begins, or before
-pub rows-apart : (p c d : ℕ) → c < d → row-at p c + (4 + 5 * p) ≤ row-at p d
-rows-apart p c d h = omega (arith, suc-mul c (4 + 5 * p), mul-le-mul-right (4 + 5 * p) h)
+pub rows-apart : (p c d : ℕ) → c < d → row-at p c + (6 + 5 * p) ≤ row-at p d
+rows-apart p c d h = omega (arith, suc-mul c (6 + 5 * p), mul-le-mul-right (6 + 5 * p) h)
 
 -- and begins at a small number
 pub row-small : (p c : ℕ) → c ≤ 4096 → p ≤ 8 → row-at p c < 4294967296
 row-small p c b h =
-    let y : 4 + 5 * p ≤ 44 = omega arith in
-    let m : c * (4 + 5 * p) ≤ 4096 * 44 = mul-le-mul b y in
+    let y : 6 + 5 * p ≤ 46 = omega arith in
+    let m : c * (6 + 5 * p) ≤ 4096 * 46 = mul-le-mul b y in
     omega arith
 
 -- k is not in the part from a up to b
@@ -37,6 +37,11 @@ Outside k a b = (k < a) ⊎ (b ≤ k)
 pub outside-other : {k a b : ℕ} (m : ℕ) → Outside k a b → a ≤ m → m < b → k ≡ m → ⊥
 outside-other m (inl y) f g e = omega arith
 outside-other m (inr y) f g e = omega arith
+
+-- nor in a part of it
+pub outside-part : {k a b : ℕ} (c d : ℕ) → Outside k a b → a ≤ c → d ≤ b → Outside k c d
+outside-part c d (inl y) f g = inl (omega arith)
+outside-part c d (inr y) f g = inr (omega arith)
 
 -- ---- words that stay
 
@@ -54,25 +59,27 @@ module _ (W W′ : List ℕ) where
     touched = h (own + 4) (omega arith) (omega arith) ∙ x .touched;
   }
 
-  pub row-kept : (p : ℕ) (k : Class) (e : ℤ) (row : ℕ) (r : Row) → Kept row (row + (4 + 5 * p)) → RowHeld p k e W row r → RowHeld p k e W′ row r
+  pub row-kept : (p : ℕ) (k : Class) (e : ℤ) (row : ℕ) (r : Row) → Kept row (row + (6 + 5 * p)) → RowHeld p k e W row r → RowHeld p k e W′ row r
   row-kept p k e row r h x = record {
     entry = ap value (h row (omega arith) (omega arith)) ∙ x .entry;
     met = h (row + 1) (omega arith) (omega arith) ∙ x .met;
     writers = h (row + 2) (omega arith) (omega arith) ∙ x .writers;
     flags = h (row + 3) (omega arith) (omega arith) ∙ x .flags;
+    lowest = h (row + 4) (omega arith) (omega arith) ∙ x .lowest;
+    highest = h (row + 5) (omega arith) (omega arith) ∙ x .highest;
     own = λ q b. own-kept (own-at row q) (r .own q) (λ j a c. h j (omega arith) (omega arith)) (x .own q b);
   }
 
   -- ---- one row that changes, with the own part of processor q
 
-  module _ (p : ℕ) (k : Class) (e : ℤ) (row : ℕ) (r : Row) (x : RowHeld p k e W row r) (q : ℕ) (m w : ℕ) (cr up : Bool) (o : Own) where
+  module _ (p : ℕ) (k : Class) (e : ℤ) (row : ℕ) (r : Row) (x : RowHeld p k e W row r) (q : ℕ) (m w lo hi : ℕ) (cr up : Bool) (o : Own) where
     abbrev changed-row : Row
-    changed-row = record { met = m; writers = w; crossed = cr; updated = up; own = put (r .own) q o }
+    changed-row = record { met = m; writers = w; lowest = lo; highest = hi; crossed = cr; updated = up; own = put (r .own) q o }
 
     pub row-changed : getD W′ row 0 ≡ getD W row 0 → getD W′ (row + 1) 0 ≡ m → getD W′ (row + 2) 0 ≡ w → getD W′ (row + 3) 0 ≡ flags-of k cr up
-        → OwnHeld W′ (own-at row q) o
-        → ((j : ℕ) → row + 4 ≤ j → Outside j (own-at row q) (own-at row q + 5) → getD W′ j 0 ≡ getD W j 0) → RowHeld p k e W′ row changed-row
-    row-changed he hm hw hf ho h = record { entry = ap value he ∙ x .entry; met = hm; writers = hw; flags = hf; own = own }
+        → getD W′ (row + 4) 0 ≡ lo → getD W′ (row + 5) 0 ≡ hi → OwnHeld W′ (own-at row q) o
+        → ((j : ℕ) → row + 6 ≤ j → Outside j (own-at row q) (own-at row q + 5) → getD W′ j 0 ≡ getD W j 0) → RowHeld p k e W′ row changed-row
+    row-changed he hm hw hf hl hh ho h = record { entry = ap value he ∙ x .entry; met = hm; writers = hw; flags = hf; lowest = hl; highest = hh; own = own }
       where
         own : (s : ℕ) → s < p → OwnHeld W′ (own-at row s) (put (r .own) q o s)
         own s b = elim (ℕ-discrete q s) [
@@ -88,7 +95,7 @@ module _ (W W′ : List ℕ) where
 
   module _ (n p : ℕ) (class : ℕ → Class) (entry : ℕ → ℤ) (t : Tables) (h : Holds n p class entry W t) (c : ℕ) (b : c < n) (l : length W′ ≡ length W)
       (r : Row) (x : RowHeld p (class c) (entry c) W′ (row-at p c) r)
-      (o : (k : ℕ) → 2 ≤ k → Outside k (row-at p c) (row-at p c + (4 + 5 * p)) → getD W′ k 0 ≡ getD W k 0) where
+      (o : (k : ℕ) → 2 ≤ k → Outside k (row-at p c) (row-at p c + (6 + 5 * p)) → getD W′ k 0 ≡ getD W k 0) where
     changed : (d : ℕ) → d < n → RowHeld p (class d) (entry d) W′ (row-at p d) (put (t .rows) c r d)
     changed d a = elim (ℕ-discrete c d) [
       | yes y ↦ subst (λ (u : Row). RowHeld p (class d) (entry d) W′ (row-at p d) u) (sym (put-same y (t .rows) r))
@@ -97,7 +104,7 @@ module _ (W W′ : List ℕ) where
           (row-kept p (class d) (entry d) (row-at p d) (t .rows d) (λ k f g. o k (omega arith) (away d y k f g)) (h .rows d a))
     ]
       where
-        away : (d : ℕ) → (c ≡ d → ⊥) → (k : ℕ) → row-at p d ≤ k → k < row-at p d + (4 + 5 * p) → Outside k (row-at p c) (row-at p c + (4 + 5 * p))
+        away : (d : ℕ) → (c ≡ d → ⊥) → (k : ℕ) → row-at p d ≤ k → k < row-at p d + (6 + 5 * p) → Outside k (row-at p c) (row-at p c + (6 + 5 * p))
         away d m k f g = elim (decLt d c) [ yes y ↦ inl (omega (arith, rows-apart p d c y)) | no y ↦ inr (omega (arith, rows-apart p c d (omega arith))) ]
 
     pub holds-changed : (ps cs : ℕ) → getD W′ 0 0 ≡ ps → getD W′ 1 0 ≡ cs

@@ -17,7 +17,7 @@ use Rattle.rules.specs.Numbers.{class-number}
 use Rattle.shadow.specs.Tables.{Row, blank, tables}
 use Rattle.tables.specs.Layout.{row-at, own-at, flags-of, OwnHeld, RowHeld, Holds}
 use Rattle.tables.specs.Entered.{entered}
-use Rattle.tables.proofs.Words.{entered-length, entered-value, entered-met, entered-writers, entered-flags, entered-other}
+use Rattle.tables.proofs.Words.{entered-length, entered-value, entered-met, entered-writers, entered-flags, entered-lowest, entered-highest, entered-other}
 use Rattle.tables.proofs.Held.{rows-apart, row-kept}
 
 -- a row of no access
@@ -59,10 +59,10 @@ module _ (n p : ℕ) (class : ℕ → Class) (entry : ℕ → ℤ) where
     abbrev W′ : List ℕ
     W′ = entered W row (entry k) (class-number (class k))
 
-    fits : row + 4 ≤ length W
+    fits : row + 6 ≤ length W
     fits = omega (arith, h .size, rows-apart p k n b)
 
-    other : (j : ℕ) → (j < row ⊎ row + 4 ≤ j) → getD W′ j 0 ≡ getD W j 0
+    other : (j : ℕ) → (j < row ⊎ row + 6 ≤ j) → getD W′ j 0 ≡ getD W j 0
     other = entered-other W row (entry k) (class-number (class k)) fits
 
     new-row : RowHeld p (class k) (entry k) W′ row none-noted
@@ -73,6 +73,8 @@ module _ (n p : ℕ) (class : ℕ → Class) (entry : ℕ → ℤ) where
       flags =
           entered-flags W row (entry k) (class-number (class k)) fits
           ∙ (let e : 4 * class-number (class k) ≡ flags-of (class k) false false = omega arith in e);
+      lowest = entered-lowest W row (entry k) (class-number (class k)) fits;
+      highest = entered-highest W row (entry k) (class-number (class k)) fits;
       own = λ q l. zero-own W′ (own-at row q) (λ j y. other j (inr (omega arith)) ∙ h .rest j (inr (omega arith)));
     }
 

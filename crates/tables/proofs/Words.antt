@@ -11,7 +11,7 @@ use Rattle.int32.specs.Integers.{word}
 use Rattle.tables.specs.Entered.{entered}
 
 -- with at most 8 processors
-pub stride-most : (p : ℕ) → p ≤ 8 → 4 + 5 * p ≤ 44
+pub stride-most : (p : ℕ) → p ≤ 8 → 6 + 5 * p ≤ 46
 stride-most p h = omega arith
 
 -- a list that was filled to its end
@@ -29,7 +29,7 @@ unset W i k v n = getD-set-other W i k v 0 n
 
 -- ---- a row's start
 
-module _ (W : List ℕ) (row : ℕ) (v : ℤ) (n : ℕ) (h : row + 4 ≤ length W) where
+module _ (W : List ℕ) (row : ℕ) (v : ℤ) (n : ℕ) (h : row + 6 ≤ length W) where
   abbrev enter1 : List ℕ
   enter1 = set W row (word v)
 
@@ -39,6 +39,17 @@ module _ (W : List ℕ) (row : ℕ) (v : ℤ) (n : ℕ) (h : row + 4 ≤ length 
   abbrev enter3 : List ℕ
   enter3 = set enter2 (row + 2) 0
 
+  abbrev enter4 : List ℕ
+  enter4 = set enter3 (row + 3) (4 * n)
+
+  abbrev enter5 : List ℕ
+  enter5 = set enter4 (row + 4) 0
+
+  -- the words before the record's
+  before : (k : ℕ) → k < row + 4 → getD (entered W row v n) k 0 ≡ getD enter4 k 0
+  unfolding entered
+  before k b = unset enter5 (row + 5) k _ (omega arith) ∙ unset enter4 (row + 4) k _ (omega arith)
+
   pub entered-length : length (entered W row v n) ≡ length W
   unfolding entered
   entered-length = simp length-set
@@ -46,7 +57,8 @@ module _ (W : List ℕ) (row : ℕ) (v : ℤ) (n : ℕ) (h : row + 4 ≤ length 
   pub entered-value : getD (entered W row v n) row 0 ≡ word v
   unfolding entered
   entered-value =
-      unset enter3 (row + 3) row _ (omega arith)
+      before row (omega arith)
+      ∙ unset enter3 (row + 3) row _ (omega arith)
       ∙ unset enter2 (row + 2) row _ (omega arith)
       ∙ unset enter1 (row + 1) row _ (omega arith)
       ∙ hit W row _ (omega arith)
@@ -54,23 +66,32 @@ module _ (W : List ℕ) (row : ℕ) (v : ℤ) (n : ℕ) (h : row + 4 ≤ length 
   pub entered-met : getD (entered W row v n) (row + 1) 0 ≡ 0
   unfolding entered
   entered-met =
-      unset enter3 (row + 3) (row + 1) _ (omega arith)
+      before (row + 1) (omega arith)
+      ∙ unset enter3 (row + 3) (row + 1) _ (omega arith)
       ∙ unset enter2 (row + 2) (row + 1) _ (omega arith)
       ∙ hit enter1 (row + 1) _ (simp length-set (omega arith))
 
   pub entered-writers : getD (entered W row v n) (row + 2) 0 ≡ 0
   unfolding entered
-  entered-writers = unset enter3 (row + 3) (row + 2) _ (omega arith) ∙ hit enter2 (row + 2) _ (simp length-set (omega arith))
+  entered-writers = before (row + 2) (omega arith) ∙ unset enter3 (row + 3) (row + 2) _ (omega arith) ∙ hit enter2 (row + 2) _ (simp length-set (omega arith))
 
   pub entered-flags : getD (entered W row v n) (row + 3) 0 ≡ 4 * n
   unfolding entered
-  entered-flags = hit enter3 (row + 3) _ (simp length-set (omega arith))
+  entered-flags = before (row + 3) (omega arith) ∙ hit enter3 (row + 3) _ (simp length-set (omega arith))
 
-  pub entered-other : (k : ℕ) → (k < row ⊎ row + 4 ≤ k) → getD (entered W row v n) k 0 ≡ getD W k 0
+  pub entered-lowest : getD (entered W row v n) (row + 4) 0 ≡ 0
+  unfolding entered
+  entered-lowest = unset enter5 (row + 5) (row + 4) _ (omega arith) ∙ hit enter4 (row + 4) _ (simp length-set (omega arith))
+
+  pub entered-highest : getD (entered W row v n) (row + 5) 0 ≡ 0
+  unfolding entered
+  entered-highest = hit enter5 (row + 5) _ (simp length-set (omega arith))
+
+  pub entered-other : (k : ℕ) → (k < row ⊎ row + 6 ≤ k) → getD (entered W row v n) k 0 ≡ getD W k 0
   unfolding entered
   entered-other k (inl a) =
-      unset enter3 (row + 3) k _ (omega arith) ∙ unset enter2 (row + 2) k _ (omega arith) ∙ unset enter1 (row + 1) k _ (omega arith)
+      before k (omega arith) ∙ unset enter3 (row + 3) k _ (omega arith) ∙ unset enter2 (row + 2) k _ (omega arith) ∙ unset enter1 (row + 1) k _ (omega arith)
       ∙ unset W row k _ (omega arith)
   entered-other k (inr a) =
-      unset enter3 (row + 3) k _ (omega arith) ∙ unset enter2 (row + 2) k _ (omega arith) ∙ unset enter1 (row + 1) k _ (omega arith)
-      ∙ unset W row k _ (omega arith)
+      unset enter5 (row + 5) k _ (omega arith) ∙ unset enter4 (row + 4) k _ (omega arith) ∙ unset enter3 (row + 3) k _ (omega arith)
+      ∙ unset enter2 (row + 2) k _ (omega arith) ∙ unset enter1 (row + 1) k _ (omega arith) ∙ unset W row k _ (omega arith)

@@ -1,6 +1,7 @@
 -- The shadow tables (crates/shadow) in 32-bit words. The first two words are both write counts. Then comes a row for each cell: its entry value, how
--- many groups met it, how many of them wrote it, flags; and for each processor its own value, 1 + the group of its last write, 1 + the group of its last
--- exposed read, what it added, and 1 + the iteration of its last write or update. Nothing here has to be believed.
+-- many groups met it, how many of them wrote it, flags, 1 + the lowest group that wrote it, 1 + the highest that read it exposed; and for each processor
+-- its own value, 1 + the group of its last write, 1 + the group of its last exposed read, what it added, and 1 + the iteration of its last write or
+-- update. Nothing here has to be believed.
 use mathlib.Core.Path.{_≡_}
 use mathlib.Core.Bool.{Bool, true, false}
 use mathlib.Core.List.{List}
@@ -16,11 +17,11 @@ use Rattle.int32.specs.Integers as integers
 
 -- the row of cell c, with p processors
 abbrev pub row-at : ℕ → ℕ → ℕ
-row-at p c = 2 + c * (4 + 5 * p)
+row-at p c = 2 + c * (6 + 5 * p)
 
 -- the own part of processor q in a row
 abbrev pub own-at : ℕ → ℕ → ℕ
-own-at row q = row + 4 + 5 * q
+own-at row q = row + 6 + 5 * q
 
 -- in a row, after the entry value
 abbrev pub met-at : ℕ → ℕ
@@ -31,6 +32,12 @@ writers-at row = row + 2
 
 abbrev pub flags-at : ℕ → ℕ
 flags-at row = row + 3
+
+abbrev pub lowest-at : ℕ → ℕ
+lowest-at row = row + 4
+
+abbrev pub highest-at : ℕ → ℕ
+highest-at row = row + 5
 
 -- in an own part, after the private value
 abbrev pub wrote-at : ℕ → ℕ
@@ -66,6 +73,12 @@ writers-word W row = getD W (writers-at row) 0
 
 abbrev pub flags-word : List ℕ → ℕ → ℕ
 flags-word W row = getD W (flags-at row) 0
+
+abbrev pub lowest-word : List ℕ → ℕ → ℕ
+lowest-word W row = getD W (lowest-at row) 0
+
+abbrev pub highest-word : List ℕ → ℕ → ℕ
+highest-word W row = getD W (highest-at row) 0
 
 -- the number of the class, in the flags
 abbrev pub class-word : List ℕ → ℕ → ℕ
@@ -114,6 +127,8 @@ pub record RowHeld (p : ℕ) (k : Class) (e : ℤ) (W : List ℕ) (row : ℕ) (r
   pub met : met-word W row ≡ r .met
   pub writers : writers-word W row ≡ r .writers
   pub flags : flags-word W row ≡ flags-of k (r .crossed) (r .updated)
+  pub lowest : lowest-word W row ≡ r .lowest
+  pub highest : highest-word W row ≡ r .highest
   pub own : (q : ℕ) → q < p → OwnHeld W (own-at row q) (r .own q)
 
 -- the words stand for these tables of n cells and p processors

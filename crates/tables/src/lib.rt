@@ -15,17 +15,22 @@ pub const CELLS: usize = 1;
 
 pub const COUNTS: usize = 2;
 
-// A row has the entry value, and after it how many groups met the cell, how many wrote it, and flags; then the processors' own parts.
+// A row has the entry value, and after it how many groups met the cell, how many wrote it, flags, and the stamps of the lowest group that wrote it and of
+// the highest that read it exposed; then the processors' own parts. A stamp is 1 + a number, 0 for none.
 pub const MET: usize = 1;
 
 pub const WRITERS: usize = 2;
 
 pub const FLAGS: usize = 3;
 
-pub const ROW: usize = 4;
+pub const LOWEST: usize = 4;
+
+pub const HIGHEST: usize = 5;
+
+pub const ROW: usize = 6;
 
 // An own part has the private value, and after it the stamps of the group that wrote last and of the one that read exposed last, the sum, and the stamp of the
-// iteration that wrote or updated last. A stamp is 1 + a number, 0 for none.
+// iteration that wrote or updated last.
 pub const WROTE: usize = 1;
 
 pub const EXPOSED: usize = 2;
@@ -61,7 +66,7 @@ pub fn choose(a: u32, b: u32, x: u32, y: u32) -> u32
 
 // The number of the cell's class.
 pub fn class_of(w: &[u32], row: usize) -> u32
-    requires { ⌜ row + 4 ≤ length (now w) ⌝ }
+    requires { ⌜ row + 6 ≤ length (now w) ⌝ }
     ensures { λ r. ⌜ r ≡ class-word (now (w .entry)) row ⌝ }
 {
     w[row + FLAGS] / 4
@@ -69,13 +74,15 @@ pub fn class_of(w: &[u32], row: usize) -> u32
 
 // A row's entry value and class.
 pub fn set_entry(w: &mut [u32], row: usize, value: i32, class: u32)
-    requires { ⌜ (row + 4 ≤ length (now w)) × (class ≤ 2) ⌝ }
+    requires { ⌜ (row + 6 ≤ length (now w)) × (class ≤ 3) ⌝ }
     ensures { λ _. ⌜ now (w .exit) ≡ entered (now (w .entry)) row value class ⌝ }
 {
     w[row] = int32::to_word(value);
     w[row + MET] = 0;
     w[row + WRITERS] = 0;
     w[row + FLAGS] = 4 * class;
+    w[row + LOWEST] = 0;
+    w[row + HIGHEST] = 0;
 }
 
 // All words are 0.

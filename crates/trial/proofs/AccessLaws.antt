@@ -12,7 +12,7 @@ use Rattle.rules.specs.Choose.{pick, put}
 use Rattle.rules.specs.ChooseLaws.{pick-same, pick-other, put-same, put-other}
 use Rattle.rules.specs.Cells.{cellOf, listed}
 use Rattle.rules.proofs.CellsLaws.{listed-length, cell-listed, listed-same, listed-cells, cell-set}
-use Rattle.rules.specs.Loop.{Class, shared, lastprivate, reduction, Loop, Partition, bound}
+use Rattle.rules.specs.Loop.{Class, shared, lastprivate, copied, reduction, Loop, Partition, bound}
 use Rattle.rules.specs.Log.{reads, writes, updates, Access, access, only}
 use Rattle.rules.proofs.BlocksLaws.{tested-bound, tested-group}
 use Rattle.rules.specs.Steps.{State, latest, given}
@@ -59,12 +59,14 @@ seen-as : (l : Loop) (δ : Partition) (s : State) (i c : ℕ) (k : Class) (x : �
     → y ≡ latest l c (only (δ .group) (δ .group i) (s .log)) → pick (class-number k) 0 x y ≡ given l δ k s i c
 seen-as l δ s i c shared x e y f = pick-same refl x y ∙ e
 seen-as l δ s i c lastprivate x e y f = pick-other {i = 1} {j = 0} (omega arith) x y ∙ f
+seen-as l δ s i c copied x e y f = pick-other {i = 3} {j = 0} (omega arith) x y ∙ f
 seen-as l δ s i c reduction x e y f = pick-other {i = 2} {j = 0} (omega arith) x y ∙ f
 
 stored-as : (n : ℕ) (f : ℕ → ℤ) (c : ℕ) (v : ℤ) (k : Class) (M : List ℤ) → M ≡ listed n f → c < n
     → pick (class-number k) 0 (set M c v) M ≡ listed n (steps.stored k f c v)
 stored-as n f c v shared M e b = pick-same refl (set M c v) M ∙ ap (λ (m : List ℤ). set m c v) e ∙ listed-set n f c v b
 stored-as n f c v lastprivate M e b = pick-other {i = 1} {j = 0} (omega arith) (set M c v) M ∙ e
+stored-as n f c v copied M e b = pick-other {i = 3} {j = 0} (omega arith) (set M c v) M ∙ e
 stored-as n f c v reduction M e b = pick-other {i = 2} {j = 0} (omega arith) (set M c v) M ∙ e
 
 module _ (g : Setting) (l : Loop) (M : List ℤ) (W : List ℕ) (s : State) (p i c : ℕ) (a : Allowed g l M W s p i c) where

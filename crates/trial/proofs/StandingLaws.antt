@@ -20,7 +20,7 @@ module _ (k : ℕ) (l : Loop) (δ : Partition) (M : List ℤ) (W : List ℕ) (s 
   pub standing-size : length M ≡ l .size
   standing-size = ap length (h .cells) ∙ listed-length (l .size) (s .cells)
 
-  pub standing-room : (c : ℕ) → c < length M → row-at k c + 4 + 5 * k ≤ length W
+  pub standing-room : (c : ℕ) → c < length M → row-at k c + 6 + 5 * k ≤ length W
   standing-room c b =
       let w : row-at k (l .size) ≤ length W = rw (h .suits .processors) at (h .words .size) in
       omega (arith, w, rows-apart k c (l .size) (omega (arith, standing-size)))

@@ -12,7 +12,7 @@ use mir.Val.{SFits}
 use Rattle.rules.specs.ChooseLaws.{pick-same}
 use Rattle.rules.specs.Cells.{cellOf}
 use Rattle.rules.proofs.CellsLaws.{listed-length, cell-listed}
-use Rattle.rules.specs.Loop.{fault, Class, shared, lastprivate, reduction, Loop, Partition, bound}
+use Rattle.rules.specs.Loop.{fault, Class, shared, lastprivate, copied, reduction, Loop, Partition, bound}
 use Rattle.rules.specs.Blocks.{blockStart}
 use Rattle.rules.proofs.BlocksLaws.{tested-bound}
 use Rattle.rules.specs.Steps.{start, steps, run-on, trial}
@@ -33,9 +33,10 @@ use Rattle.trial.specs.Start.{Entry, Starts, Crew}
 
 -- ---- the tables
 
-class-most : (k : Class) → class-number k ≤ 2
+class-most : (k : Class) → class-number k ≤ 3
 class-most shared = omega arith
 class-most lastprivate = omega arith
+class-most copied = omega arith
 class-most reduction = omega arith
 
 module _ (k : ℕ) (l : Loop) (δ : Partition) (M : List ℤ) (C : List ℕ) (n : ℕ) (h : Entry k l δ M C n) where
@@ -43,12 +44,12 @@ module _ (k : ℕ) (l : Loop) (δ : Partition) (M : List ℤ) (C : List ℕ) (n 
   pub entry-size : length M ≡ l .size
   entry-size = ap length (h .cells) ∙ listed-length (l .size) (l .entry)
 
-  pub entry-class : (c : ℕ) → c < length M → (c < length C) × (getD C c 0 ≤ 2)
+  pub entry-class : (c : ℕ) → c < length M → (c < length C) × (getD C c 0 ≤ 3)
   entry-class c b =
       let x : c < l .size = omega (arith, entry-size) in
       (omega (arith, h .number), omega (arith, h .classes c x, class-most (l .class c)))
 
-  pub entry-room : (c : ℕ) → c < length M → row-at k c + 4 ≤ n
+  pub entry-room : (c : ℕ) → c < length M → row-at k c + 6 ≤ n
   entry-room c b = omega (arith, h .room, rows-apart k c (l .size) (omega (arith, entry-size)))
 
   pub entry-clear : Begun (l .size) k (l .class) (l .entry) 0 (replicate n 0)

@@ -16,6 +16,8 @@ const LOOPS: u64 = 3_000;
 const TOGETHER: usize = 100;
 /// The most cells of a loop that is compiled: each is set in a line of its own.
 const CELLS: usize = 200;
+/// How many loops with names in both clauses (document 02, Point 5) must be among those that pass.
+const COPIED: usize = 300;
 
 /// A loop that Run carried to its end.
 struct Ran {
@@ -24,6 +26,8 @@ struct Ran {
     before: Vec<i32>,
     after: Vec<i32>,
     passed: bool,
+    /// Whether it has names in both clauses.
+    copied: bool,
 }
 
 /// Compares random loops, if gfortran is there.
@@ -61,7 +65,7 @@ fn compare_all(folder: &Path) -> bool {
             }
         }
     }
-    tally.report() & good
+    tally.report() & good & tally.has_times("Names in both clauses: Run", "passed", COPIED)
 }
 
 /// The loop of a seed as Run leaves it; `None` if it is refused or Fortran has no such loop.
@@ -86,6 +90,7 @@ fn run_drawn(seed: u64) -> Option<Ran> {
         before,
         after,
         passed: answer.passed,
+        copied: made.has_copied(),
     })
 }
 
@@ -137,6 +142,9 @@ fn compare(tally: &mut Tally, loops: &[Ran], opinions: &[Vec<i32>]) {
         let mut text = tally.next(&ran.name, &ran.text);
         let word = if ran.passed { "passed" } else { "rerun" };
         text.count("Run", Ok(word));
+        if ran.copied {
+            text.count("Names in both clauses: Run", Ok(word));
+        }
         let opinion = opinions.get(index).cloned().unwrap_or_default();
         text.compare("the cells of Run and gfortran", &ran.after, &opinion);
     }

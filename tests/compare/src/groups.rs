@@ -1,7 +1,7 @@
 //! The groups of texts that are compared.
 
 use generate::tables::{arguments, data, text_rows};
-use generate::{damage, hostile, lend, neighbours, noise, Knobs, Loop, Rng};
+use generate::{copies, damage, hostile, lend, neighbours, noise, Knobs, Loop, Rng};
 use reference::Refusal;
 
 use crate::division;
@@ -32,7 +32,7 @@ pub const GROUPS: [Group; 13] = [
 
 /// How many loops, damaged loops and texts that are no loops are drawn.
 const LOOPS: u64 = 25_000;
-const DAMAGED: u64 = 35_000;
+const DAMAGED: u64 = 40_000;
 const NOISE: u64 = 20_000;
 
 pub fn refused(number: u32, line: u32) -> Refusal {
@@ -90,11 +90,12 @@ fn lent() -> bool {
     tally.report()
 }
 
-/// A random loop, at times a hostile one or one whose neighbours meet.
+/// A random loop, at times a hostile one, one whose neighbours meet or one that overwrites old values.
 pub fn drawn(rng: &mut Rng) -> Loop {
     match rng.below(20) {
         0 | 1 => hostile::hostile(rng),
         2 => neighbours::neighbours(rng),
+        3 => copies::copies(rng),
         _ => {
             let knobs = Knobs::mixed(rng);
             Loop::random(rng, &knobs)

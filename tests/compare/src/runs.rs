@@ -2,7 +2,7 @@
 
 use generate::tables::looks;
 use generate::tables::runs::{rows, Ran};
-use generate::{damage, hostile, lend, neighbours, Loop, Rng};
+use generate::{copies, damage, hostile, lend, neighbours, Copied, Loop, Rng};
 use reference::{workspace_needed, Answer, Refusal, Serial};
 
 use crate::groups::drawn;
@@ -13,6 +13,9 @@ use crate::tally::{Tally, Text};
 /// several schedules.
 const RUNS: u64 = 9_000;
 const LOOKS: u64 = 3_000;
+/// In how many loops at least the word must turn from rerun to passed once the names in `lastprivate` alone
+/// stand in both clauses.
+const TURNED: usize = 700;
 /// How many random texts, damaged or not, are run and looked at with too little lent or too much.
 const REFUSALS: u64 = 10_000;
 
@@ -111,12 +114,13 @@ pub fn look_as_reference(text: &mut Text, lent: &Lent) {
     look(text, lent, view.len(), Ok(&view));
 }
 
-/// A random loop, often one in which speculation and the serial run meet different faults or one whose
-/// neighbours meet.
+/// A random loop, often one in which speculation and the serial run meet different faults, one whose
+/// neighbours meet or one that overwrites old values.
 pub fn drawn_to_run(rng: &mut Rng) -> Loop {
     match rng.below(20) {
-        0..=4 => hostile::hostile(rng),
-        5..=7 => neighbours::neighbours(rng),
+        0..=5 => hostile::hostile(rng),
+        6..=8 => neighbours::neighbours(rng),
+        9..=12 => copies::copies(rng),
         _ => drawn(rng),
     }
 }
@@ -233,8 +237,49 @@ fn compare_processors(tally: &mut Tally, seed: u64) {
     }
 }
 
+/// One loop over the same cells with its `lastprivate` names in that clause alone, as drawn, and in both
+/// clauses (document 02, Point 5): fault, cells and counts are the same, and what passes with fewer names in
+/// both clauses passes with more.
+fn compare_copies(tally: &mut Tally, seed: u64) {
+    let (made, _, mut rng) = loop_of(seed);
+    let loops = [Copied::None, Copied::AsDrawn, Copied::All].map(|copied| made.with_copied(copied));
+    if loops.iter().any(|made| made.text().len() > 2048) {
+        return;
+    }
+    let [plain, drawn, copied] = loops
+        .each_ref()
+        .map(|made| run_on_data(tally, seed, made, &mut rng));
+    let name = format!("seed {seed}, lastprivate names in both clauses");
+    let bytes = loops[2].text();
+    let mut text = tally.next(&name, &bytes);
+    for (fewer, more) in [(&plain, &drawn), (&drawn, &copied)] {
+        text.compare(
+            "more names in both clauses",
+            &more.ending(),
+            &fewer.ending(),
+        );
+        if fewer.passes() {
+            text.compare("more names in both clauses", &more.passes(), &true);
+        }
+    }
+    let word = match (plain.passes(), drawn.passes()) {
+        _ if !made.has_copied() => "without them",
+        _ if drawn.outcome.is_err() => "that faults",
+        (_, false) => "that reruns",
+        (false, true) => "that passes by them alone",
+        (true, true) => "that passes either way",
+    };
+    text.count("Names in both clauses: a loop", Ok(word));
+    let word = match (plain.passes(), copied.passes()) {
+        (false, true) => "turned from rerun to passed",
+        _ => "unchanged",
+    };
+    text.count("From lastprivate alone to both clauses: word", Ok(word));
+}
+
 /// Random loops: Run against the serial run. Each end, each way in which speculation and the serial run
-/// are at odds, and loops that pass for some numbers of processors alone must be frequent.
+/// are at odds, loops that pass for some numbers of processors alone and loops that names in both clauses let
+/// pass must be frequent.
 pub fn random_runs() -> bool {
     let mut tally = Tally::new(&format!("runs of the seeds 0 to {}", RUNS - 1));
     random(&mut tally, RUNS, run_and_count);
@@ -246,9 +291,27 @@ pub fn random_runs() -> bool {
         & has("A fault", &["in speculation alone"], 2)
         & has("A fault", &["in the serial run alone"], 2)
         & has("With minus updates a loop", &["now passes"], 3);
+    good & frequent & random_blocks() & random_copies()
+}
+
+fn random_blocks() -> bool {
     let mut tally = Tally::new(&format!("blocks of the seeds 0 to {}", RUNS - 1));
     (0..RUNS).for_each(|seed| compare_processors(&mut tally, seed));
-    good & frequent & tally.report() & tally.has("By blocks a loop", &["whose word differs"], 15)
+    tally.report() & tally.has("By blocks a loop", &["whose word differs"], 15)
+}
+
+fn random_copies() -> bool {
+    let mut tally = Tally::new(&format!("copies of the seeds 0 to {}", RUNS - 1));
+    (0..RUNS).for_each(|seed| compare_copies(&mut tally, seed));
+    let good = tally.report();
+    let (alone, reruns) = ("that passes by them alone", "that reruns");
+    let both = [alone, reruns, "that passes either way", "that faults"];
+    let loops = "Names in both clauses: a loop";
+    let word = "From lastprivate alone to both clauses: word";
+    good & tally.has(loops, &both, 35)
+        & tally.has(loops, &[alone], 6)
+        & tally.has(loops, &[reruns], 10)
+        & tally.has_times(word, "turned from rerun to passed", TURNED)
 }
 
 /// Random loops: Look against the reference's.

@@ -51,17 +51,29 @@ impl Tally {
         self.differences == 0
     }
 
+    /// How often a service gave an answer of this kind.
+    fn times(&self, service: &str, wanted: impl Fn(&str) -> bool) -> usize {
+        let times = self.answers.iter();
+        times
+            .filter(|((name, answer), _)| *name == service && wanted(answer))
+            .map(|(_, times)| times)
+            .sum()
+    }
+
+    /// Whether a service gave an answer at least so often; says so if not.
+    pub fn has_times(&self, service: &str, answer: &str, least: usize) -> bool {
+        let times = self.times(service, |given| given == answer);
+        if times < least {
+            println!("  {service} {answer}: {times}, under {least}");
+        }
+        times >= least
+    }
+
     /// Whether these answers of a service have at least so many hundredths of all its answers; says so
     /// if not.
     pub fn has(&self, service: &str, answers: &[&str], percent: usize) -> bool {
-        let of_service = || {
-            self.answers
-                .iter()
-                .filter(|((name, _), _)| *name == service)
-        };
-        let all: usize = of_service().map(|(_, times)| times).sum();
-        let wanted = of_service().filter(|((_, answer), _)| answers.contains(&answer.as_str()));
-        let share: usize = wanted.map(|(_, times)| times).sum();
+        let all = self.times(service, |_| true);
+        let share = self.times(service, |given| answers.contains(&given));
         let enough = 100 * share >= percent * all;
         if !enough {
             println!("  {service} {answers:?}: {share} of {all}, under {percent} hundredths");

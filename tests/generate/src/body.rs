@@ -88,6 +88,15 @@ impl Builder<'_> {
         }
     }
 
+    /// A reference that an iteration may read to a name of which it writes its own cell: that one or a
+    /// higher one.
+    fn reference_ahead(&mut self, index: usize) -> String {
+        let higher = self.names[index].values.len() - self.iterations.max(1);
+        let number = self.own_number();
+        let more = self.rng.below(higher + 1);
+        format!("{}({number} + {more})", self.names[index].name)
+    }
+
     /// A reference that the roles allow to be read here, if there is one.
     fn readable(&mut self) -> Option<String> {
         let index = self.rng.below(self.names.len());
@@ -96,6 +105,7 @@ impl Builder<'_> {
         }
         match self.names[index].role {
             Role::Own { .. } => Some(self.own_reference(index)),
+            Role::Ahead => Some(self.reference_ahead(index)),
             Role::Fixed | Role::Index => Some(self.any_reference(index)),
             Role::Temporary | Role::Sum if self.written.is_empty() => None,
             Role::Temporary | Role::Sum => Some(self.rng.pick(&self.written)),
@@ -209,6 +219,11 @@ impl Builder<'_> {
                 let target = self.own_reference(index);
                 self.assign(&target);
             }
+            Role::Ahead => {
+                let target = self.own_reference(index);
+                let old = self.reference_ahead(index);
+                self.combine(&target, &old);
+            }
             Role::Temporary => {
                 let target = self.temporary(index);
                 self.assign(&target);
@@ -216,7 +231,7 @@ impl Builder<'_> {
             }
             Role::Sum => {
                 let target = self.any_reference(index);
-                self.update(&target);
+                self.combine(&target, &target);
             }
             Role::Fixed | Role::Index => unreachable!("not written"),
         }
@@ -237,12 +252,13 @@ impl Builder<'_> {
         self.add_one_that_fits([format!("{target} = {value}"), format!("{target} = 1")]);
     }
 
-    fn update(&mut self, target: &str) {
+    /// Something added to a cell's value or taken from it; an update, if that cell is the target.
+    fn combine(&mut self, target: &str, cell: &str) {
         let remainder = self.terms(self.knobs.brackets);
-        let sign = self.rng.pick(&["+", "-"]);
+        let sign = self.rng.pick(&["+", "-", "-"]);
         self.add_one_that_fits([
-            format!("{target} = {target} {sign} {remainder}"),
-            format!("{target} = {target} {sign} 1"),
+            format!("{target} = {cell} {sign} {remainder}"),
+            format!("{target} = {cell} {sign} 1"),
         ]);
     }
 

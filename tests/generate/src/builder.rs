@@ -2,6 +2,7 @@
 //! that declare them. The body's lines are drawn in `body`.
 
 use crate::lend::extreme;
+use crate::lines;
 use crate::loops::{Knobs, Loop};
 use crate::rng::Rng;
 
@@ -11,6 +12,8 @@ pub enum Role {
     /// Each iteration uses the cell of its own number only, or the one that number has in an
     /// index array.
     Own { through: Option<usize> },
+    /// Each iteration writes the cell of its own number only, and reads that one or a higher one.
+    Ahead,
     /// Only read.
     Fixed,
     /// Only read; holds each cell number once.
@@ -32,11 +35,23 @@ pub struct Name {
     pub clause: &'static str,
 }
 
-const SHARED: &str = "shared(";
-const LASTPRIVATE: &str = "lastprivate(";
-const REDUCTION: &str = "reduction(+:";
+const SHARED: &str = "shared";
+const LASTPRIVATE: &str = "lastprivate";
+/// In `lastprivate` and `firstprivate`.
+const COPIED: &str = "both";
+const REDUCTION: &str = "reduction";
 /// Shared by standing in no clause.
 const UNNAMED: &str = "";
+
+/// How a list of names is written, and the names of which clauses stand in it. A `firstprivate` clause
+/// stands between the signs that [`Loop`] replaces.
+const LISTS: [(&str, &[&str], &str); 5] = [
+    ("shared(", &[SHARED], ")"),
+    ("lastprivate(", &[LASTPRIVATE, COPIED], ")"),
+    ("reduction(+:", &[REDUCTION], ")"),
+    ("{firstprivate(", &[COPIED], ")}"),
+    ("[firstprivate(", &[LASTPRIVATE], ")]"),
+];
 
 /// A loop being drawn.
 pub struct Builder<'r> {
@@ -101,7 +116,7 @@ impl<'r> Builder<'r> {
     }
 
     fn choose_names(&mut self) {
-        const POOL: [&str; 35] = [
+        const POOL: [&str; 36] = [
             "a",
             "b",
             "c",
@@ -122,6 +137,7 @@ impl<'r> Builder<'r> {
             "num_threads",
             "shared",
             "lastprivate",
+            "firstprivate",
             "reduction",
             "schedule",
             "static",
@@ -155,7 +171,7 @@ impl<'r> Builder<'r> {
         let indexes: Vec<usize> = (0..self.names.len())
             .filter(|&one| self.names[one].role == Role::Index)
             .collect();
-        let role = match self.rng.below(12) {
+        let role = match self.rng.below(17) {
             0..=3 if indexes.is_empty() => Role::Own { through: None },
             0..=3 => {
                 let through = self.rng.pick(&indexes);
@@ -163,15 +179,17 @@ impl<'r> Builder<'r> {
                 Role::Own { through }
             }
             4 | 5 => Role::Temporary,
-            6 | 7 => Role::Sum,
+            6..=9 => Role::Sum,
+            10..=12 => Role::Ahead,
             // The first name is one that statements may write.
             _ if self.names.is_empty() => Role::Own { through: None },
-            8 | 9 => Role::Fixed,
+            13 | 14 => Role::Fixed,
             _ => Role::Index,
         };
-        let numbered = matches!(role, Role::Own { .. } | Role::Index);
+        let numbered = matches!(role, Role::Own { .. } | Role::Ahead | Role::Index);
         let is_array = numbered || self.rng.chance(50);
         let length = match (numbered, is_array) {
+            (true, _) if role == Role::Ahead => self.iterations.max(1) + 1 + self.rng.below(3),
             (true, _) => self.iterations.max(1) + self.rng.below(3),
             (false, true) => 1 + self.rng.below(6),
             (false, false) => 1,
@@ -223,15 +241,21 @@ impl<'r> Builder<'r> {
 
     fn choose_clause(&mut self, role: Role) -> &'static str {
         if self.rng.chance(self.knobs.conflict / 2) {
-            return self.rng.pick(&[UNNAMED, SHARED, LASTPRIVATE, REDUCTION]);
+            return self
+                .rng
+                .pick(&[UNNAMED, SHARED, LASTPRIVATE, COPIED, REDUCTION]);
         }
         match (role, self.rng.below(10)) {
             (Role::Sum, _) => REDUCTION,
             (Role::Temporary, 0 | 1) => REDUCTION,
-            (Role::Temporary, _) => LASTPRIVATE,
+            (Role::Temporary, 2..=5) => LASTPRIVATE,
+            (Role::Temporary, _) => COPIED,
+            (Role::Ahead, 0) => LASTPRIVATE,
+            (Role::Ahead, _) => COPIED,
             (_, 0..=3) => UNNAMED,
             (_, 4..=6) => SHARED,
-            (_, 7 | 8) => LASTPRIVATE,
+            (_, 7) => LASTPRIVATE,
+            (_, 8) => COPIED,
             (_, _) => REDUCTION,
         }
     }
@@ -293,23 +317,22 @@ impl<'r> Builder<'r> {
 
     /// Clauses in any order; the names of a clause in one list or in several.
     fn directive(&mut self) {
-        let mut clauses = vec!["num_threads(@)".to_string(), "%".to_string()];
-        for clause in [SHARED, LASTPRIVATE, REDUCTION] {
+        let mut clauses = Vec::new();
+        for (open, listed, close) in LISTS {
             let mut names: Vec<String> = self
                 .names
                 .iter()
-                .filter(|name| name.clause == clause)
+                .filter(|name| listed.contains(&name.clause))
                 .map(|name| name.name.clone())
                 .collect();
             self.rng.shuffle(&mut names);
             while !names.is_empty() {
                 let count = 1 + self.rng.below(names.len());
                 let list = names.split_off(names.len() - count).join(", ");
-                clauses.push(format!("{clause}{list})"));
+                clauses.push(format!("{open}{list}{close}"));
             }
         }
-        self.rng.shuffle(&mut clauses);
-        let line = format!("!$omp parallel do {}", clauses.join(" "));
+        let line = lines::directive(self.rng, &clauses);
         self.lines.push(line);
     }
 

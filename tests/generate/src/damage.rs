@@ -1,5 +1,5 @@
 //! Good texts with something changed: bytes, tokens or lines taken out, doubled, swapped or put in,
-//! names, literals and signs exchanged, a clause put in, the length brought near its limit.
+//! names, literals and signs exchanged, a clause put in or taken out, the length brought near its limit.
 
 use crate::layout::split_tokens;
 use crate::rng::Rng;
@@ -7,10 +7,12 @@ use crate::rng::Rng;
 /// The text with something changed: one name, literal or sign for another, or a clause, or the length, or
 /// up to three bytes, tokens or lines. It may happen to be good still.
 pub fn damage(text: &[u8], rng: &mut Rng) -> Vec<u8> {
-    match rng.below(12) {
-        0..=4 => exchange_token(text, rng),
-        5 => pad(text, rng),
-        6 | 7 => put_in_clause(text, rng),
+    match rng.below(16) {
+        0..=5 => exchange_token(text, rng),
+        6 => pad(text, rng),
+        7 => change_clauses(text, rng, put_in_static),
+        8..=10 => change_clauses(text, rng, put_in_private),
+        11 => change_clauses(text, rng, take_out),
         _ => break_up(text, rng),
     }
 }
@@ -85,9 +87,94 @@ fn exchange_token(text: &[u8], rng: &mut Rng) -> Vec<u8> {
     lines.join("\n").into_bytes()
 }
 
-/// Puts a clause `schedule(static)`, or something like it, between the clauses of the directive
-/// (document 02, Point 3). Without the clause before, the good one leaves the text good.
-fn put_in_clause(text: &[u8], rng: &mut Rng) -> Vec<u8> {
+/// The clauses of a directive, each as it is written, and the names of the text.
+struct Directive<'t> {
+    clauses: Vec<String>,
+    names: Vec<&'t str>,
+}
+
+/// Changes the clauses of the directive.
+fn change_clauses(text: &[u8], rng: &mut Rng, change: fn(&mut Directive, &mut Rng)) -> Vec<u8> {
+    let Ok(whole) = std::str::from_utf8(text) else {
+        return break_up(text, rng);
+    };
+    let mut lines: Vec<&str> = whole.split('\n').collect();
+    let is_directive = |line: &&str| {
+        let words = split_tokens(line);
+        words.len() > 3 && words[1].eq_ignore_ascii_case("parallel")
+    };
+    let Some(place) = lines.iter().position(is_directive) else {
+        return break_up(text, rng);
+    };
+    // A clause begins after `do`, and ends with a bracket.
+    let tokens = split_tokens(lines[place]);
+    let (before, clauses) = tokens.split_at(3);
+    let mut directive = Directive {
+        clauses: clauses
+            .split_inclusive(|token| *token == ")")
+            .map(|clause| clause.join(" "))
+            .collect(),
+        names: names_of(&lines),
+    };
+    change(&mut directive, rng);
+    let line = format!("{} {}", before.join(" "), directive.clauses.join(" "));
+    lines[place] = &line;
+    lines.join("\n").into_bytes()
+}
+
+/// Takes out a clause: `firstprivate` may be left alone, or `num_threads` be missing.
+fn take_out(directive: &mut Directive, rng: &mut Rng) {
+    let place = rng.below(directive.clauses.len());
+    directive.clauses.remove(place);
+}
+
+/// Puts in `firstprivate` clauses, and others of the same name, or something like them (document 02,
+/// Point 5). Some leave the text good, if the name stood in no clause before.
+fn put_in_private(directive: &mut Directive, rng: &mut Rng) {
+    const CLAUSES: [&str; 29] = [
+        "firstprivate(@)",
+        "firstprivate(@)",
+        "firstprivate(@)",
+        "FIRSTPRIVATE ( @ )",
+        "firstprivate(@, #)",
+        "firstprivate(@, @)",
+        "firstprivate(@) lastprivate(@)",
+        "lastprivate(@) firstprivate(@)",
+        "lastprivate(#, @) firstprivate(@)",
+        "firstprivate(@, #) lastprivate(@)",
+        "firstprivate(@, #) lastprivate(#, @)",
+        "firstprivate(@) lastprivate(@, @)",
+        "firstprivate(@, @) lastprivate(@)",
+        "firstprivate(@) lastprivate(@) lastprivate(@)",
+        "firstprivate(@) lastprivate(@) firstprivate(@)",
+        "firstprivate(@) lastprivate(@) shared(@)",
+        "reduction(+:@) firstprivate(@) lastprivate(@)",
+        "firstprivate(@) shared(@)",
+        "reduction(+:@) firstprivate(@)",
+        "lastprivate(@)",
+        "shared(@)",
+        "firstprivate()",
+        "firstprivate(@,)",
+        "firstprivate(@ #)",
+        "firstprivate(+:@)",
+        "firstprivate(@(1))",
+        "firstprivate @",
+        "firstprivate(@",
+        "firstprivate",
+    ];
+    let [one, other] = [0; 2].map(|_| rng.pick(&directive.names));
+    let clause = rng.pick(&CLAUSES).replace('@', one).replace('#', other);
+    put_in(directive, &clause, rng);
+}
+
+fn put_in(directive: &mut Directive, clause: &str, rng: &mut Rng) {
+    let place = rng.below(directive.clauses.len() + 1);
+    directive.clauses.insert(place, clause.to_string());
+}
+
+/// Puts in a clause `schedule(static)`, or something like it (document 02, Point 3). Without the clause
+/// before, the good one leaves the text good.
+fn put_in_static(directive: &mut Directive, rng: &mut Rng) {
     const CLAUSES: [&str; 18] = [
         "schedule(static)",
         "schedule(static)",
@@ -108,26 +195,8 @@ fn put_in_clause(text: &[u8], rng: &mut Rng) -> Vec<u8> {
         "static(schedule)",
         "(static)",
     ];
-    let Ok(whole) = std::str::from_utf8(text) else {
-        return break_up(text, rng);
-    };
-    let mut lines: Vec<&str> = whole.split('\n').collect();
-    let is_directive = |line: &&str| {
-        let words = split_tokens(line);
-        words.len() > 3 && words[1].eq_ignore_ascii_case("parallel")
-    };
-    let Some(place) = lines.iter().position(is_directive) else {
-        return break_up(text, rng);
-    };
-    // A clause begins after `do` and after the end of another.
-    let mut tokens = split_tokens(lines[place]);
-    let begins: Vec<usize> = (3..=tokens.len())
-        .filter(|&next| next == 3 || tokens[next - 1] == ")")
-        .collect();
-    tokens.insert(rng.pick(&begins), rng.pick(&CLAUSES));
-    let line = tokens.join(" ");
-    lines[place] = &line;
-    lines.join("\n").into_bytes()
+    let clause = rng.pick(&CLAUSES);
+    put_in(directive, clause, rng);
 }
 
 fn is_literal(token: &str) -> bool {
@@ -183,7 +252,7 @@ fn damage_bytes(text: &[u8], rng: &mut Rng) -> Vec<u8> {
 }
 
 fn damage_lines(text: &[u8], rng: &mut Rng) -> Vec<u8> {
-    const LINES: [&str; 17] = [
+    const LINES: [&str; 18] = [
         "",
         "! x",
         "integer zz",
@@ -191,6 +260,7 @@ fn damage_lines(text: &[u8], rng: &mut Rng) -> Vec<u8> {
         "data a /1/",
         "!$omp parallel do num_threads(2)",
         "!$omp parallel do num_threads(2) schedule(static)",
+        "!$omp parallel do num_threads(2) firstprivate(a) lastprivate(a)",
         "!$omp end parallel do",
         "!$omp",
         "do i = 1, 4",
@@ -209,7 +279,7 @@ fn damage_lines(text: &[u8], rng: &mut Rng) -> Vec<u8> {
 
 /// Changes one token of one line. The line's blanks become single ones.
 fn damage_tokens(text: &[u8], rng: &mut Rng) -> Vec<u8> {
-    const TOKENS: [&str; 36] = [
+    const TOKENS: [&str; 38] = [
         "(",
         ")",
         ",",
@@ -243,6 +313,8 @@ fn damage_tokens(text: &[u8], rng: &mut Rng) -> Vec<u8> {
         "if",
         "then",
         "shared",
+        "firstprivate",
+        "lastprivate",
         "schedule",
         "static",
         "!",

@@ -2,6 +2,7 @@
 //! does not. Each comes with the cells to lend.
 
 use crate::layout::Layout;
+use crate::lines::{directive, lastprivate};
 use crate::loops::Loop;
 use crate::rng::Rng;
 
@@ -30,26 +31,20 @@ fn lines(text: &str) -> Vec<String> {
     text.lines().map(|line| line.trim().to_string()).collect()
 }
 
-/// The directive with this clause, in any order.
-fn directive(rng: &mut Rng, clause: &str) -> String {
-    let mut clauses = ["num_threads(@)", "%", clause];
-    rng.shuffle(&mut clauses);
-    format!("!$omp parallel do {}", clauses.join(" "))
-}
-
-fn clause(rng: &mut Rng, name: &str) -> String {
-    match rng.below(4) {
-        0 => String::new(),
-        1 => format!("shared({name})"),
-        2 => format!("lastprivate({name})"),
-        _ => format!("reduction(+:{name})"),
+/// Any clauses for a name.
+fn clauses(rng: &mut Rng, name: &str) -> Vec<String> {
+    match rng.below(5) {
+        0 => Vec::new(),
+        1 => vec![format!("shared({name})")],
+        2 | 3 => lastprivate(rng, name, 50),
+        _ => vec![format!("reduction(+:{name})")],
     }
 }
 
 /// Document 01's example: k is outside at entry; an early iteration sets it.
 fn subscript_made_good(rng: &mut Rng, first: i64, last: i64) -> Drawn {
-    let clause = clause(rng, "k");
-    let directive = directive(rng, &clause);
+    let clauses = clauses(rng, "k");
+    let directive = directive(rng, &clauses);
     let good = rng.between(1, 4);
     let text = format!(
         "integer k, a(4)
@@ -68,8 +63,8 @@ fn subscript_made_good(rng: &mut Rng, first: i64, last: i64) -> Drawn {
 
 /// z is 0 at entry, the first iterations set it, all divide by it afterwards.
 fn divisor_made_good(rng: &mut Rng, first: i64, last: i64) -> Drawn {
-    let clause = clause(rng, "z");
-    let directive = directive(rng, &clause);
+    let clauses = clauses(rng, "z");
+    let directive = directive(rng, &clauses);
     let until = rng.between(first, last);
     let divide = rng.pick(&["100/z", "rdiv(100, z)", "z/z", "1 + 7/(2*z)"]);
     let text = format!(
@@ -87,7 +82,7 @@ fn divisor_made_good(rng: &mut Rng, first: i64, last: i64) -> Drawn {
 
 /// The sum is at least 1 when it is read serially, but speculation reads it as at entry.
 fn sum_read_too_early(rng: &mut Rng, first: i64, last: i64) -> Drawn {
-    let directive = directive(rng, "reduction(+:s)");
+    let directive = directive(rng, &["reduction(+:s)".to_string()]);
     let more = rng.pick(&["+ 1", "+ 2", "- (-1)", "- 0 + 2"]);
     let text = format!(
         "integer s, a(30)
@@ -102,8 +97,8 @@ fn sum_read_too_early(rng: &mut Rng, first: i64, last: i64) -> Drawn {
 
 /// All iterations divide by z, which an iteration sets to 0.
 fn divisor_made_zero(rng: &mut Rng, first: i64, last: i64) -> Drawn {
-    let clause = clause(rng, "z");
-    let directive = directive(rng, &clause);
+    let clauses = clauses(rng, "z");
+    let directive = directive(rng, &clauses);
     let at = rng.between(first, last);
     let text = format!(
         "integer z, a(12)
@@ -124,8 +119,8 @@ fn divisor_made_zero(rng: &mut Rng, first: i64, last: i64) -> Drawn {
 
 /// k is inside at entry; an iteration moves it outside.
 fn subscript_made_bad(rng: &mut Rng, first: i64, last: i64) -> Drawn {
-    let clause = clause(rng, "k");
-    let directive = directive(rng, &format!("{clause} lastprivate(a)"));
+    let clauses = [clauses(rng, "k"), lastprivate(rng, "a", 50)].concat();
+    let directive = directive(rng, &clauses);
     let at = rng.between(first, last);
     let bad = rng.pick(&["5", "0", "-1", "k + 4", "2147483647"]);
     let text = format!(
@@ -146,7 +141,7 @@ fn subscript_made_bad(rng: &mut Rng, first: i64, last: i64) -> Drawn {
 /// The sum grows beyond the array serially; speculation reads it as at entry.
 fn sum_grows_outside(rng: &mut Rng, first: i64, last: i64) -> Drawn {
     let length = rng.between(1, 12);
-    let directive = directive(rng, "reduction(+:s)");
+    let directive = directive(rng, &["reduction(+:s)".to_string()]);
     let more = rng.pick(&["+ 1", "- (-1)"]);
     let text = format!(
         "integer s, a({length})
@@ -161,8 +156,8 @@ fn sum_grows_outside(rng: &mut Rng, first: i64, last: i64) -> Drawn {
 
 /// The fault stands behind a guard that an early iteration opens.
 fn guard_opened(rng: &mut Rng, first: i64, last: i64) -> Drawn {
-    let clause = clause(rng, "g");
-    let directive = directive(rng, &clause);
+    let clauses = clauses(rng, "g");
+    let directive = directive(rng, &clauses);
     let relation = rng.pick(&[">", ">=", "/="]);
     let text = format!(
         "integer g, a(4)
@@ -179,8 +174,8 @@ fn guard_opened(rng: &mut Rng, first: i64, last: i64) -> Drawn {
 
 /// The fault stands behind a guard that is open at entry and that the first iteration closes.
 fn guard_closed(rng: &mut Rng, first: i64, last: i64) -> Drawn {
-    let clause = clause(rng, "g");
-    let directive = directive(rng, &clause);
+    let clauses = clauses(rng, "g");
+    let directive = directive(rng, &clauses);
     let text = format!(
         "integer g, a(4)
          data g /1/

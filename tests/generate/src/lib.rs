@@ -4,15 +4,17 @@
 
 mod body;
 mod builder;
+pub mod copies;
 pub mod damage;
 pub mod hostile;
 pub mod layout;
 pub mod lend;
+mod lines;
 pub mod loops;
 pub mod neighbours;
 pub mod noise;
 pub mod rng;
 pub mod tables;
 
-pub use loops::{Knobs, Loop};
+pub use loops::{Copied, Knobs, Loop};
 pub use rng::Rng;

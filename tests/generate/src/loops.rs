@@ -50,11 +50,20 @@ const CLAUSE: &str = "schedule(static)";
 /// Percent of loops that have it.
 const CLAUSES: u32 = 40;
 
+/// Which names of `lastprivate` clauses stand in `firstprivate` too (document 02, Point 5).
+#[derive(Debug, Clone, Copy, PartialEq, Eq)]
+pub enum Copied {
+    None,
+    AsDrawn,
+    All,
+}
+
 /// A loop and what its maker knows of it.
 #[derive(Debug, Clone)]
 pub struct Loop {
     /// Its lines without layout; `@` stands for the number of processors, `%` for the clause by which
-    /// blocks are tested.
+    /// blocks are tested. Each name in `lastprivate` stands in a `firstprivate` clause too: in braces if it
+    /// was drawn so, else in square brackets.
     lines: Vec<String>,
     layout: Layout,
     layout_seed: u64,
@@ -62,13 +71,15 @@ pub struct Loop {
     pub processors: usize,
     /// Whether it has the clause by which blocks are tested.
     pub by_blocks: bool,
+    /// Which `firstprivate` clauses it has.
+    pub copied: Copied,
     /// The cells as Load must fill them; their number is N.
     pub cells: Vec<i32>,
 }
 
 impl Loop {
-    /// A loop of these lines, `@` standing for the number of processors and `%` for the clause by which
-    /// blocks are tested, which it often has.
+    /// A loop of these lines, with the signs in them that [`Loop`] replaces. It often has the clause by which
+    /// blocks are tested.
     pub fn of_lines(
         lines: Vec<String>,
         processors: usize,
@@ -82,6 +93,7 @@ impl Loop {
             layout_seed: rng.bits(),
             processors,
             by_blocks: rng.chance(CLAUSES),
+            copied: Copied::AsDrawn,
             cells,
         }
     }
@@ -108,12 +120,45 @@ impl Loop {
         }
     }
 
+    /// The same loop with other `firstprivate` clauses. Its lines stand where they stood.
+    pub fn with_copied(&self, copied: Copied) -> Self {
+        Loop {
+            copied,
+            ..self.clone()
+        }
+    }
+
+    /// Whether a name was drawn to stand in both clauses.
+    pub fn has_copied(&self) -> bool {
+        self.lines.iter().any(|line| line.contains('{'))
+    }
+
+    /// Whether a name was drawn to stand in `lastprivate` alone.
+    pub fn has_plain(&self) -> bool {
+        self.lines.iter().any(|line| line.contains('['))
+    }
+
     /// The loop's text.
     pub fn text(&self) -> Vec<u8> {
         let number = self.processors.to_string();
         let clause = if self.by_blocks { CLAUSE } else { "" };
-        let written = |line: &String| line.replace('@', &number).replace('%', clause);
+        let written = |line: &String| {
+            let line = line.replace('@', &number).replace('%', clause);
+            let line = with_marked(&line, ['{', '}'], self.copied != Copied::None);
+            with_marked(&line, ['[', ']'], self.copied == Copied::All)
+        };
         let lines: Vec<String> = self.lines.iter().map(written).collect();
         write_text(&lines, &self.layout, &mut Rng::new(self.layout_seed))
     }
+}
+
+/// The line with what stands between these signs, or without it.
+fn with_marked(line: &str, [open, close]: [char; 2], kept: bool) -> String {
+    if kept {
+        return line.replace([open, close], "");
+    }
+    let mut pieces = line.split(open);
+    let before = pieces.next().unwrap_or_default();
+    let after = pieces.filter_map(|piece| piece.split_once(close));
+    after.fold(before.to_string(), |line, (_, rest)| line + rest)
 }

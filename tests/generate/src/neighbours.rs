@@ -2,6 +2,7 @@
 //! whether one passes depends on where the blocks begin.
 
 use crate::layout::Layout;
+use crate::lines::{lastprivate, lines, with_data};
 use crate::loops::Loop;
 use crate::rng::Rng;
 
@@ -29,29 +30,19 @@ pub fn neighbours(rng: &mut Rng) -> Loop {
 
 type Drawn = (Vec<String>, Vec<i32>);
 
-/// A loop of these declarations, clause, bounds and body.
-fn lines(rng: &mut Rng, names: &str, clause: &str, bounds: &str, body: &str) -> Vec<String> {
-    let mut clauses = ["num_threads(@)", "%", clause];
-    rng.shuffle(&mut clauses);
-    let clauses = clauses.join(" ");
-    let text =
-        format!("integer {names}\n!$omp parallel do {clauses}\ndo i = {bounds}\n{body}\nend do");
-    text.lines().map(str::to_string).collect()
-}
-
-/// A clause for a name that iterations hand on.
-fn clause(rng: &mut Rng, name: &str) -> String {
-    match rng.below(6) {
-        0 => String::new(),
-        1 => format!("shared({name})"),
-        2 | 3 => format!("lastprivate({name})"),
-        _ => format!("reduction(+:{name})"),
+/// Clauses for a name that iterations hand on.
+fn clauses(rng: &mut Rng, name: &str) -> Vec<String> {
+    match rng.below(8) {
+        0 => Vec::new(),
+        1 => vec![format!("shared({name})")],
+        2..=4 => lastprivate(rng, name, 50),
+        _ => vec![format!("reduction(+:{name})")],
     }
 }
 
 /// Each iteration reads what one of the last few, or the next few, writes.
 fn recurrence(rng: &mut Rng, count: usize) -> Drawn {
-    let clause = clause(rng, "a");
+    let clauses = clauses(rng, "a");
     let length = count + 6;
     let far = rng.between(1, 3);
     let way = rng.pick(&["+", "-"]);
@@ -60,13 +51,13 @@ fn recurrence(rng: &mut Rng, count: usize) -> Drawn {
     let bounds = format!("4, {}", count + 3);
     let cells: Vec<i32> = (0..length).map(|_| rng.between(-9, 9) as i32).collect();
     let names = format!("a({length})");
-    let lines = with_data(lines(rng, &names, &clause, &bounds, &body), "a", &cells);
+    let lines = with_data(lines(rng, &names, &clauses, &bounds, &body), "a", &cells);
     (lines, cells)
 }
 
 /// A scratch cell that each iteration reads as the one before left it, and then sets.
 fn scratch_of_the_one_before(rng: &mut Rng, count: usize) -> Drawn {
-    let clause = clause(rng, "z");
+    let clauses = clauses(rng, "z");
     let body = rng.pick(&[
         "a(i) = z\nz = 3*i",
         "a(i) = z\nz = a(i) + i",
@@ -74,37 +65,37 @@ fn scratch_of_the_one_before(rng: &mut Rng, count: usize) -> Drawn {
         "if (z > i) then\nz = 0\nend if\na(i) = z\nz = 2*i",
     ]);
     let names = format!("z, a({count})");
-    let lines = lines(rng, &names, &clause, &format!("1, {count}"), body);
+    let lines = lines(rng, &names, &clauses, &format!("1, {count}"), body);
     (lines, vec![0; count + 1])
 }
 
 /// A scratch cell that every second, third, ... iteration sets and all read.
 fn scratch_set_now_and_then(rng: &mut Rng, count: usize) -> Drawn {
-    let clause = clause(rng, "z");
+    let clauses = clauses(rng, "z");
     let every = rng.between(2, 5);
     let at = rng.between(0, every - 1);
     let body = format!("if (i - i/{every}*{every} == {at}) then\nz = i\nend if\na(i) = z");
     let names = format!("z, a({count})");
-    let lines = lines(rng, &names, &clause, &format!("1, {count}"), &body);
+    let lines = lines(rng, &names, &clauses, &format!("1, {count}"), &body);
     (lines, vec![0; count + 1])
 }
 
 /// One iteration writes a cell and one of its neighbours reads it; no others meet.
 fn one_meeting(rng: &mut Rng, count: usize) -> Drawn {
-    let clause = clause(rng, "z");
+    let clauses = clauses(rng, "z");
     let at = rng.between(1, count as i64);
     let other = at + rng.pick(&[-1, 1, 1, 2]);
     let body = format!(
         "a(i) = i\nif (i == {at}) then\nz = 7\nend if\nif (i == {other}) then\na(i) = z\nend if"
     );
     let names = format!("z, a({count})");
-    let lines = lines(rng, &names, &clause, &format!("1, {count}"), &body);
+    let lines = lines(rng, &names, &clauses, &format!("1, {count}"), &body);
     (lines, vec![0; count + 1])
 }
 
 /// Runs of neighbours share a cell each.
 fn cells_in_runs(rng: &mut Rng, count: usize) -> Drawn {
-    let clause = clause(rng, "a");
+    let clauses = clauses(rng, "a");
     let body = rng.pick(&[
         "a(k(i)) = a(k(i))*2 + i",
         "a(k(i)) = i",
@@ -120,22 +111,23 @@ fn cells_in_runs(rng: &mut Rng, count: usize) -> Drawn {
     }
     index.truncate(count);
     let names = format!("a({count}), k({count})");
-    let lines = lines(rng, &names, &clause, &format!("1, {count}"), body);
+    let lines = lines(rng, &names, &clauses, &format!("1, {count}"), body);
     let lines = with_data(lines, "k", &index);
     (lines, [vec![0; count], index].concat())
 }
 
 /// A value kept in one cell by ordinary assignments.
 fn running_value(rng: &mut Rng, count: usize) -> Drawn {
-    let clause = clause(rng, "s");
+    let clauses = clauses(rng, "s");
     let body = rng.pick(&[
         "s = i + s",
+        "s = s - 2*i",
         "s = s*3 + i",
         "s = (s) - i",
         "s = i - s",
         "s = i",
     ]);
-    let lines = lines(rng, "s", &clause, &format!("1, {count}"), body);
+    let lines = lines(rng, "s", &clauses, &format!("1, {count}"), body);
     (lines, vec![0])
 }
 
@@ -147,24 +139,18 @@ fn sum_meets_once(rng: &mut Rng, count: usize) -> Drawn {
     let body = format!("if (i == {at}) then\n{access}\nelse\ns = s {sign} i\nend if");
     let names = format!("s, a({count})");
     let bounds = format!("1, {count}");
-    let lines = lines(rng, &names, "reduction(+:s)", &bounds, &body);
+    let clauses = ["reduction(+:s)".to_string()];
+    let lines = lines(rng, &names, &clauses, &bounds, &body);
     (lines, vec![0; count + 1])
 }
 
 /// A subscript that each iteration takes from the one before: at entry it is outside the array, so a
 /// block that does not set it first stops at a fault.
 fn subscript_carried(rng: &mut Rng, count: usize) -> Drawn {
-    let clause = clause(rng, "k");
+    let clauses = clauses(rng, "k");
     let every = rng.between(2, 6);
     let body = format!("if (i - i/{every}*{every} == 1) then\nk = i\nend if\na(k) = i");
     let names = format!("k, a({count})");
-    let lines = lines(rng, &names, &clause, &format!("1, {count}"), &body);
+    let lines = lines(rng, &names, &clauses, &format!("1, {count}"), &body);
     (lines, vec![0; count + 1])
-}
-
-/// The lines with data for one name.
-fn with_data(mut lines: Vec<String>, name: &str, values: &[i32]) -> Vec<String> {
-    let values: Vec<String> = values.iter().map(i32::to_string).collect();
-    lines.insert(1, format!("data {name} /{}/", values.join(", ")));
-    lines
 }

@@ -19,7 +19,7 @@ pub fn bytes(rng: &mut Rng) -> Vec<u8> {
 
 /// Tokens of the language in any order, a few to a line.
 pub fn soup(rng: &mut Rng) -> Vec<u8> {
-    const TOKENS: [&str; 51] = [
+    const TOKENS: [&str; 54] = [
         "integer",
         "data",
         "do",
@@ -63,6 +63,9 @@ pub fn soup(rng: &mut Rng) -> Vec<u8> {
         "num_threads",
         "shared",
         "lastprivate",
+        "firstprivate",
+        "firstprivate(a)",
+        "lastprivate(a)",
         "reduction",
         "schedule",
         "static",

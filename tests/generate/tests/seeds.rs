@@ -1,15 +1,17 @@
 //! The same seed gives the same cases.
 
-use generate::{damage, hostile, lend, neighbours, noise, Knobs, Loop, Rng};
+use generate::layout::split_tokens;
+use generate::{copies, damage, hostile, lend, neighbours, noise, Copied, Knobs, Loop, Rng};
 
 /// Texts of all kinds and a schedule, and cells.
-fn draw(seed: u64) -> ([Vec<u8>; 6], Vec<i32>) {
+fn draw(seed: u64) -> ([Vec<u8>; 7], Vec<i32>) {
     let mut rng = Rng::new(seed);
     let knobs = Knobs::mixed(&mut rng);
     let good = Loop::random(&mut rng, &knobs).text();
     let drawn = [
         hostile::hostile(&mut rng).text(),
         neighbours::neighbours(&mut rng).text(),
+        copies::copies(&mut rng).text(),
         damage::damage(&good, &mut rng),
         noise::soup(&mut rng),
         noise::bytes(&mut rng),
@@ -49,6 +51,7 @@ fn the_clause_changes_one_line() {
             Loop::random(&mut rng, &knobs),
             hostile::hostile(&mut rng),
             neighbours::neighbours(&mut rng),
+            copies::copies(&mut rng),
         ] {
             let [with, without] = [true, false].map(|by_blocks| {
                 let text = drawn.with_blocks(by_blocks).text();
@@ -58,11 +61,63 @@ fn the_clause_changes_one_line() {
             let differing: Vec<_> = pairs.filter(|(one, other)| one != other).collect();
             assert_eq!(with.lines().count(), without.lines().count());
             assert_eq!(differing.len(), 1);
-            let tokens = |line| generate::layout::split_tokens(line).len();
+            let tokens = |line| split_tokens(line).len();
             let (one, other) = differing[0];
             assert_eq!(tokens(one), tokens(other) + 4);
         }
     }
+}
+
+/// The names in the clauses of this word, in some order.
+fn listed(directive: &str, word: &str) -> Vec<String> {
+    let tokens = split_tokens(directive);
+    let mut names = Vec::new();
+    for clause in tokens[3..].split(|token| *token == ")") {
+        if clause.first() == Some(&word) {
+            let list = clause[2..].iter().filter(|token| **token != ",");
+            names.extend(list.map(|name| name.to_string()));
+        }
+    }
+    names.sort();
+    names
+}
+
+/// With all names copied in, the lists of `firstprivate` and `lastprivate` agree; with none there is no
+/// `firstprivate`; as drawn, there are some or all of them. Nothing else of the text changes.
+#[test]
+fn copies_change_one_line() {
+    let mut partly = 0;
+    for seed in 0..200 {
+        let mut rng = Rng::new(seed);
+        let knobs = Knobs::mixed(&mut rng);
+        for drawn in [
+            Loop::random(&mut rng, &knobs),
+            hostile::hostile(&mut rng),
+            neighbours::neighbours(&mut rng),
+            copies::copies(&mut rng),
+        ] {
+            let texts = [Copied::None, Copied::AsDrawn, Copied::All].map(|copied| {
+                let text = drawn.with_copied(copied).text();
+                String::from_utf8(text).unwrap().to_lowercase()
+            });
+            let directives = texts.each_ref().map(|text| {
+                let is_directive = |line: &&str| line.trim_start().starts_with("!$omp ");
+                text.lines().find(is_directive).unwrap()
+            });
+            let rest = |place: usize| texts[place].replacen(directives[place], "", 1);
+            assert!(rest(0) == rest(1) && rest(1) == rest(2));
+            let last = directives.map(|line| listed(line, "lastprivate"));
+            assert!(last[0] == last[1] && last[1] == last[2]);
+            let first = directives.map(|line| listed(line, "firstprivate"));
+            assert_eq!(first[0].len(), 0);
+            assert!(first[1].iter().all(|name| last[1].contains(name)));
+            assert_eq!(first[2], last[2]);
+            assert_eq!(drawn.has_copied(), !first[1].is_empty());
+            assert_eq!(drawn.has_plain(), first[1] != last[1]);
+            partly += u32::from(drawn.has_copied() && drawn.has_plain());
+        }
+    }
+    assert!(partly > 50);
 }
 
 /// The clause is frequent, and its words are now and then names.
@@ -80,6 +135,23 @@ fn the_clause_is_frequent() {
     }
     println!("with the clause, with its words as names: {counts:?}");
     assert!(counts[0] > 350 && counts[1] > 50);
+}
+
+/// Names in both clauses are frequent, and the word `firstprivate` is now and then a name.
+#[test]
+fn copies_are_frequent() {
+    let mut counts = [0; 3];
+    for seed in 0..1000 {
+        let mut rng = Rng::new(seed);
+        let knobs = Knobs::mixed(&mut rng);
+        let drawn = Loop::random(&mut rng, &knobs);
+        let text = String::from_utf8(drawn.with_copied(Copied::None).text()).unwrap();
+        counts[0] += u32::from(drawn.has_copied());
+        counts[1] += u32::from(drawn.has_plain());
+        counts[2] += u32::from(text.to_lowercase().contains("firstprivate"));
+    }
+    println!("with copied names, with plain ones, with the word as a name: {counts:?}");
+    assert!(counts[0] > 350 && counts[1] > 250 && counts[2] > 20);
 }
 
 #[test]

@@ -1,7 +1,8 @@
 //! The program that the lines so far make. Lines are added once they are judged.
 
+use crate::names_limits::class_of;
 use crate::program::{Action, Declared, Place, Program, Statement};
-use crate::syntax::{Assignment, Class, Condition, Form, Grouping, Item};
+use crate::syntax::{Assignment, Class, Clause, Condition, Form, Grouping, Item};
 
 /// What the lines so far have said.
 #[derive(Default)]
@@ -87,12 +88,9 @@ impl Draft {
         self.names[index].data = Some(values);
     }
 
-    fn classify(&mut self, lists: &[(Class, Vec<String>)]) {
-        for (class, names) in lists {
-            for name in names {
-                let index = self.find(name).expect("a known name");
-                self.names[index].class = *class;
-            }
+    fn classify(&mut self, lists: &[(Clause, Vec<String>)]) {
+        for declared in &mut self.names {
+            declared.class = class_of(&declared.name, lists).expect("clauses that go together");
         }
     }
 

@@ -1,4 +1,4 @@
-//! An interpreter of document 01 and of document 02, Points 1 to 3, written apart from the product and
+//! An interpreter of document 01 and of document 02, Points 1 to 5, written apart from the product and
 //! for obviousness: bytes, lines, tokens, a tree, names and limits, then evaluation with the whole list
 //! of accesses kept. Marks, obstacles, private values, sums and counts are taken from that list as
 //! the documents word them.

@@ -4,8 +4,8 @@
 use crate::draft::Draft;
 use crate::program::Place;
 use crate::syntax::{
-    Assignment, Class, Condition, Expression, Factor, Form, Item, Named, Signed, Term, Update,
-    Written,
+    Assignment, Class, Clause, Condition, Expression, Factor, Form, Item, Named, Signed, Term,
+    Update, Written,
 };
 
 /// "Limits: literals to 2,147,483,647; names 16; array length 1 to 4,096; N to 4,096; P 1 to 8;
@@ -55,12 +55,28 @@ impl Draft {
     }
 
     /// "name unknown, [...] in two clauses or twice in one" (READING 33)
-    fn lists_hold(&self, lists: &[(Class, Vec<String>)]) -> bool {
-        let names: Vec<&str> = lists
-            .iter()
-            .flat_map(|(_, names)| names.iter().map(String::as_str))
-            .collect();
-        all_different(&names) && names.iter().all(|name| self.find(name).is_some())
+    fn lists_hold(&self, lists: &[(Clause, Vec<String>)]) -> bool {
+        let mut names = lists.iter().flat_map(|(_, names)| names);
+        names.all(|name| self.find(name).is_some() && class_of(name, lists).is_some())
+    }
+}
+
+/// The class of a name by all the clauses it stands in, each as often as it does; `None` gives number 3.
+/// Document 02, Point 5: "A name in firstprivate alone is 3 at the directive; two clauses are no fault for
+/// this pair" (P5.1, P5.2).
+pub fn class_of(name: &str, lists: &[(Clause, Vec<String>)]) -> Option<Class> {
+    let places = |(clause, names): &(Clause, Vec<String>)| {
+        let times = names.iter().filter(|one| *one == name).count();
+        vec![*clause; times]
+    };
+    let clauses: Vec<Clause> = lists.iter().flat_map(places).collect();
+    match clauses[..] {
+        [] | [Clause::Shared] => Some(Class::Shared),
+        [Clause::Lastprivate] => Some(Class::Lastprivate),
+        [Clause::Firstprivate, Clause::Lastprivate]
+        | [Clause::Lastprivate, Clause::Firstprivate] => Some(Class::CopyIn),
+        [Clause::Reduction] => Some(Class::Reduction),
+        _ => None,
     }
 }
 

@@ -1,5 +1,6 @@
-//! Document 01, "Obstacles", cell by cell. Document 02, Point 3: in a text with its clause "marks and
-//! obstacles are by block", so a block stands for "iteration" in each sentence (P3.8).
+//! Document 01, "Obstacles", cell by cell, and document 02, Point 5, for names in two clauses. Point 3: in
+//! a text with its clause "marks and obstacles are by block", so a block stands for "iteration" in each
+//! sentence (P3.8).
 
 use crate::accesses::{by_cell, visits, Access, Visit};
 use crate::groups::group_of;
@@ -23,6 +24,7 @@ pub fn has_obstacle(class: Class, visits: &[Visit]) -> bool {
         // "shared: one iteration writes it and a different one reads or writes it"
         Class::Shared => written_and_elsewhere(visits, |visit| visit.reads() || visit.writes()),
         Class::Lastprivate => used_before_written(visits),
+        Class::CopyIn => used_above_a_writer(visits),
         // "reduction: it has an update and an ordinary access, even in one iteration": whatever the
         // groups, and so with one processor too (P3.8)
         Class::Reduction => {
@@ -37,6 +39,16 @@ pub fn has_obstacle(class: Class, visits: &[Visit]) -> bool {
 /// one reads it before writing it" (READING 83, 84)
 fn used_before_written(visits: &[Visit]) -> bool {
     written_and_elsewhere(visits, Visit::reads_before_writing)
+}
+
+/// Point 5: "Its obstacle is only that an iteration reads it before writing it and a lower-numbered
+/// iteration writes it, whichever of the two steps came first." (P5.3, P5.4, P5.6)
+fn used_above_a_writer(visits: &[Visit]) -> bool {
+    let readers = || visits.iter().filter(|visit| visit.reads_before_writing());
+    visits
+        .iter()
+        .filter(|visit| visit.writes())
+        .any(|writer| readers().any(|reader| writer.group.start < reader.group.start))
 }
 
 /// "one iteration writes it and a different one" does `what`: iterations, not processors
@@ -81,6 +93,39 @@ mod tests {
         assert!(of(Class::Lastprivate, &[&[Read], &[Write]]));
         assert!(of(Class::Lastprivate, &[&[Read, Write], &[Read, Write]]));
         assert!(of(Class::Lastprivate, &[&[Write], &[Read, Write]]));
+    }
+
+    #[test]
+    fn copy_in_cells() {
+        assert!(!of(Class::CopyIn, &[&[Read], &[Read], &[Write], &[Write]]));
+        assert!(!of(
+            Class::CopyIn,
+            &[&[Read], &[Read, Write], &[Write, Read]]
+        ));
+        assert!(!of(Class::CopyIn, &[&[Read, Write]]));
+        assert!(of(Class::CopyIn, &[&[Write], &[Read]]));
+        assert!(of(Class::CopyIn, &[&[Read, Write], &[Read, Write]]));
+        assert!(of(Class::CopyIn, &[&[Read], &[Write], &[Write], &[Read]]));
+    }
+
+    /// "The record of a cell now holds the lowest-numbered iteration that writes it and the
+    /// highest-numbered that so reads it": all lists of four iterations (P5.7).
+    #[test]
+    fn copy_in_cells_by_their_record() {
+        const DONE: [&[Kind]; 5] = [&[], &[Read], &[Write], &[Read, Write], &[Write, Read]];
+        for number in 0..DONE.len().pow(4) {
+            let visits: Vec<&[Kind]> = (0..4u32)
+                .map(|iteration| DONE[number / DONE.len().pow(iteration) % DONE.len()])
+                .collect();
+            let lowest_writer = visits.iter().position(|kinds| kinds.contains(&Write));
+            let highest_reader = visits
+                .iter()
+                .rposition(|kinds| kinds.first() == Some(&Read));
+            let above = lowest_writer
+                .zip(highest_reader)
+                .is_some_and(|(writer, reader)| reader > writer);
+            assert_eq!(of(Class::CopyIn, &visits), above, "{visits:?}");
+        }
     }
 
     #[test]

@@ -3,8 +3,8 @@
 
 use crate::lines::{Broken, Line};
 use crate::syntax::{
-    Assignment, Class, Condition, Expression, Factor, Form, Grouping, Item, Joint, Named, Relation,
-    Scaling, Signed, Term, Update, Written,
+    Assignment, Clause, Condition, Expression, Factor, Form, Grouping, Item, Joint, Named,
+    Relation, Scaling, Signed, Term, Update, Written,
 };
 use crate::tokens::{literal_value, same_token, split_tokens, Token};
 
@@ -305,7 +305,8 @@ impl Cursor<'_> {
 
     /// "`num_threads(p)` exactly once, and any of `shared(list)`, `lastprivate(list)`,
     /// `reduction(+:list)`, repeated or not. No commas stand between clauses" (READING 26, 27, 32);
-    /// document 02, Point 3: "the clause `schedule(static)`, at most once" (P3.1 to P3.3).
+    /// document 02, Point 3: "the clause `schedule(static)`, at most once" (P3.1 to P3.3); Point 5:
+    /// `firstprivate(list)` as the others (P5.1).
     fn clauses(&mut self) -> Result<Form, Broken> {
         let mut threads = Vec::new();
         let mut lists = Vec::new();
@@ -314,12 +315,13 @@ impl Cursor<'_> {
             self.expect_sign("(")?;
             match token {
                 Token::Word("num_threads") => threads.push(self.literal()?),
-                Token::Word("shared") => lists.push((Class::Shared, self.names()?)),
-                Token::Word("lastprivate") => lists.push((Class::Lastprivate, self.names()?)),
+                Token::Word("shared") => lists.push((Clause::Shared, self.names()?)),
+                Token::Word("firstprivate") => lists.push((Clause::Firstprivate, self.names()?)),
+                Token::Word("lastprivate") => lists.push((Clause::Lastprivate, self.names()?)),
                 Token::Word("reduction") => {
                     self.expect_sign("+")?;
                     self.expect_sign(":")?;
-                    lists.push((Class::Reduction, self.names()?));
+                    lists.push((Clause::Reduction, self.names()?));
                 }
                 Token::Word("schedule") => {
                     self.expect_word("static")?;

@@ -32,7 +32,7 @@ pub struct Declared {
     pub length: usize,
     /// Whether it has a length and needs a subscript; `a(1)` is an array too (READING 31).
     pub is_array: bool,
-    /// The clause it stands in.
+    /// How its cells are treated.
     pub class: Class,
     /// The values of its data line, if it has one.
     pub data: Option<Vec<i32>>,

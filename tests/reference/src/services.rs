@@ -8,9 +8,10 @@ use crate::steps::Speculation;
 use crate::trial::Trial;
 use crate::{Answer, Refusal};
 
-/// "workspace under 4,352 + 64 × P + N × (4 + 6 × P) words of 32 bits" is 6.
+/// "workspace under" so many "words of 32 bits" is 6. Document 02, Point 5: it "becomes 4,352 + 64 × P +
+/// N × (4 + 8 × P) words", for every text (P5.8).
 pub fn workspace_needed(cells: usize, processors: usize) -> usize {
-    4352 + 64 * processors + cells * (4 + 6 * processors)
+    4352 + 64 * processors + cells * (4 + 8 * processors)
 }
 
 /// "Check takes the text and answers N and P."

@@ -191,7 +191,8 @@ impl Worker<'_> {
 
     /// "Shared cells are read and written in place. Other cells are read as written earlier in this
     /// iteration, else as at entry"; an update by the same iteration is not seen (READING 74). Document
-    /// 02, Point 3: "private reads give what the block wrote before, else the entry value" (P3.6).
+    /// 02, Point 3: "private reads give what the block wrote before, else the entry value" (P3.6). Copy-in
+    /// cells are read as lastprivate ones (P5.5).
     fn look_up(&self, cell: usize) -> i32 {
         if self.classes[cell] == Class::Shared {
             return self.shared[cell];

@@ -1,13 +1,24 @@
 //! The form of one line as a tree. The type `N` of a name is `String` as written, and
 //! [`crate::program::Place`] once it is known what the name stands for.
 
-/// How the cells of a name are treated: which clause it stands in.
+/// A clause that lists names.
+#[derive(Debug, Clone, Copy, PartialEq, Eq)]
+pub enum Clause {
+    Shared,
+    Firstprivate,
+    Lastprivate,
+    Reduction,
+}
+
+/// How the cells of a name are treated, by the clauses it stands in.
 #[derive(Debug, Clone, Copy, PartialEq, Eq)]
 pub enum Class {
     /// "A name in no clause is shared."
     Shared,
-    /// In a `lastprivate` clause.
+    /// In a `lastprivate` clause alone.
     Lastprivate,
+    /// Document 02, Point 5: "A name may stand in `firstprivate` and `lastprivate` together."
+    CopyIn,
     /// In a `reduction` clause.
     Reduction,
 }
@@ -46,7 +57,7 @@ pub enum Form {
     Directive {
         processors: u64,
         grouping: Grouping,
-        lists: Vec<(Class, Vec<String>)>,
+        lists: Vec<(Clause, Vec<String>)>,
     },
     /// `do v = m, n`
     Do {

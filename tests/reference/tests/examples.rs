@@ -183,6 +183,49 @@ fn one_block() {
     assert_eq!(tried.marks, [5, 8, 5, 10, 1]);
 }
 
+/// Document 02, Point 5: "whichever of the two steps came first". z is read by one iteration and written by
+/// the other; each of the two processors takes all its steps first.
+#[test]
+fn the_order_of_the_two_steps_is_no_matter() {
+    let read_first = "if (i == 1) then\na = z\nelse\nz = 7\nend if";
+    let written_first = "if (i == 1) then\nz = 7\nelse\na = z\nend if";
+    for (body, obstacle) in [(read_first, false), (written_first, true)] {
+        let clauses = "num_threads(2) firstprivate(z) lastprivate(z)";
+        let text = text("z, a", clauses, "1, 2", body);
+        let mut firsts = Vec::new();
+        for schedule in [[0; 3], [1; 3]] {
+            let tried = trial(text.as_bytes(), &[3, 0], ENOUGH, &schedule).unwrap();
+            assert_eq!(tried.obstacles, [obstacle, false]);
+            // As at entry, also where the write came first.
+            assert_eq!(tried.shared, [3, 3]);
+            assert_eq!(tried.marks, [3, 1]);
+            let of_z = tried.accesses.iter().find(|access| access.cell == 0);
+            firsts.push(of_z.unwrap().kind);
+        }
+        firsts.sort();
+        assert_eq!(firsts, [Kind::Read, Kind::Write]);
+    }
+}
+
+/// Three processors, two iterations each: z is read by all and written by the last two, y is handed on.
+#[test]
+fn what_a_trial_with_copies_leaves() {
+    let body = "a(i) = z\nif (i > 4) then\nz = 10*i\nend if\ny = y + i";
+    let clauses = "num_threads(3) firstprivate(y, z) lastprivate(z, y)";
+    let text = text("z, y, a(6)", clauses, "1, 6", body);
+    let lent = [7, 100, 0, 0, 0, 0, 0, 0];
+    let tried = trial(text.as_bytes(), &lent, ENOUGH, &[2, 2, 2, 2, 0, 1]).unwrap();
+    assert_eq!(tried.shared, [7, 100, 7, 7, 7, 7, 7, 7]);
+    let of =
+        |cell: usize| -> Vec<_> { tried.private.iter().map(|private| private[cell]).collect() };
+    assert_eq!(of(0), [None, None, Some((5, 60))]);
+    assert_eq!(of(1), [Some((1, 102)), Some((3, 104)), Some((5, 106))]);
+    assert_eq!(tried.marks, [7, 5, 1, 1, 1, 1, 1, 1]);
+    // The sixth iteration reads z, which the fifth writes.
+    assert_eq!(tried.obstacles[..3], [true, true, false]);
+    assert_eq!((tried.pairs, tried.cells), (14, 8));
+}
+
 #[test]
 fn what_a_serial_run_lists() {
     let body = "s = s + a(i)\na(i) = s";

@@ -3,6 +3,7 @@
 use std::path::{Path, PathBuf};
 use std::process::{Command, Stdio};
 
+use generate::copies::copies;
 use generate::hostile::hostile;
 use generate::tables::runs;
 use generate::{lend, Knobs, Loop, Rng};
@@ -95,11 +96,13 @@ fn compare_random(seeds: std::ops::Range<u64>, folder: &Path) -> usize {
     let mut compared = 0;
     for seed in seeds {
         let mut rng = Rng::new(seed);
-        let drawn = if rng.chance(20) {
-            hostile(&mut rng)
-        } else {
-            let knobs = Knobs::mixed(&mut rng);
-            Loop::random(&mut rng, &knobs)
+        let drawn = match rng.below(10) {
+            0 | 1 => hostile(&mut rng),
+            2 | 3 => copies(&mut rng),
+            _ => {
+                let knobs = Knobs::mixed(&mut rng);
+                Loop::random(&mut rng, &knobs)
+            }
         };
         let cells = if rng.chance(70) {
             drawn.cells.clone()

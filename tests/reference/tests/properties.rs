@@ -1,15 +1,17 @@
 //! Properties of many random loops, and of texts that are no loops.
 
+use generate::copies::copies;
 use generate::damage::damage;
 use generate::hostile::hostile;
 use generate::neighbours::neighbours;
-use generate::{lend, noise, Knobs, Loop, Rng};
+use generate::{lend, noise, Copied, Knobs, Loop, Rng};
+use reference::syntax::Class;
 use reference::{
-    check, load, look, lrpd, read, run, serial, serial_before_minus_updates, stepped, trial,
-    workspace_needed, Answer, Refusal, Serial, Speculation, Trial,
+    check, load, look, lrpd, read, run, serial, serial_before_minus_updates, share, stepped, trial,
+    workspace_needed, Answer, Kind, Refusal, Serial, Speculation, Trial,
 };
 
-const LOOPS: u64 = 3500;
+const LOOPS: u64 = 4000;
 
 /// A loop and cells to lend for a seed: mostly those of its data, sometimes anything.
 fn draw(seed: u64) -> (Loop, Vec<i32>, Rng) {
@@ -17,6 +19,7 @@ fn draw(seed: u64) -> (Loop, Vec<i32>, Rng) {
     let drawn = match rng.below(20) {
         0..=4 => hostile(&mut rng),
         5..=7 => neighbours(&mut rng),
+        8..=10 => copies(&mut rng),
         _ => {
             let knobs = Knobs::mixed(&mut rng);
             Loop::random(&mut rng, &knobs)
@@ -161,6 +164,75 @@ fn many_processors_test_by_iterations() {
         compared += 1;
     }
     assert!(compared > 1000);
+}
+
+/// Document 02, Point 5: a name in both clauses changes the word alone, and what passes with fewer such names
+/// passes with more.
+#[test]
+fn copies_change_the_word_alone() {
+    let mut turned = [0; 2];
+    for (seed, drawn, lent, _) in loops() {
+        let texts = [Copied::None, Copied::AsDrawn, Copied::All]
+            .map(|copied| drawn.with_copied(copied).text());
+        // Too long with the clauses: nothing to compare.
+        if texts.iter().any(|text| text.len() > 2048) {
+            continue;
+        }
+        let ran = texts.map(|text| serial(&text, &lent).unwrap());
+        for (fewer, more, place) in [(&ran[0], &ran[1], 0), (&ran[1], &ran[2], 1)] {
+            assert_eq!(fewer.ending(), more.ending(), "seed {seed}");
+            assert!(!fewer.passes() || more.passes(), "seed {seed}");
+            turned[place] += u32::from(more.passes() && !fewer.passes());
+        }
+    }
+    println!("rerun and then passed, as drawn and by all names: {turned:?}");
+    assert!(turned[0] > 200 && turned[1] > 70);
+}
+
+/// Document 02, Point 5: "The record of a cell now holds the lowest-numbered iteration that writes it and the
+/// highest-numbered that so reads it; with Point 3's clause, blocks." Kept access by access in the order of
+/// the schedule, it tells the obstacle of a copy-in cell (P5.7).
+#[test]
+fn the_record_of_a_cell_tells_its_obstacle() {
+    let mut met = [0; 2];
+    for (seed, drawn, lent, mut rng) in loops() {
+        let text = drawn.text();
+        let program = read(&text).unwrap();
+        let number = |iteration: u32| match drawn.by_blocks {
+            false => iteration as usize,
+            true => (0..drawn.processors)
+                .find(|&p| {
+                    share(program.iteration_count(), p, program.processors).contains(&iteration)
+                })
+                .unwrap(),
+        };
+        let schedule = lend::schedule(&mut rng, drawn.processors);
+        let trial = trial(&text, &lent, usize::MAX, &schedule).unwrap();
+        let mut writers = vec![Vec::new(); lent.len()];
+        let mut lowest_writer = vec![usize::MAX; lent.len()];
+        let mut highest_reader = vec![None; lent.len()];
+        for access in &trial.accesses {
+            let (cell, by) = (usize::from(access.cell), number(access.iteration));
+            match access.kind {
+                Kind::Read if !writers[cell].contains(&by) => {
+                    highest_reader[cell] = highest_reader[cell].max(Some(by));
+                }
+                Kind::Write => {
+                    writers[cell].push(by);
+                    lowest_writer[cell] = lowest_writer[cell].min(by);
+                }
+                _ => {}
+            }
+        }
+        let classes = program.cell_classes();
+        for cell in (0..lent.len()).filter(|&cell| classes[cell] == Class::CopyIn) {
+            let above = highest_reader[cell].is_some_and(|reader| reader > lowest_writer[cell]);
+            assert_eq!(trial.obstacles[cell], above, "seed {seed}\n{}", show(&text));
+            met[usize::from(above)] += 1;
+        }
+    }
+    println!("copy-in cells without and with an obstacle: {met:?}");
+    assert!(met[0] > 5000 && met[1] > 400);
 }
 
 /// Document 02, Point 1: "their cells are the serial run's as before"; so are counts and faults (P1.8).
@@ -321,4 +393,30 @@ fn any_bytes_get_an_answer() {
     }
     println!("good, 1, 2, 3, 4: {refused:?}");
     assert!(refused.iter().all(|&count| count > 10));
+}
+
+/// Damaged directives with `firstprivate` in them end in every way.
+#[test]
+fn damaged_clauses_end_in_every_way() {
+    let mut ends = [0; 5];
+    for seed in 0..20_000u64 {
+        let (drawn, _, mut rng) = draw(seed);
+        let text = damage(&drawn.text(), &mut rng);
+        let shown = show(&text).to_lowercase();
+        let place = shown
+            .lines()
+            .position(|line| line.contains("!$omp parallel do") && line.contains("firstprivate"));
+        let Some(place) = place else {
+            continue;
+        };
+        match check(&text) {
+            Ok(_) => ends[0] += 1,
+            Err(refusal) if refusal.line as usize == place + 1 => {
+                ends[refusal.number as usize] += 1;
+            }
+            Err(_) => {}
+        }
+    }
+    println!("directives with firstprivate: good, 1, 2, 3, 4: {ends:?}");
+    assert!(ends[0] > 1000 && ends[2] > 500 && ends[3] > 500 && ends[4] > 10);
 }

@@ -3,7 +3,7 @@ use native.Mathlib.Omega.{arith}
 use Prim.Native.Nat.{_-_}
 use lib.ListN.{length}
 use borrow.Author.Needs.{needs}
-use Rattle.clauses.proofs.NamesClaimed.{claims-last, claims-more, claims-onward}
+use Rattle.clauses.proofs.ClaimsRead.{claims-last, claims-more, claims-onward}
 use Rattle.heading.proofs.Lists.{keeps-on}
 use Prim.Native.Nat.{ℕ, _<_}
 use borrow.Fn.Kinds.{In}
@@ -64,7 +64,7 @@ claims-returns : (t : ℕ) → claims-lts.Need-returns (
   claims.Post,
 ) (claims-at t) claims.Post
 claims-returns t c = (
-  claims-last _ _ _ (c .before .before .before .before .before .before .args .kind) _ _ (c .before .before .before .claim-at .result)
+  claims-last (c .before .before .before .before .before .before .args .deed) _ _ _ _ _ (c .before .before .before .claim-at .result)
       (c .before .before .before .claim-at .ensures .0) _ (c .before .pass .ensures) (c .if1 .taken),
   c .before .before .before .claim-at .ensures .1,
 )
@@ -78,7 +78,7 @@ claims-claims-requires : (t : ℕ) → claims-lts.Need-claims-requires (
   claims.Post,
 ) (claims-at t) claims.Post
 claims-claims-requires t c κs = (
-  claims-onward _ _ _ (c .before .before .before .before .before .before .before .args .kind) _ _
+  claims-onward (c .before .before .before .before .before .before .before .args .deed) _ _ _ _ _
       (c .before .before .before .before .claim-at .result) (c .before .before .before .before .claim-at .ensures .0) _
       (c .before .before .pass .ensures) (c .before .before .before .before .before .before .before .pre .1 .1)
       (c .before .before .before .before .before .before .before .pre .0) (omega arith),
@@ -94,7 +94,7 @@ claims-returns-2 : (t : ℕ) → claims-lts.Need-returns-2 (
   claims.Post,
 ) (claims-at t) claims.Post
 claims-returns-2 t c = (
-  claims-more _ _ _ (c .before .before .before .before .before .before .before .before .args .kind) _ _
+  claims-more (c .before .before .before .before .before .before .before .before .args .deed) _ _ _ _ _
       (c .before .before .before .before .before .claim-at .result) (c .before .before .before .before .before .claim-at .ensures .0) _
       (c .before .before .before .pass .ensures) (omega arith) _ _ (c .claims .ensures .0),
   (keeps-on _ _ _ (c .before .before .before .before .before .claim-at .ensures .1 .0) (c .claims .ensures .1 .0), c .claims .ensures .1 .1),

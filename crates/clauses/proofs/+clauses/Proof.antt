@@ -17,7 +17,7 @@ use Rattle.clauses.proofs.+clauses.{statement}
 use Rattle.clauses.proofs.+clauses.Tie.{close}
 
 abbrev μ-clauses : Measures 2 clauses-kinds.ps ℕ
-μ-clauses κs a = length (a .0 .now) - a .1 .1 .0 .next
+μ-clauses κs a = length (a .0 .now) - a .1 .1 .1 .0 .next
 
 abbrev clauses-at : ℕ → In 2 clauses-kinds.ps
 clauses-at t = and 2 clauses-kinds.ps (is 2 clauses-kinds.ps μ-clauses t) clauses.Pre
@@ -25,7 +25,7 @@ clauses-at t = and 2 clauses-kinds.ps (is 2 clauses-kinds.ps μ-clauses t) claus
 abbrev clauses-below : ℕ → In 2 clauses-kinds.ps
 clauses-below t = and 2 clauses-kinds.ps (falls 2 clauses-kinds.ps _<_ μ-clauses t) clauses.Pre
 
-clauses-add-t9 : (t : ℕ) → clauses-lts.Need-add-t9 (
+clauses-add-t10 : (t : ℕ) → clauses-lts.Need-add-t10 (
   is-end-reads.Asked,
   is-end-reads.Learnt,
   clause-at-reads.Asked,
@@ -33,7 +33,7 @@ clauses-add-t9 : (t : ℕ) → clauses-lts.Need-add-t9 (
   clauses-below t,
   clauses.Post,
 ) (clauses-at t) clauses.Post
-clauses-add-t9 t c = omega arith
+clauses-add-t10 t c = omega arith
 
 clauses-returns : (t : ℕ) → clauses-lts.Need-returns (
   is-end-reads.Asked,
@@ -43,7 +43,7 @@ clauses-returns : (t : ℕ) → clauses-lts.Need-returns (
   clauses-below t,
   clauses.Post,
 ) (clauses-at t) clauses.Post
-clauses-returns t c = (clauses-lost _ (c .before .before .args .before) _ (omega arith), (λ h. (h, refl), c .before .before .pre .1 .1))
+clauses-returns t c = (clauses-lost _ _ (c .before .before .args .before) _ (omega arith), (λ h. (h, refl), c .before .before .pre .1 .1))
 
 clauses-is-end-requires : (t : ℕ) → clauses-lts.Need-is-end-requires (
   is-end-reads.Asked,
@@ -64,7 +64,7 @@ clauses-returns-2 : (t : ℕ) → clauses-lts.Need-returns-2 (
   clauses.Post,
 ) (clauses-at t) clauses.Post
 clauses-returns-2 t c = (
-  clauses-done _ (c .before .before .before .before .args .before) _ (omega arith) (sym (c .before .is-end .ensures) ∙ c .if2 .taken),
+  clauses-done _ _ (c .before .before .before .before .args .before) _ (omega arith) (sym (c .before .is-end .ensures) ∙ c .if2 .taken),
   (λ h. (h, refl), c .before .before .before .before .pre .1 .1),
 )
 
@@ -88,7 +88,7 @@ clauses-returns-3 : (t : ℕ) → clauses-lts.Need-returns-3 (
 ) (clauses-at t) clauses.Post
 clauses-returns-3 t c =
     let one = c .before .before .clause-at in (
-      clauses-broken _ (c .before .before .before .before .before .before .before .before .args .before) _ _ (one .result) (omega arith)
+      clauses-broken _ _ (c .before .before .before .before .before .before .before .before .args .before) _ _ (one .result) (omega arith)
           (sym (c .before .before .before .before .before .is-end .ensures) ∙ c .before .before .before .before .if2 .left) (one .ensures .0)
           (omega arith),
       one .ensures .1 .0,
@@ -119,7 +119,7 @@ clauses-returns-4 : (t : ℕ) → clauses-lts.Need-returns-4 (
 clauses-returns-4 t c =
     let one = c .before .before .before .before .clause-at in
     let rest = c .clauses .ensures in (
-      clauses-more _ (c .before .before .before .before .before .before .before .before .before .before .args .before) _ _ (one .result) (omega arith)
+      clauses-more _ _ (c .before .before .before .before .before .before .before .before .before .before .args .before) _ _ (one .result) (omega arith)
           (sym (c .before .before .before .before .before .before .before .is-end .ensures)
           ∙ c .before .before .before .before .before .before .if2 .left)
           (one .ensures .0) (omega arith) (one .ensures .1 .1 (omega arith)) _ _ (rest .0),
@@ -137,7 +137,7 @@ pub +clauses-spec : {M : Type 1} → statement M
 )
     (clauses-at t)
     clauses.Post
-    (clauses-add-t9 t)
+    (clauses-add-t10 t)
     (clauses-returns t)
     (clauses-is-end-requires t)
     (clauses-returns-2 t)

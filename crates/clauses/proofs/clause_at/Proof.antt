@@ -37,7 +37,7 @@ returns c =
     let word = c5 .pass .ensures in
     let n = c3 .threads-at in
     let worst = c .before .ranked .ensures ∙ ap (λ (b : Bool). max (c8 .args .before .rank) (order true b)) (c .before .before .few .ensures) in (
-      once-more (c .again .ensures) refl (clause-threads _ _ (c8 .args .before) _ word (omega arith) _ _ _ (n .ensures) worst),
+      once-more (c .again .ensures) refl (clause-threads _ _ _ (c8 .args .before) _ word (omega arith) _ _ _ (n .ensures) worst),
       ((λ h. (h, refl), c8 .pre .1), λ l. strictly-on (goes-onward (n .ensures)) l (strictly (bytes "num_threads") (omega arith) word l)),
     )
 
@@ -61,7 +61,7 @@ returns-2 c =
     let word = c3 .pass2 .ensures in
     let r = c .before .static-at in (
       once-more refl (c .again2 .ensures)
-          (clause-static _ _ (c9 .args .before) _ (c6 .pass .ensures) (omega arith) _ word (omega arith) _ (r .ensures)),
+          (clause-static _ _ _ (c9 .args .before) _ (c6 .pass .ensures) (omega arith) _ word (omega arith) _ (r .ensures)),
       ((λ h. (h, refl), c9 .pre .1), λ l. strictly-on (goes-onward (r .ensures)) l (strictly (bytes "schedule") (omega arith) word l)),
     )
 
@@ -76,7 +76,7 @@ returns-3 c =
     let c6 = c3 .before .before .before in
     let c9 = c6 .before .before .before in
     let n = c .names-at in
-    let read = clause-names _ _ (c9 .args .before) _ (c6 .pass .ensures) (omega arith) _ (c3 .pass2 .ensures) (omega arith) _ (n .result) (n .ensures .0) in
+    let read = clause-names _ _ _ (c9 .args .before) _ (c6 .pass .ensures) (omega arith) _ (c3 .pass2 .ensures) (omega arith) _ (n .result) (n .ensures .0) in
     (read, n .ensures .1)
 
 pub clause-at-spec : {M : Type 1} → statement M

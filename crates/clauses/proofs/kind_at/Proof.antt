@@ -2,7 +2,7 @@
 use native.Mathlib.Omega.{arith}
 use Rattle.syntax.specs.Bytes.{bytes}
 use Rattle.lexer.proofs.Chains.{goes-onward, onward-both, strictly, strictly-on}
-use Rattle.clauses.proofs.ClausesRead.{kind-shared, kind-lastprivate, kind-reduction}
+use Rattle.clauses.proofs.ClauseWords.{kind-shared, kind-lastprivate, kind-firstprivate, kind-reduction}
 use borrow.Author.Needs.{needs}
 use Rattle.clauses.proofs.kind_at.Statement.{statement}
 use Rattle.clauses.proofs.kind_at.Tie as tie
@@ -58,6 +58,16 @@ slice-aggregate-pass-6 c = search needs
 pass-requires-6 : tie.Need-pass-requires-6
 pass-requires-6 c κs = search needs
 
+returns-3 : tie.Need-returns-3
+returns-3 c =
+    let c3 = c .before .before .before in
+    let c6 = c3 .before .before .before in
+    let c9 = c6 .before .before .before in
+    let word = c3 .pass5 .ensures in (
+      kind-firstprivate (c9 .pass .ensures) (omega arith) (c6 .pass3 .ensures) (omega arith) word (omega arith) (c .pass6 .ensures),
+      λ l. strictly-on (goes-onward (c .pass6 .ensures)) l (strictly (bytes "firstprivate") (omega arith) word l),
+    )
+
 slice-aggregate-pass-7 : tie.Need-slice-aggregate-pass-7
 slice-aggregate-pass-7 c = search needs
 
@@ -70,17 +80,30 @@ slice-aggregate-pass-8 c = search needs
 pass-requires-8 : tie.Need-pass-requires-8
 pass-requires-8 c κs = search needs
 
-returns-3 : tie.Need-returns-3
-returns-3 c =
+slice-aggregate-pass-9 : tie.Need-slice-aggregate-pass-9
+slice-aggregate-pass-9 c = search needs
+
+pass-requires-9 : tie.Need-pass-requires-9
+pass-requires-9 c κs = search needs
+
+slice-aggregate-pass-10 : tie.Need-slice-aggregate-pass-10
+slice-aggregate-pass-10 c = search needs
+
+pass-requires-10 : tie.Need-pass-requires-10
+pass-requires-10 c κs = search needs
+
+returns-4 : tie.Need-returns-4
+returns-4 c =
     let c4 = c .before .before .before .before in
     let c6 = c4 .before .before in
     let c9 = c6 .before .before .before in
     let c12 = c9 .before .before .before in
-    let word = c6 .pass5 .ensures in
-    let on = onward-both (goes-onward (c4 .pass6 .ensures))
-    (onward-both (goes-onward (c .before .before .pass7 .ensures)) (goes-onward (c .pass8 .ensures))) in (
-      kind-reduction (c12 .pass .ensures) (omega arith) (c9 .pass3 .ensures) (omega arith) word (c4 .pass6 .ensures)
-          (c .before .before .pass7 .ensures) (c .pass8 .ensures),
+    let c15 = c12 .before .before .before in
+    let word = c6 .pass7 .ensures in
+    let on = onward-both (goes-onward (c4 .pass8 .ensures))
+    (onward-both (goes-onward (c .before .before .pass9 .ensures)) (goes-onward (c .pass10 .ensures))) in (
+      kind-reduction (c15 .pass .ensures) (omega arith) (c12 .pass3 .ensures) (omega arith) (c9 .pass5 .ensures) (omega arith) word (c4 .pass8 .ensures)
+          (c .before .before .pass9 .ensures) (c .pass10 .ensures),
       λ l. strictly-on on l (strictly (bytes "reduction") (omega arith) word l),
     )
 
@@ -102,8 +125,13 @@ kind-at-spec =
     pass-requires-5
     slice-aggregate-pass-6
     pass-requires-6
+    returns-3
     slice-aggregate-pass-7
     pass-requires-7
     slice-aggregate-pass-8
     pass-requires-8
-    returns-3)
+    slice-aggregate-pass-9
+    pass-requires-9
+    slice-aggregate-pass-10
+    pass-requires-10
+    returns-4)

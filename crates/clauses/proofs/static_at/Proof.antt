@@ -1,5 +1,5 @@
 -- `clauses::static_at` meets its contract.
-use Rattle.clauses.proofs.ClausesRead.{static-read}
+use Rattle.clauses.proofs.ClauseWords.{static-read}
 use borrow.Author.Needs.{needs}
 use Rattle.clauses.proofs.static_at.Statement.{statement}
 use Rattle.clauses.proofs.static_at.Tie as tie

@@ -1,5 +1,5 @@
 -- `clauses::threads_at` meets its contract.
-use Rattle.clauses.proofs.ClausesRead.{threads-read}
+use Rattle.clauses.proofs.ClauseWords.{threads-read}
 use borrow.Author.Needs.{needs}
 use Rattle.clauses.proofs.threads_at.Statement.{statement}
 use Rattle.clauses.proofs.threads_at.Tie as tie

@@ -30,15 +30,22 @@ returns-2 c =
     let e : toZ w32 (ofZ w32 (c .before .last-value .result)) ≡ c .before .last-value .result = search needs in
     rw (e, c .before .last-value .ensures, ne-eqb _ _ (c .before .before .if1 .left), eq-eqb _ _ (c .if2 .taken))
 
+returns-3 : tie.Need-returns-3
+returns-3 c =
+    let d = c .before .before in
+    let e : toZ w32 (ofZ w32 (d .last-value .result)) ≡ d .last-value .result = search needs in
+    rw (e, d .last-value .ensures, ne-eqb _ _ (d .before .if1 .left), ne-eqb _ _ (c .before .if2 .left), eq-eqb _ _ (c .if3 .taken))
+
 total-requires : tie.Need-total-requires
 total-requires c κs = search needs
 
 add-requires : tie.Need-add-requires
 add-requires c κs = search needs
 
-returns-3 : tie.Need-returns-3
-returns-3 c =
-    let c3 = c .before .before .before in
+returns-4 : tie.Need-returns-4
+returns-4 c =
+    let c2 = c .before .before in
+    let c3 = c2 .before .before in
     let c4 = c3 .before in
     let c5 = c4 .before in
     let e : toZ w32 (ofZ w32 (c4 .last-value .result)) ≡ c4 .last-value .result = search needs in
@@ -53,18 +60,21 @@ returns-3 c =
       c .before .total .ensures,
       ne-eqb _ _ (c5 .if1 .left),
       ne-eqb _ _ (c3 .if2 .left),
-      eq-eqb _ _ (c .before .before .if3 .taken),
+      ne-eqb _ _ (c2 .before .if3 .left),
+      eq-eqb _ _ (c2 .if4 .taken),
     )
 
-returns-4 : tie.Need-returns-4
-returns-4 c =
-    let e : toZ w32 (ofZ w32 (c .before .before .last-value .result)) ≡ c .before .before .last-value .result = search needs in
+returns-5 : tie.Need-returns-5
+returns-5 c =
+    let d = c .before .before .before in
+    let e : toZ w32 (ofZ w32 (d .last-value .result)) ≡ d .last-value .result = search needs in
     rw (
       e,
-      c .before .before .last-value .ensures,
-      ne-eqb _ _ (c .before .before .before .if1 .left),
-      ne-eqb _ _ (c .before .if2 .left),
-      ne-eqb _ _ (c .if3 .left),
+      d .last-value .ensures,
+      ne-eqb _ _ (d .before .if1 .left),
+      ne-eqb _ _ (c .before .before .if2 .left),
+      ne-eqb _ _ (c .before .if3 .left),
+      ne-eqb _ _ (c .if4 .left),
     )
 
 pub merged-value-spec : {M : Type 1} → statement M
@@ -77,7 +87,8 @@ merged-value-spec =
     returns
     last-value-requires
     returns-2
+    returns-3
     total-requires
     add-requires
-    returns-3
-    returns-4)
+    returns-4
+    returns-5)

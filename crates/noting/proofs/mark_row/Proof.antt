@@ -54,6 +54,15 @@ mul-flags c = omega arith
 slice-read-flags : tie.Need-slice-read-flags
 slice-read-flags c = omega arith
 
+add-lowest : tie.Need-add-lowest
+add-lowest c = omega arith
+
+mul-lowest : tie.Need-mul-lowest
+mul-lowest c = omega arith
+
+slice-read-lowest : tie.Need-slice-read-lowest
+slice-read-lowest c = omega arith
+
 met-by-requires : tie.Need-met-by-requires
 met-by-requires c κs = search needs
 
@@ -96,15 +105,39 @@ mul-w-3 c = omega arith
 slice-write-w-3 : tie.Need-slice-write-w-3
 slice-write-w-3 c = simp length-set (omega arith)
 
+lower-of-requires : tie.Need-lower-of-requires
+lower-of-requires c κs = search needs
+
+choose-requires-3 : tie.Need-choose-requires-3
+choose-requires-3 c κs = search needs
+
+add-w-4 : tie.Need-add-w-4
+add-w-4 c = omega arith
+
+mul-w-4 : tie.Need-mul-w-4
+mul-w-4 c = omega arith
+
+slice-write-w-4 : tie.Need-slice-write-w-4
+slice-write-w-4 c = simp length-set (omega arith)
+
 same-length : tie.Need-same-length
 same-length c = search needs
 
 returns : tie.Need-returns
 unfolding row-written
 returns c =
-    let c3 = c .before .before .before in
-    let c9 = c3 .before .before .before .before .before .before in
-    rw (c3 .met-by .ensures, c .before .before .choose .ensures, c .choose2 .ensures, c .before .crossed .ensures, c9 .group-stamp .ensures)
+    let c2 = c .before .before in
+    let c4 = c2 .before .before in
+    let c12 = c4 .before .before .before .before .before .before .before .before in
+    rw (
+      c4 .before .met-by .ensures,
+      c4 .choose .ensures,
+      c2 .choose2 .ensures,
+      c2 .before .crossed .ensures,
+      c .choose3 .ensures,
+      c .before .lower-of .ensures,
+      c12 .group-stamp .ensures,
+    )
 
 pub mark-row-spec : {M : Type 1} → statement M
 mark-row-spec =
@@ -126,6 +159,9 @@ mark-row-spec =
     add-flags
     mul-flags
     slice-read-flags
+    add-lowest
+    mul-lowest
+    slice-read-lowest
     met-by-requires
     add-w
     mul-w
@@ -140,5 +176,10 @@ mark-row-spec =
     add-w-3
     mul-w-3
     slice-write-w-3
+    lower-of-requires
+    choose-requires-3
+    add-w-4
+    mul-w-4
+    slice-write-w-4
     same-length
     returns)

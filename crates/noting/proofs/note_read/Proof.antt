@@ -27,6 +27,15 @@ mul-exposed c = omega arith
 slice-read-exposed : tie.Need-slice-read-exposed
 slice-read-exposed c = omega arith
 
+add-highest : tie.Need-add-highest
+add-highest c = omega arith
+
+mul-highest : tie.Need-mul-highest
+mul-highest c = omega arith
+
+slice-read-highest : tie.Need-slice-read-highest
+slice-read-highest c = omega arith
+
 add-met-by : tie.Need-add-met-by
 add-met-by c = omega arith
 
@@ -48,6 +57,9 @@ mul-w c = omega arith
 slice-write-w : tie.Need-slice-write-w
 slice-write-w c = search needs
 
+higher-of-requires : tie.Need-higher-of-requires
+higher-of-requires c κs = search needs
+
 choose-requires : tie.Need-choose-requires
 choose-requires c κs = search needs
 
@@ -60,12 +72,27 @@ mul-w-2 c = omega arith
 slice-write-w-2 : tie.Need-slice-write-w-2
 slice-write-w-2 c = simp length-set (omega arith)
 
+choose-requires-2 : tie.Need-choose-requires-2
+choose-requires-2 c κs = search needs
+
+add-w-3 : tie.Need-add-w-3
+add-w-3 c = omega arith
+
+mul-w-3 : tie.Need-mul-w-3
+mul-w-3 c = omega arith
+
+slice-write-w-3 : tie.Need-slice-write-w-3
+slice-write-w-3 c = simp length-set (omega arith)
+
 same-length : tie.Need-same-length
 same-length c = search needs
 
 returns : tie.Need-returns
 unfolding read-noted
-returns c = rw (c .before .met-by .ensures, c .choose .ensures, c .before .before .before .before .before .group-stamp .ensures)
+returns c =
+    let c3 = c .before .before .before in
+    let c8 = c3 .before .before .before .before .before in
+    rw (c3 .met-by .ensures, c .before .choose .ensures, c .before .before .higher-of .ensures, c .choose2 .ensures, c8 .group-stamp .ensures)
 
 pub note-read-spec : {M : Type 1} → statement M
 note-read-spec =
@@ -78,6 +105,9 @@ note-read-spec =
     add-exposed
     mul-exposed
     slice-read-exposed
+    add-highest
+    mul-highest
+    slice-read-highest
     add-met-by
     mul-met-by
     slice-read-met-by
@@ -85,9 +115,14 @@ note-read-spec =
     add-w
     mul-w
     slice-write-w
+    higher-of-requires
     choose-requires
     add-w-2
     mul-w-2
     slice-write-w-2
+    choose-requires-2
+    add-w-3
+    mul-w-3
+    slice-write-w-3
     same-length
     returns)

@@ -47,6 +47,24 @@ mul-w-5 c = omega arith
 slice-write-w-4 : tie.Need-slice-write-w-4
 slice-write-w-4 c = simp length-set (omega arith)
 
+add-w-4 : tie.Need-add-w-4
+add-w-4 c = omega arith
+
+mul-w-6 : tie.Need-mul-w-6
+mul-w-6 c = omega arith
+
+slice-write-w-5 : tie.Need-slice-write-w-5
+slice-write-w-5 c = simp length-set (omega arith)
+
+add-w-5 : tie.Need-add-w-5
+add-w-5 c = omega arith
+
+mul-w-7 : tie.Need-mul-w-7
+mul-w-7 c = omega arith
+
+slice-write-w-6 : tie.Need-slice-write-w-6
+slice-write-w-6 c = simp length-set (omega arith)
+
 same-length : tie.Need-same-length
 same-length c = search needs
 
@@ -73,5 +91,11 @@ set-entry-spec =
     add-w-3
     mul-w-5
     slice-write-w-4
+    add-w-4
+    mul-w-6
+    slice-write-w-5
+    add-w-5
+    mul-w-7
+    slice-write-w-6
     same-length
     returns)

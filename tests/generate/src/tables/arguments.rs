@@ -18,15 +18,20 @@ pub struct ArgumentRow {
     pub run: u32,
 }
 
-/// N = 3 and P = 2: a workspace of 4,352 + 64 × 2 + 3 × (4 + 12) = 4,528.
+/// N = 3 and P = 2: a workspace of 4,352 + 64 × 2 + 3 × (4 + 8 × 2) = 4,540. Before document 02, Point 5, it
+/// was 4,352 + 128 + 3 × 16 = 4,528.
 const THREE: &str =
     "integer a(3)\n!$omp parallel do num_threads(2)\ndo i = 1, 3\na(i) = i\nend do\n";
 /// The same by blocks: the same workspace (document 02, Point 3, changes none of this).
 const BLOCKS: &str =
     "integer a(3)\n!$omp parallel do num_threads(2) schedule(static)\ndo i = 1, 3\na(i) = i\nend do\n";
-/// N = 4,096 and P = 8: 4,352 + 512 + 4,096 × 52 = 217,856.
+/// The same in both clauses: the same workspace (P5.8).
+const COPIED: &str =
+    "integer a(3)\n!$omp parallel do num_threads(2) firstprivate(a) lastprivate(a)\n\
+     do i = 1, 3\na(i) = i\nend do\n";
+/// N = 4,096 and P = 8: 4,352 + 512 + 4,096 × 68 = 283,392; before 4,352 + 512 + 4,096 × 52 = 217,856.
 const LARGEST: &str = "integer a(4096)\n!$omp parallel do num_threads(8)\ndo i = 1, 3\nend do\n";
-/// N = 1 and P = 1: 4,352 + 64 + 10 = 4,426.
+/// N = 1 and P = 1: 4,352 + 64 + 12 = 4,428; before 4,352 + 64 + 10 = 4,426.
 const SMALLEST: &str = "integer a\n!$omp parallel do num_threads(1)\ndo i = 1, 0\nend do\n";
 /// Number 3 at line 1.
 const TWICE: &str = "integer a, a\n!$omp parallel do num_threads(1)\ndo i = 1, 0\nend do\n";
@@ -55,56 +60,101 @@ fn row(
 /// All rows.
 pub fn rows() -> Vec<ArgumentRow> {
     vec![
-        row("all right", THREE, (3, 4528, &[0, 1], 6), (0, 0, 0)),
+        row("all right", THREE, (3, 4540, &[0, 1], 6), (0, 0, 0)),
         row("a larger workspace", THREE, (3, 5000, &[1], 6), (0, 0, 0)),
-        row("a cell too few", THREE, (2, 4528, &[0], 6), (5, 5, 5)),
-        row("a cell too many", THREE, (4, 4528, &[0], 6), (5, 5, 5)),
-        row("no cells", THREE, (0, 4528, &[0], 6), (5, 5, 5)),
-        row("a word too few", THREE, (3, 4527, &[0], 6), (0, 6, 6)),
+        row("a cell too few", THREE, (2, 4540, &[0], 6), (5, 5, 5)),
+        row("a cell too many", THREE, (4, 4540, &[0], 6), (5, 5, 5)),
+        row("no cells", THREE, (0, 4540, &[0], 6), (5, 5, 5)),
+        row("a word too few", THREE, (3, 4539, &[0], 6), (0, 6, 6)),
         row("no workspace", THREE, (3, 0, &[], 6), (0, 6, 6)),
-        row("byte P", THREE, (3, 4528, &[2], 6), (0, 7, 7)),
+        row("byte P", THREE, (3, 4540, &[2], 6), (0, 7, 7)),
         row(
             "byte P last",
             THREE,
-            (3, 4528, &[0, 1, 0, 1, 2], 6),
+            (3, 4540, &[0, 1, 0, 1, 2], 6),
             (0, 7, 7),
         ),
-        row("byte 255", THREE, (3, 4528, &[0, 255, 0], 6), (0, 7, 7)),
+        row("byte 255", THREE, (3, 4540, &[0, 255, 0], 6), (0, 7, 7)),
         row(
             "byte P after all are finished",
             THREE,
-            (3, 4528, &[0, 0, 0, 1, 1, 1, 1, 1, 2], 6),
+            (3, 4540, &[0, 0, 0, 1, 1, 1, 1, 1, 2], 6),
             (0, 7, 7),
         ),
-        row("a view word too few", THREE, (3, 4528, &[0], 5), (0, 8, 0)),
-        row("a view word too many", THREE, (3, 4528, &[0], 7), (0, 8, 0)),
-        row("no view", THREE, (3, 4528, &[0], 0), (0, 8, 0)),
+        row("a view word too few", THREE, (3, 4540, &[0], 5), (0, 8, 0)),
+        row("a view word too many", THREE, (3, 4540, &[0], 7), (0, 8, 0)),
+        row("no view", THREE, (3, 4540, &[0], 0), (0, 8, 0)),
         row("5 before 6, 7, 8", THREE, (2, 0, &[9], 0), (5, 5, 5)),
         row("6 before 7, 8", THREE, (3, 0, &[9], 0), (0, 6, 6)),
-        row("7 before 8", THREE, (3, 4528, &[9], 0), (0, 7, 7)),
-        row("by blocks", BLOCKS, (3, 4528, &[0, 1], 6), (0, 0, 0)),
+        row("7 before 8", THREE, (3, 4540, &[9], 0), (0, 7, 7)),
+        row("by blocks", BLOCKS, (3, 4540, &[0, 1], 6), (0, 0, 0)),
         row(
             "by blocks, a word too few",
             BLOCKS,
-            (3, 4527, &[0], 6),
+            (3, 4539, &[0], 6),
             (0, 6, 6),
         ),
-        row("by blocks, byte P", BLOCKS, (3, 4528, &[2], 6), (0, 7, 7)),
+        row("by blocks, byte P", BLOCKS, (3, 4540, &[2], 6), (0, 7, 7)),
+        row("in both clauses", COPIED, (3, 4540, &[0, 1], 6), (0, 0, 0)),
+        row(
+            "in both clauses, a word too few",
+            COPIED,
+            (3, 4539, &[0], 6),
+            (0, 6, 6),
+        ),
+        row(
+            "in both clauses, byte P",
+            COPIED,
+            (3, 4540, &[2], 6),
+            (0, 7, 7),
+        ),
+        row(
+            "in both clauses, a cell too few",
+            COPIED,
+            (2, 4540, &[0], 6),
+            (5, 5, 5),
+        ),
+        // document 02, Point 5: the workspace of before is too small, for every text (P5.8)
+        row("as before", THREE, (3, 4528, &[0], 6), (0, 6, 6)),
+        row(
+            "as before, by blocks",
+            BLOCKS,
+            (3, 4528, &[0], 6),
+            (0, 6, 6),
+        ),
+        row(
+            "as before, in both clauses",
+            COPIED,
+            (3, 4528, &[0], 6),
+            (0, 6, 6),
+        ),
+        row(
+            "as before, largest",
+            LARGEST,
+            (4096, 217_856, &[7], 8192),
+            (0, 6, 6),
+        ),
+        row(
+            "as before, smallest",
+            SMALLEST,
+            (1, 4426, &[0], 2),
+            (0, 6, 6),
+        ),
         row("the text first", TWICE, (9, 0, &[9], 0), (3, 3, 3)),
-        row("largest", LARGEST, (4096, 217_856, &[7], 8192), (0, 0, 0)),
+        row("largest", LARGEST, (4096, 283_392, &[7], 8192), (0, 0, 0)),
         row(
             "largest less 1",
             LARGEST,
-            (4096, 217_855, &[7], 8192),
+            (4096, 283_391, &[7], 8192),
             (0, 6, 6),
         ),
-        row("smallest", SMALLEST, (1, 4426, &[0, 0], 2), (0, 0, 0)),
+        row("smallest", SMALLEST, (1, 4428, &[0, 0], 2), (0, 0, 0)),
         row(
             "smallest less 1",
             SMALLEST,
-            (1, 4425, &[0, 0], 2),
+            (1, 4427, &[0, 0], 2),
             (0, 6, 6),
         ),
-        row("smallest, byte 1", SMALLEST, (1, 4426, &[1], 2), (0, 7, 7)),
+        row("smallest, byte 1", SMALLEST, (1, 4428, &[1], 2), (0, 7, 7)),
     ]
 }

@@ -27,6 +27,9 @@ const GOOD: &[(&str, usize)] = &[
     // P3.4
     ("integer schedule, static", 2),
     ("integer SCHEDULE(4), static(2)", 6),
+    // P5.10
+    ("integer firstprivate", 1),
+    ("integer FirstPrivate(4), lastprivate", 5),
     (
         "integer elseif, call, program, while, endprogram, stop, rdivs, integer2",
         8,

@@ -74,6 +74,71 @@ const GOOD: &[(&str, usize)] = &[
         "!$omp parallel do num_threads(4)schedule(static)shared(s)",
         4,
     ),
+    // document 02, Point 5: in any order, repeated or not, lists that need not agree (P5.1)
+    (
+        "!$omp parallel do num_threads(2) firstprivate(s) lastprivate(s)",
+        2,
+    ),
+    (
+        "!$omp parallel do num_threads(2) lastprivate(s) firstprivate(s)",
+        2,
+    ),
+    (
+        "!$omp parallel do firstprivate(a) lastprivate(a) num_threads(2)",
+        2,
+    ),
+    (
+        "!$omp parallel do lastprivate(a) num_threads(2) firstprivate(a)",
+        2,
+    ),
+    (
+        "!$omp parallel do firstprivate(s) num_threads(3) lastprivate(a, s)",
+        3,
+    ),
+    (
+        "!$omp parallel do lastprivate(s, a, b) num_threads(3) firstprivate(b)",
+        3,
+    ),
+    (
+        "!$omp parallel do firstprivate(s, a) lastprivate(a, s) num_threads(3)",
+        3,
+    ),
+    (
+        "!$omp parallel do firstprivate(s) firstprivate(a) lastprivate(a, s) num_threads(3)",
+        3,
+    ),
+    (
+        "!$omp parallel do firstprivate(a, s) lastprivate(a) num_threads(3) lastprivate(s)",
+        3,
+    ),
+    (
+        "!$omp parallel do lastprivate(b) firstprivate(a, b) lastprivate(s, a) num_threads(3)",
+        3,
+    ),
+    (
+        "!$omp parallel do firstprivate(s) lastprivate(s) shared(a) reduction(+:b) num_threads(4)",
+        4,
+    ),
+    (
+        "!$omp parallel do firstprivate(s) schedule(static) lastprivate(s) num_threads(8)",
+        8,
+    ),
+    (
+        "!$OMP PARALLEL DO NUM_THREADS(2) FIRSTPRIVATE(S) LASTPRIVATE(S)",
+        2,
+    ),
+    (
+        "!$omp parallel do num_threads(2) FirstPrivate(S) lastprivate(s)",
+        2,
+    ),
+    (
+        "!$omp parallel do num_threads(2)  firstprivate  (  s  ,  a  )  lastprivate(a,s)",
+        2,
+    ),
+    (
+        "!$omp parallel do firstprivate(s)num_threads(2)lastprivate(s)",
+        2,
+    ),
 ];
 
 /// Number 2.
@@ -105,7 +170,6 @@ const BROKEN: &[&str] = &[
     "!$omp parallel do, num_threads(2)",
     "!$omp parallel do num_threads(2),",
     "!$omp parallel do num_threads(2) private(s)",
-    "!$omp parallel do num_threads(2) firstprivate(s)",
     "!$omp parallel do num_threads(2) default(none)",
     "!$omp parallel do num_threads(2) nowait",
     "!$omp parallel do num_threads(2) shared()",
@@ -175,6 +239,42 @@ const BROKEN: &[&str] = &[
     "!$omp parallel do num_threads(2) schedule(static) static",
     "!$omp parallel doschedule(static) num_threads(2)",
     "!$omp schedule(static) parallel do num_threads(2)",
+    // document 02, Point 5: a list as the others (P5.1)
+    "!$omp parallel do num_threads(2) lastprivate(s) firstprivate",
+    "!$omp parallel do num_threads(2) firstprivate lastprivate(s)",
+    "!$omp parallel do num_threads(2) lastprivate(s) firstprivate()",
+    "!$omp parallel do num_threads(2) lastprivate(s) firstprivate(",
+    "!$omp parallel do num_threads(2) lastprivate(s) firstprivate(s",
+    "!$omp parallel do firstprivate(s lastprivate(s) num_threads(2)",
+    "!$omp parallel do num_threads(2) lastprivate(s) firstprivate s",
+    "!$omp parallel do num_threads(2) lastprivate(s) firstprivate s)",
+    "!$omp parallel do num_threads(2) lastprivate(s) firstprivate(s))",
+    "!$omp parallel do num_threads(2) lastprivate(s) firstprivate((s))",
+    "!$omp parallel do num_threads(2) lastprivate(s) firstprivate[s]",
+    "!$omp parallel do num_threads(2) lastprivate(s) firstprivate(s,)",
+    "!$omp parallel do num_threads(2) lastprivate(s) firstprivate(,s)",
+    "!$omp parallel do num_threads(2) lastprivate(s, a) firstprivate(s,,a)",
+    "!$omp parallel do num_threads(2) lastprivate(s, a) firstprivate(s a)",
+    "!$omp parallel do num_threads(2) lastprivate(s) firstprivate(+:s)",
+    "!$omp parallel do num_threads(2) lastprivate(s) firstprivate(:s)",
+    "!$omp parallel do num_threads(2) lastprivate(s) firstprivate(-s)",
+    "!$omp parallel do num_threads(2) lastprivate(a) firstprivate(a(1))",
+    "!$omp parallel do num_threads(2) lastprivate(s) firstprivate(2)",
+    "!$omp parallel do num_threads(2) lastprivate(s) firstprivate(do)",
+    "!$omp parallel do num_threads(2) lastprivate(s) firstprivate(s, rdiv)",
+    "!$omp parallel do num_threads(2) firstprivate(abcdefghijklmnopqrstuvwxyz123456)",
+    "!$omp parallel do num_threads(2) lastprivate(s) first private(s)",
+    "!$omp parallel do num_threads(2) lastprivate(s) first_private(s)",
+    "!$omp parallel do num_threads(2) lastprivate(s) firstprivates(s)",
+    "!$omp parallel do num_threads(2) lastprivate(s) firstprivat(s)",
+    "!$omp parallel do num_threads(2) firstprivate(s), lastprivate(s)",
+    "!$omp parallel do num_threads(2) firstprivate(s) + lastprivate(s)",
+    "!$omp parallel do num_threads(2) firstprivate lastprivate(s)(s)",
+    "!$omp parallel do num_threads(2) firstprivate(lastprivate(s))",
+    "!$omp parallel do num_threads(2) firstprivate(s, lastprivate(s))",
+    "!$omp parallel dofirstprivate(s) lastprivate(s) num_threads(2)",
+    "!$omp parallel do firstprivate(s) lastprivate(s)",
+    "!$omp parallel do num_threads(2) firstprivate(s) lastprivate(s) num_threads(2)",
     // READING 26
     "!$omp parallel do schedule(static)",
     "!$omp parallel do num_threads(2) schedule(static) num_threads(2)",
@@ -217,6 +317,14 @@ const BROKEN: &[&str] = &[
     "!$omp parallel do schedule(static, 1) num_threads(0)",
     "!$omp parallel do schedule(2147483648) num_threads(2)",
     "!$omp parallel do shared(t) schedule(static)",
+    "!$omp parallel do firstprivate(s)",
+    "!$omp parallel do num_threads(2) firstprivate(s) shared()",
+    "!$omp parallel do firstprivate() firstprivate(t, t) num_threads(2)",
+    "!$omp parallel do num_threads(2) firstprivate(s, s) lastprivate(s) firstprivate(s,)",
+    "!$omp parallel do num_threads(9) firstprivate(s",
+    "!$omp parallel do num_threads(9) firstprivate() lastprivate(s)",
+    "!$omp parallel do num_threads(0) firstprivate(s) lastprivate(s) schedule(dynamic)",
+    "!$omp parallel do schedule(static) firstprivate(s) schedule(static) num_threads(2)",
 ];
 
 /// Number 3.
@@ -251,6 +359,57 @@ const MISNAMED: &[&str] = &[
     "!$omp parallel do num_threads(2) shared(schedule)",
     "!$omp parallel do num_threads(2) lastprivate(static) schedule(static)",
     "!$omp parallel do num_threads(2) reduction(+:s, static)",
+    // document 02, Point 5: in firstprivate without lastprivate (P5.2)
+    "!$omp parallel do num_threads(2) firstprivate(s)",
+    "!$omp parallel do firstprivate(s) num_threads(2)",
+    "!$omp parallel do num_threads(2) firstprivate(a)",
+    "!$omp parallel do num_threads(2) FIRSTPRIVATE(S)",
+    "!$omp parallel do num_threads(2) firstprivate(s) lastprivate(a)",
+    "!$omp parallel do num_threads(2) firstprivate(s, a) lastprivate(a)",
+    "!$omp parallel do num_threads(2) lastprivate(s, b) firstprivate(b, a, s)",
+    "!$omp parallel do num_threads(2) firstprivate(s) schedule(static)",
+    // with another clause than lastprivate
+    "!$omp parallel do num_threads(2) firstprivate(s) shared(s)",
+    "!$omp parallel do num_threads(2) shared(a, s) firstprivate(s)",
+    "!$omp parallel do num_threads(2) firstprivate(s) reduction(+:s)",
+    "!$omp parallel do num_threads(2) reduction(+:s) lastprivate(a) firstprivate(a, s)",
+    // twice in firstprivate, in one list or two
+    "!$omp parallel do num_threads(2) firstprivate(s, s) lastprivate(s)",
+    "!$omp parallel do num_threads(2) lastprivate(s, a) firstprivate(s, a, S)",
+    "!$omp parallel do num_threads(2) firstprivate(s) firstprivate(s) lastprivate(s)",
+    "!$omp parallel do num_threads(2) firstprivate(s) lastprivate(s) firstprivate(s)",
+    "!$omp parallel do num_threads(2) lastprivate(a, s) firstprivate(a) firstprivate(s, a)",
+    "!$omp parallel do num_threads(2) firstprivate(s, s)",
+    "!$omp parallel do num_threads(2) firstprivate(s) firstprivate(s)",
+    // twice in lastprivate
+    "!$omp parallel do num_threads(2) firstprivate(s) lastprivate(s, s)",
+    "!$omp parallel do num_threads(2) firstprivate(s) lastprivate(s) lastprivate(s)",
+    "!$omp parallel do num_threads(2) lastprivate(s) firstprivate(s) lastprivate(a, s)",
+    "!$omp parallel do num_threads(2) firstprivate(s, s) lastprivate(s, s)",
+    "!$omp parallel do firstprivate(s) lastprivate(s) firstprivate(s) lastprivate(s) num_threads(2)",
+    // the pair and a third clause
+    "!$omp parallel do num_threads(2) firstprivate(s) lastprivate(s) shared(s)",
+    "!$omp parallel do num_threads(2) shared(s) firstprivate(s) lastprivate(s)",
+    "!$omp parallel do num_threads(2) lastprivate(s) shared(a, s) firstprivate(s)",
+    "!$omp parallel do num_threads(2) firstprivate(s) lastprivate(s) reduction(+:s)",
+    "!$omp parallel do num_threads(2) reduction(+:b, s) lastprivate(s) firstprivate(s)",
+    "!$omp parallel do num_threads(2) firstprivate(s) lastprivate(s) shared(s) reduction(+:s)",
+    // unknown, v and the clause's word, which stays free as a name (P5.10)
+    "!$omp parallel do num_threads(2) firstprivate(t) lastprivate(t)",
+    "!$omp parallel do num_threads(2) firstprivate(t)",
+    "!$omp parallel do num_threads(2) firstprivate(s, t) lastprivate(s)",
+    "!$omp parallel do num_threads(2) firstprivate(s) lastprivate(s, t)",
+    "!$omp parallel do num_threads(2) firstprivate(i) lastprivate(i)",
+    "!$omp parallel do num_threads(2) firstprivate(s, i) lastprivate(s)",
+    "!$omp parallel do num_threads(2) firstprivate(firstprivate) lastprivate(firstprivate)",
+    "!$omp parallel do num_threads(2) lastprivate(firstprivate)",
+    "!$omp parallel do num_threads(2) firstprivate(lastprivate, s) lastprivate(s)",
+    // 31 characters
+    "!$omp parallel do num_threads(2) firstprivate(abcdefghijklmnopqrstuvwxyz12345)",
+    // 3 before 4
+    "!$omp parallel do num_threads(9) firstprivate(s)",
+    "!$omp parallel do firstprivate(s, s) lastprivate(s) num_threads(0)",
+    "!$omp parallel do num_threads(2147483648) firstprivate(s) shared(s)",
 ];
 
 /// Number 4.
@@ -266,6 +425,10 @@ const BEYOND: &[&str] = &[
     // with the clause
     "!$omp parallel do num_threads(9) schedule(static)",
     "!$omp parallel do schedule(static) num_threads(0)",
+    // with the pair of Point 5
+    "!$omp parallel do num_threads(9) firstprivate(s) lastprivate(s)",
+    "!$omp parallel do lastprivate(s, a) num_threads(0) firstprivate(a)",
+    "!$omp parallel do firstprivate(s) lastprivate(s) num_threads(2147483648)",
 ];
 
 /// All rows.

@@ -34,6 +34,7 @@ const GOOD: &[&str] = &[
     "do parallel = 1, 2",
     "do schedule = 1, 2",
     "do static = 1, 2",
+    "do firstprivate = 1, 2",
     "do while = 1, 2",
     "do concurrent = 1, 2",
     "do do1 = 1, 2",

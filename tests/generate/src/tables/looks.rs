@@ -148,6 +148,7 @@ pub fn rows() -> Vec<LookRow> {
     rows.extend(step_rows());
     rows.extend(mark_rows());
     rows.extend(super::blocks::look_rows());
+    rows.extend(super::copies::look_rows());
     rows
 }
 

@@ -3,6 +3,7 @@
 
 pub mod arguments;
 pub mod blocks;
+pub mod copies;
 pub mod data;
 pub mod declarations;
 pub mod directives;

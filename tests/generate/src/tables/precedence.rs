@@ -43,6 +43,22 @@ const BAD: &[Line] = &[
         "!$omp parallel do num_threads(2) schedule(static) shared(t)",
         3,
     ),
+    (
+        3,
+        "!$omp parallel do num_threads(2) firstprivate() lastprivate(s)",
+        2,
+    ),
+    (3, "!$omp parallel do num_threads(2) firstprivate(s)", 3),
+    (
+        3,
+        "!$omp parallel do num_threads(9) lastprivate(s) firstprivate(s, s)",
+        3,
+    ),
+    (
+        3,
+        "!$omp parallel do firstprivate(s) lastprivate(s) num_threads(9)",
+        4,
+    ),
     (3, "!$omp parallel do num_threads(9)", 4),
     (4, "do i = 1", 2),
     (4, "do s = 1, 4", 3),

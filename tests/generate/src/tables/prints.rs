@@ -34,6 +34,24 @@ pub const ROWS: &[(&str, &str, &str)] = &[
         "! refused 2 2 0\n",
     ),
     (
+        "read early and overwritten later (document 02, Point 5)",
+        "integer z, a(3)\ndata z /5/\n!$omp parallel do num_threads(2) firstprivate(z) lastprivate(z)\n\
+         do i = 1, 3\na(i) = z + i\nif (i == 3) then\nz = 0\nend if\nend do\n",
+        "! passed 4 4\ndata z /0/\ndata a /6,7,8/\n",
+    ),
+    (
+        "the same in lastprivate alone",
+        "integer z, a(3)\ndata z /5/\n!$omp parallel do num_threads(2) lastprivate(z)\n\
+         do i = 1, 3\na(i) = z + i\nif (i == 3) then\nz = 0\nend if\nend do\n",
+        "! rerun 4 4\ndata z /0/\ndata a /6,7,8/\n",
+    ),
+    (
+        "the same in firstprivate alone",
+        "integer z, a(3)\ndata z /5/\n!$omp parallel do num_threads(2) firstprivate(z)\n\
+         do i = 1, 3\na(i) = z + i\nif (i == 3) then\nz = 0\nend if\nend do\n",
+        "! refused 3 3 0\n",
+    ),
+    (
         "no iterations, names in upper case",
         "integer Zz, Y(2)\ndata Y /2*-3/\n!$omp parallel do num_threads(8)\ndo i = 1, 0\nend do\n",
         "! passed 0 0\ndata zz /0/\ndata y /-3,-3/\n",

@@ -267,6 +267,7 @@ pub fn rows() -> Vec<RunRow> {
     rows.extend(fault_rows());
     rows.extend(other_rows());
     rows.extend(super::blocks::run_rows());
+    rows.extend(super::copies::run_rows());
     rows
 }
 

@@ -91,6 +91,37 @@ const GOOD: &[(&str, &str, usize, usize)] = &[
         3,
     ),
     (
+        "firstprivate as a name, in both clauses (P5.10)",
+        "integer firstprivate, lastprivate(4)\ndata firstprivate /1/\n\
+         !$omp parallel do firstprivate(firstprivate, lastprivate) num_threads(2) \
+         lastprivate(lastprivate, firstprivate)\n\
+         do i = 1, 4\nlastprivate(i) = firstprivate\nfirstprivate = lastprivate(firstprivate)\nend do\n",
+        5,
+        2,
+    ),
+    (
+        "firstprivate as a name, in other clauses and none (P5.10)",
+        "integer firstprivate, a\n!$omp parallel do num_threads(3) reduction(+:firstprivate)\n\
+         do i = 1, 4\nfirstprivate = firstprivate + a\nend do\n",
+        2,
+        3,
+    ),
+    (
+        "firstprivate as v (P5.10)",
+        "integer a\n!$omp parallel do num_threads(3) firstprivate(a) lastprivate(a)\n\
+         do firstprivate = 1, 4\nif (firstprivate == 4) then\na = firstprivate\nend if\nend do\n",
+        1,
+        3,
+    ),
+    (
+        "16 names in both clauses",
+        "integer a,b,c,d,e,f,g,h,i,j,k,l,m,n,o,p\n!$omp parallel do num_threads(8) \
+         firstprivate(a,b,c,d,e,f,g,h,i,j,k,l,m,n,o,p) lastprivate(p,o,n,m,l,k,j,i,h,g,f,e,d,c,b,a)\n\
+         do v = 1, 4\nend do\n",
+        16,
+        8,
+    ),
+    (
         "16 names and a v (READING 29)",
         "integer a,b,c,d,e,f,g,h\ninteger i,j,k,l,m,n,o,p\n!$omp parallel do num_threads(1)\n\
          do v = 1, 4\nend do\n",
@@ -297,6 +328,45 @@ const BAD: &[(&str, &str, u32, u32)] = &[
     (
         "Point 3's clause on a line of its own",
         "integer a\n!$omp parallel do num_threads(1)\n!$omp schedule(static)\ndo i = 1, 4\nend do\n",
+        2,
+        3,
+    ),
+    (
+        "closing directive with Point 5's clauses",
+        "integer a\n!$omp parallel do num_threads(1) firstprivate(a) lastprivate(a)\ndo i = 1, 4\nend do\n\
+         !$omp end parallel do firstprivate(a) lastprivate(a)\n",
+        2,
+        5,
+    ),
+    (
+        "firstprivate alone, and unfinished",
+        "integer a\n!$omp parallel do num_threads(1) firstprivate(a)\n",
+        2,
+        2,
+    ),
+    (
+        "firstprivate alone: at the directive, whatever follows (P5.2)",
+        "integer a\n\n!$omp parallel do num_threads(1) firstprivate(a)\ndo a = 1\nend do\n",
+        3,
+        3,
+    ),
+    (
+        "firstprivate alone, after a bad line",
+        "integer a, b(0)\n!$omp parallel do num_threads(1) firstprivate(a)\ndo i = 1, 4\nend do\n",
+        4,
+        1,
+    ),
+    (
+        "Point 5's clauses in two directives",
+        "integer a\n!$omp parallel do num_threads(1) lastprivate(a)\n\
+         !$omp parallel do num_threads(1) firstprivate(a)\ndo i = 1, 4\nend do\n",
+        2,
+        3,
+    ),
+    (
+        "firstprivate on a line of its own",
+        "integer a\n!$omp parallel do num_threads(1) lastprivate(a)\n!$omp firstprivate(a)\n\
+         do i = 1, 4\nend do\n",
         2,
         3,
     ),

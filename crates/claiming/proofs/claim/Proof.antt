@@ -1,12 +1,12 @@
--- `clauses::claim` meets its contract: a name that is unknown, stands in a clause already, or gets its class.
+-- `claiming::claim` meets its contract: a name that is unknown, stands in a clause already, or gets its class.
 use mathlib.Core.Path.{refl}
 use native.Mathlib.Omega.{arith}
 use borrow.Author.Tests.{not-true, not-false}
-use Rattle.syntax.specs.Known.{class-by}
-use Rattle.clauses.proofs.NamesClaimed.{claims-none, claims-taken, claims-free, classed-keeps}
+use Rattle.claiming.specs.Claims.{class-by}
+use Rattle.claiming.proofs.NamesClaimed.{claims-none, claims-taken, claims-free, variable-keeps}
 use borrow.Author.Needs.{needs}
-use Rattle.clauses.proofs.claim.Statement.{statement}
-use Rattle.clauses.proofs.claim.Tie as tie
+use Rattle.claiming.proofs.claim.Statement.{statement}
+use Rattle.claiming.proofs.claim.Tie as tie
 
 find-requires : tie.Need-find-requires
 find-requires c κs = search needs
@@ -19,7 +19,7 @@ returns c =
     let c3 = c .before .before .before in
     let c6 = c3 .before .before .before in
     let n = c3 .find in (
-      claims-none _ _ _ _ (n .result) (n .ensures .1) (n .ensures .2) (not-true (n .result .known) (c .before .if1 .taken)) _ (c .ranked .ensures),
+      claims-none _ _ _ (n .result) (n .ensures .1) (n .ensures .2) _ (not-true (n .result .known) (c .before .if1 .taken)) _ (c .ranked .ensures),
       (λ h. (h, refl), c6 .pre .1),
     )
 
@@ -32,7 +32,7 @@ returns-2 c =
     let c7 = c4 .before .before .before in
     let n = c4 .find in
     let known = not-false (n .result .known) (c .before .before .if1 .left) in
-    (claims-taken _ _ _ _ (n .result) (n .ensures .1) (n .ensures .2) known (c .before .if2 .taken) _ (c .ranked2 .ensures), (λ h. (h, refl), c7 .pre .1))
+    (claims-taken _ _ _ (n .result) (n .ensures .1) (n .ensures .2) _ known (c .before .if2 .taken) _ (c .ranked2 .ensures), (λ h. (h, refl), c7 .pre .1))
 
 class-of-requires : tie.Need-class-of-requires
 class-of-requires c κs = search needs
@@ -51,8 +51,8 @@ returns-3 c =
     let start = c .before .before .before .before .before .before .before .before .before in
     let (t, tab) = start .pre .1 in
     let done = c .classify .ensures in (
-      claims-free _ _ _ _ (n .result) (n .ensures .1) (n .ensures .2) known (c .before .before .before .if2 .left) _ (c .before .class-of .ensures .0) _ done,
-      (classed-keeps _ _ _ _ done, (_, done .table t (class-by (start .args .kind)) (c .before .class-of .ensures .0) tab (n .ensures .2 t tab known .within))),
+      claims-free _ _ _ (n .result) (n .ensures .1) (n .ensures .2) _ known (c .before .before .before .if2 .left) _ (c .before .class-of .ensures .0) _ done,
+      (variable-keeps _ _ (done .variable), (_, done .table t (class-by (start .args .kind)) (c .before .class-of .ensures .0) tab (n .ensures .2 t tab known .within))),
     )
 
 pub claim-spec : {M : Type 1} → statement M

@@ -1,0 +1,2 @@
+-- One name in a clause.
+pub mod NamesClaimed

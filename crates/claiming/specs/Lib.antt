@@ -1,0 +1,2 @@
+-- What names in clauses come to.
+pub mod Claims
