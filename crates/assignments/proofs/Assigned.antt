@@ -4,19 +4,19 @@ use mathlib.Core.Bool.{Bool, true, false, cond, _&&_}
 use mathlib.Core.List.{List, [], _∷_}
 use Prim.Native.Nat.{ℕ, suc, _+_, _-_, _*_, _≤_, _<_, max}
 use native.Mathlib.Omega.{arith}
-use lib.Dec.{eqb}
-use lib.ListN.{length, take, drop, set}
+use lib.ListN.{length, drop, set}
 use lib.Seq.{sets}
 use Rattle.syntax.specs.Bytes.{bytes, same}
-use Rattle.syntax.specs.Grammar.{Expr, Ref, single, element, showRef}
+use Rattle.syntax.specs.Grammar.{Expr, Ref, single, element}
+use Rattle.rules.specs.declared.Operator.{Operator}
+use Rattle.rules.specs.declared.Operator.the-variants.{Sum, Product, Maximum}
 use Rattle.rules.specs.Loop.{Class, shared, lastprivate, copied, reduction}
-use Rattle.rules.specs.Numbers.{class-number}
+use Rattle.rules.specs.Numbers.{class-number, operator-by}
+use Rattle.rules.proofs.NumberLaws.{operator-number}
 use Rattle.syntax.specs.Known.{Entry, find}
-use Rattle.syntax.specs.Meaning.{alike, is-reduction}
+use Rattle.syntax.specs.Meaning.{is-reduction, same-ref, repeated, operator-at}
 use Rattle.syntax.specs.Conditions.{refName, mentions, inRef}
 use Rattle.syntax.specs.Reader.{Parsed, broken, done, next, kind, peek-in, skip-in, readExpr, readRef}
-use Rattle.syntax.specs.Spelled.{Spells}
-use Rattle.syntax.proofs.SoundExpr.{sounds}
 use Rattle.code.specs.Instr.{words}
 use Rattle.code.specs.Compile.{code, codeRef, stores, checks, updates}
 use Rattle.names.specs.declared.Named as names
@@ -28,14 +28,15 @@ use Rattle.parts.specs.Answer.{worst, Reads, Within, Answers}
 use Rattle.parts.specs.Parts.{stands, spanOf, Room, Emits}
 use Rattle.parts.specs.declared.Got.{Got}
 use Rattle.parts.specs.declared.Got.the-variants.{Broken, Done}
-use Rattle.parts.proofs.Laws.{Since, since-none, since-rank, since-emit, reads-done, reads-next, emits-broken, done-emits, read-done, read-broken}
+use Rattle.parts.proofs.Laws.{Since, since-none, since-rank, since-emit, reads-done, reads-next, emits-broken, done-emits}
 use Rattle.parts.proofs.Names.{span-found}
-use Rattle.parts.proofs.Spans.{within-done, within-from, within-emits}
+use Rattle.parts.proofs.Spans.{within-from, within-emits}
 use Rattle.assignments.specs.declared.Target.{Target}
 use Rattle.statements.specs.Statement.{Bounded}
-use Rattle.alike.specs.Alike.{Alike}
-use Rattle.assignments.specs.Assignment.{operandOf, Named, Targets, signs, Adds, Begun, Past, Summands, Back, testWords, Tests, codeUpdate, codeStore, Updates, Stores}
-use Rattle.assignments.proofs.Readings.{indexed, ref-read}
+use Rattle.updates.specs.declared.Left.{Left}
+use Rattle.updates.specs.Forms.{Past, depthOf, readRest, Rests}
+use Rattle.assignments.specs.Assignment.{operandOf, reduces, Named, Targets, Offers, Back, testWords, Tests, codeUpdate, codeStore, Updates, Stores}
+use Rattle.updates.proofs.Readings.{indexed, ref-read}
 
 -- ---- small parts
 
@@ -67,30 +68,35 @@ back-unread n g e = subst (λ (x : Got). Back n x Broken) (sym e) refl
 
 -- ---- the name
 
-class-reduction : (c : Class) → eqb (class-number c) 2 ≡ is-reduction c
-class-reduction shared = refl
-class-reduction lastprivate = refl
-class-reduction copied = refl
-class-reduction reduction = refl
+class-reduces : (c : Class) → reduces (class-number c) ≡ is-reduction c
+class-reduces shared = refl
+class-reduces lastprivate = refl
+class-reduces copied = refl
+class-reduces (reduction Sum) = refl
+class-reduces (reduction Product) = refl
+class-reduces (reduction Maximum) = refl
 
 module _ (T s : List ℕ) {t u : Tok} (lt : Lexed s 0 t) (lu : Lexed s (t .stop) u) {b : Bool} (eb : b ≡ same (40 ∷ []) (part s (u .start) (u .stop))) where
   bracket : b ≡ stands 40 (skip-in s)
   bracket = eb ∙ sym (ap (stands 40) (lt .next) ∙ sees-said lu (40 ∷ []) refl)
 
-  pub targets-none : (kind-number (t .kind) ≡ 1 → ⊥) → Targets T s (record { subscripted = b; reduction = false; variable = false; operand = 0 })
+  pub targets-none : (kind-number (t .kind) ≡ 1 → ⊥) → Targets T s (record { subscripted = b; reduction = false; operator = Sum; variable = false; operand = 0 })
   targets-none n = record { subscripted = bracket; named = λ h. absurd (n (sym (lt .kinds) ∙ h)) }
 
-  pub targets-some : (n : names.Named) (v : Bool) (o : ℕ) → ((t′ : List Entry) → Tabled T t′ → Knows t′ (part s (t .start) (t .stop)) n)
-      → v ≡ same (part s (t .start) (t .stop)) (variableOf T)
-      → o ≡ cond b (spanOf (n .first) (n .size)) (n .first) → Targets T s (record { subscripted = b; reduction = eqb (n .class) 2; variable = v; operand = o })
-  targets-some n v o k ev eo = record {
+  pub targets-some : (n : names.Named) (q : Bool) (p : Operator) (v : Bool) (o : ℕ)
+      → ((t′ : List Entry) → Tabled T t′ → Knows t′ (part s (t .start) (t .stop)) n)
+      → q ≡ reduces (n .class) → p ≡ operator-by (n .class) → v ≡ same (part s (t .start) (t .stop)) (variableOf T)
+      → o ≡ cond b (spanOf (n .first) (n .size)) (n .first)
+      → Targets T s (record { subscripted = b; reduction = q; operator = p; variable = v; operand = o })
+  targets-some n q p v o k eq ep ev eo = record {
     subscripted = bracket;
     named = λ h t′ d.
         let w = part s (t .start) (t .stop) in
-        subst (λ (x : List ℕ). Named t′ (variableOf T) x (record { subscripted = b; reduction = eqb (n .class) 2; variable = v; operand = o }))
+        subst (λ (x : List ℕ). Named t′ (variableOf T) x (record { subscripted = b; reduction = q; operator = p; variable = v; operand = o }))
         (sym (lt .bytes))
         (record {
-          reduction = ap (λ (m : ℕ). eqb m 2) (k t′ d .class) ∙ class-reduction (find w t′ .class);
+          reduction = eq ∙ ap reduces (k t′ d .class) ∙ class-reduces (find w t′ .class);
+          operator = ep ∙ ap operator-by (k t′ d .class) ∙ operator-number (find w t′ .class);
           variable = ev;
           operand = eo ∙ (λ i. cond b (span-found T t′ w n d (k t′ d) i) (k t′ d .first i));
         });
@@ -142,6 +148,7 @@ module _ (t : List Entry) (v : List ℕ) (line : ℕ) (x : Ref) {b : Bool} (eb :
 pub record Meant (T : List ℕ) (r : Target) (t : List Entry) (x : Ref) : Type 0 where
   pub subscripted : r .subscripted ≡ indexed x
   pub reduction : r .reduction ≡ is-reduction (find (refName x) t .class)
+  pub operator : r .operator ≡ operator-at t x
   pub variable : r .variable ≡ same (refName x) (variableOf T)
   pub operand : r .operand ≡ operandOf (r .subscripted) (find (refName x) t .first) (find (refName x) t .size)
 
@@ -150,7 +157,13 @@ pub meant : {T s : List ℕ} {r : Target} → Targets T s r → (t : List Entry)
 meant {T} {s} {r} ta t d f x u h =
     let q = ref-read f s u x h in
     let n = subst (λ (y : List ℕ). Named t (variableOf T) y r) (sym (q .text)) (ta .named (q .name) t d) in
-    record { subscripted = ta .subscripted ∙ sym (q .subscript); reduction = n .reduction; variable = n .variable; operand = n .operand }
+    record {
+      subscripted = ta .subscripted ∙ sym (q .subscript);
+      reduction = n .reduction;
+      operator = n .operator;
+      variable = n .variable;
+      operand = n .operand;
+    }
 
 -- ---- room
 
@@ -239,31 +252,32 @@ module _ (T s : List ℕ) (at line place most : ℕ) (b m a : List ℕ) (g r : G
 
 -- ---- an update
 
-module _ (T s : List ℕ) (at line place most : ℕ) (b m m′ a : List ℕ) (p : ℕ) (g r : Got) (tg : Target) (ta : Targets T s tg) (op : ℕ)
+module _ (o : Operator) (T s : List ℕ) (at line place most : ℕ) (b m m′ a : List ℕ) (p : ℕ) (g r : Got) (tg : Target) (ta : Targets T s tg) (op : ℕ)
     (eop : op ≡ cond (tg .subscripted) (14 + 32 * line) 13)
     (te : Tests (tg .subscripted) line (tg .operand) place b m p)
-    (an : Answers (readExpr peek-in skip-in) (λ t v. code t v line) (mentions 0) 2 (suc at) T s at p most m m′ g) (em : Emits 1 (op ∷ tg .operand ∷ []) g m′ a r) where
+    (an : Answers (readRest o) (λ t v. code t v line) (mentions (depthOf o)) 2 (suc at) T s at p most m m′ g)
+    (em : Emits 1 (op ∷ tg .operand ∷ []) g m′ a r) where
   updates-reads : (t : List Entry) → Tabled T t → (f : ℕ) → 3 * (length s - at) + 2 < f → (j : ℕ) (x : Ref) (u : List ℕ)
       → readRef peek-in skip-in j s ≡ done x u
-      → Reads (codeUpdate t (variableOf T) line x) (λ e. worst t (variableOf T) (mentions 0 e)) s (readExpr peek-in skip-in f (drop at s)) place most b a r
+      → Reads (codeUpdate t (variableOf T) line x) (λ e. worst t (variableOf T) (mentions (depthOf o) e)) s (readRest o f (drop at s)) place most b a r
   updates-reads t d f lt j x u hx =
       let v = variableOf T in
       let me = meant ta t d j x u hx in
       let ws = update-words t v line x (me .subscripted) (me .operand) eop in
       let c = codeUpdate t v line x in
-      let k : Expr → ℕ = λ e. worst t v (mentions 0 e) in
+      let k : Expr → ℕ = λ e. worst t v (mentions (depthOf o) e) in
       let ep : place + length (checks t v line x) ≡ p = omega (arith, te .next, check-length t v line x (me .subscripted) (me .operand)) in
       let so : Since place most b (checks t v line x) 0 p most m =
       subst (λ (i : ℕ). Since place most b (checks t v line x) 0 i most m) ep (since-emit (since-none place most b) (checks t v line x)
       (te .written ∙ ap (sets b (2 * place)) (check-words t v line x (me .subscripted) (me .operand)))) in
-      subst (λ (P : Parsed (List ℕ) Expr). Reads c k s P place most b a r) (next-done (readExpr peek-in skip-in f (drop at s)))
-      (reads-next c k s place most b a r (code t v line) k (readExpr peek-in skip-in f (drop at s)) (λ y w. done y w) m′ g so (an .reads t d f lt)
+      subst (λ (P : Parsed (List ℕ) Expr). Reads c k s P place most b a r) (next-done (readRest o f (drop at s)))
+      (reads-next c k s place most b a r (code t v line) k (readRest o f (drop at s)) (λ y w. done y w) m′ g so (an .reads t d f lt)
       (λ y n p′ q le e so′.
       let w = done-emits 1 (op ∷ tg .operand ∷ []) g m′ a r n p′ q em e in
       reads-done c k s place most b a r y le (since-emit so′ (updates t v line x ∷ []) (w .1 ∙ ap (sets m′ (2 * p′)) ws)) refl (omega arith) (w .0))
       (emits-broken 1 (op ∷ tg .operand ∷ []) g m′ a r em))
 
-  pub updates-answers : Updates T s at line place most b a r
+  pub updates-answers : Updates o T s at line place most b a r
   updates-answers = record {
     reads = updates-reads;
     within =
@@ -273,78 +287,21 @@ module _ (T s : List ℕ) (at line place most : ℕ) (b m m′ a : List ℕ) (p 
 
 -- ---- whether it is an update
 
-module _ (b : Bool) (T s : List ℕ) (n from place most : ℕ) (before after : List ℕ) (kept : take (2 * place) after ≡ take (2 * place) before) where
-  -- no reference begins the right side, or its name is no reduction's
-  pub summands-none : b ≡ false → Summands b T s n from place most before after Broken
-  unfolding Begun Past Adds
-  summands-none e = record { begun = λ t d f lt x sp. go t x (readRef peek-in skip-in f (drop from s)); kept = kept; past = tt }
-    where
-      go : (t : List Entry) (x : Ref) (P : Parsed (List ℕ) Ref) → Begun b t (variableOf T) s x P place most Broken
-      go t x broken = refl
-      go t x (done y u) = subst
-          (λ (c : Bool). Adds (c && (signs u && alike (showRef x) (showRef y))) s u place (max most (worst t (variableOf T) (inRef 0 y))) Broken)
-          (sym e) refl
+-- a name that is no reduction's has none
+pub offers-none : (g : Target) (l : Left) (T s : List ℕ) (from : ℕ) (b : List ℕ) → g .reduction ≡ false → Offers g l T s from b b Broken
+unfolding Past
+offers-none g l T s from b e = record {
+  none = λ _ t d f lt x sp c w h. ap (λ (i : Bool). i && same-ref x (repeated (g .operator) c)) e;
+  found = λ a q z h. absurd (let z : _≡_ {A = ℕ} 0 1 = cc in omega arith);
+  kept = refl;
+  past = tt;
+}
 
-  module _ (line : ℕ) (m m′ : List ℕ) (g : Got)
-      (an : Answers (readRef peek-in skip-in) (λ t v. codeRef t v line) (inRef 0) 0 (suc from) T s from 0 most m m′ g) where
-    pub summands-unread : g ≡ Broken → Summands b T s n from place most before after Broken
-    unfolding Begun Past
-    summands-unread e = record {
-      begun = λ t d f lt x sp.
-          subst (λ (P : Parsed (List ℕ) Ref). Begun b t (variableOf T) s x P place most Broken)
-          (sym (read-broken (codeRef t (variableOf T) line)
-          (λ y. worst t (variableOf T) (inRef 0 y)) s 0 most m m′ g (readRef peek-in skip-in f (drop from s))
-          (an .reads t d f (omega arith)) e)) refl;
-      kept = kept;
-      past = tt;
-    }
-
-    module _ (to p z : ℕ) (e : g ≡ Done to p z) where
-      -- what follows the reference y
-      by-reference : (r : Got) → Past s from place r
-          → ((t : List Entry) (x y : Ref) → Spells peek-in skip-in s (showRef x) (drop n s) → Spells peek-in skip-in (drop from s) (showRef y)
-          (drop to s) → z ≡ max most (worst t (variableOf T) (inRef 0 y))
-          → Adds (b && (signs (drop to s) && alike (showRef x) (showRef y))) s (drop to s) place (max most (worst t (variableOf T) (inRef 0 y))) r)
-          → Summands b T s n from place most before after r
-      unfolding Begun
-      by-reference r pa h = record {
-        begun = λ t d f lt x sp.
-            let v = variableOf T in
-            let (y, hy, so) = read-done (codeRef t v line) (λ y. worst t v (inRef 0 y)) s 0 most m m′ g (readRef peek-in skip-in f (drop from s)) to p
-            z (an .reads t d f (omega arith)) e in
-            subst (λ (P : Parsed (List ℕ) Ref). Begun b t v s x P place most r) (sym hy)
-            (h t x y sp (sounds peek-in skip-in f .ref (drop from s) (drop to s) y hy) (so .rank-is));
-        kept = kept;
-        past = pa;
-      }
-
-      and-not : (a c : Bool) → a && (false && c) ≡ false
-      and-not true c = refl
-      and-not false c = refl
-
-      and-none : (a c : Bool) → a && (c && false) ≡ false
-      and-none true true = refl
-      and-none true false = refl
-      and-none false c = refl
-
-      pub summands-unadded : signs (drop to s) ≡ false → Summands b T s n from place most before after Broken
-      unfolding Past Adds
-      summands-unadded es = by-reference Broken tt (λ t x y sx sy ez.
-          subst (λ (c : Bool). Adds c s (drop to s) place (max most (worst t (variableOf T) (inRef 0 y))) Broken)
-          (sym (ap (λ (c : Bool). b && (c && alike (showRef x) (showRef y))) es ∙ and-not b (alike (showRef x) (showRef y)))) refl)
-
-      module _ {al : Bool} (ha : Alike s n from to al) where
-        pub summands-other : al ≡ false → Summands b T s n from place most before after Broken
-        unfolding Past Adds
-        summands-other ea = by-reference Broken tt (λ t x y sx sy ez.
-            subst (λ (c : Bool). Adds c s (drop to s) place (max most (worst t (variableOf T) (inRef 0 y))) Broken)
-            (sym (ap (λ (c : Bool). b && (signs (drop to s) && c)) (sym (ha (showRef x) (showRef y) sx sy) ∙ ea) ∙ and-none b (signs (drop to s)))) refl)
-
-        pub summands-found : b ≡ true → al ≡ true → signs (drop to s) ≡ true → Summands b T s n from place most before after (Done to place z)
-        unfolding Past Adds
-        summands-found eb ea es =
-            let w = within-done s from 0 (suc from) g to p z (an .within) e in
-            by-reference (Done to place z) (omega (arith, w .0), w .1, refl) (λ t x y sx sy ez.
-            subst (λ (c : Bool). Adds c s (drop to s) place (max most (worst t (variableOf T) (inRef 0 y))) (Done to place z))
-            (λ i. sym eb i && (sym es i && (sym (sym (ha (showRef x) (showRef y) sx sy) ∙ ea)) i))
-            (to, ap (Done to place) ez, refl))
+pub offers-some : (g : Target) (l : Left) (T s : List ℕ) (from : ℕ) (b a : List ℕ) (r : Got) → g .reduction ≡ true
+    → Rests (g .operator) l T s from b a r → Offers g l T s from b a r
+offers-some g l T s from b a r e h = record {
+  none = λ n t d f lt x sp c w k. (λ i. e i && h .none n t d f lt x sp c w k i);
+  found = λ a q z n t d f lt x sp. (e, h .found a q z n t d f lt x sp);
+  kept = h .kept;
+  past = h .past;
+}

@@ -1,18 +1,20 @@
 -- Assignments: what the reader answers, from what the readers that it calls in turn answer.
 use mathlib.Core.Path.{_≡_, refl, sym, _∙_, ap, subst}
-use mathlib.Core.Bool.{Bool, true, false, cond, _&&_}
+use mathlib.Core.Bool.{Bool, true, cond, _&&_}
 use mathlib.Core.List.{List, [], _∷_, _++_, append-assoc}
-use mathlib.Core.Option.{Option, none, some}
+use mathlib.Core.Option.{some}
 use Prim.Native.Nat.{ℕ, zero, suc, _+_, _-_, _*_, _≤_, _<_, max}
 use native.Mathlib.Omega.{arith}
 use lib.ListN.{length, take, drop, set, length-append}
 use lib.Seq.{sets, take-take, take-set-le}
+use Rattle.rules.specs.declared.Operator.{Operator}
 use Rattle.syntax.specs.Bytes.{bytes, same}
 use Rattle.syntax.specs.Grammar.{Expr, Ref, showRef, assign, Line, inside}
-use Rattle.syntax.specs.Known.{Entry, find}
-use Rattle.syntax.specs.Meaning.{alike, summand, same-ref, is-reduction, is-update, remainder}
+use Rattle.syntax.specs.Known.{Entry}
+use Rattle.syntax.specs.Meaning.{same-ref, repeated, operator-at, is-update, remainder}
 use Rattle.syntax.specs.Conditions.{refName, mentions, inRef, inLine}
 use Rattle.syntax.specs.Reader.{Parsed, broken, done, next, expects, peek-in, skip-in, readExpr, readRef, readAssign}
+use Rattle.syntax.specs.Spelled.{Spells}
 use Rattle.syntax.proofs.SoundExpr.{sounds}
 use Rattle.code.specs.Instr.{Instr, words}
 use Rattle.code.specs.Compile.{code, codeRef, checks, updates, codeAssign}
@@ -25,12 +27,14 @@ use Rattle.parts.specs.declared.Got.the-variants.{Broken, Done}
 use Rattle.parts.proofs.Laws.{worst-append, Since, read-done, read-broken}
 use Rattle.code.proofs.Words.{words-append, words-length}
 use Rattle.parts.proofs.Spans.{within-done}
+use Rattle.updates.specs.declared.Left.{Left}
+use Rattle.updates.specs.Forms.{depthOf, readRest, Remains}
+use Rattle.updates.proofs.Resting.{past-done}
 use Rattle.assignments.specs.declared.Target.{Target}
 use Rattle.statements.specs.Statement.{codeLine, assignedRank, rankLine, Writes, Bounded, Compiles}
-use Rattle.assignments.specs.Assignment.{Targets, signs, Adds, Begun, Past, Summands, codeUpdate, codeStore, Updates, Stores}
+use Rattle.assignments.specs.Assignment.{Targets, Offers, codeUpdate, codeStore, Updates, Stores}
 use Rattle.statements.proofs.Passing.{expects-there, expects-not}
 use Rattle.statements.proofs.Written.{take-sets, bounded-done}
-use Rattle.assignments.proofs.Readings.{joined, joined-read, joined-summand, joined-rank, joined-remainder, summand-read}
 use Rattle.assignments.proofs.Assigned.{Meant, meant}
 
 -- ---- what is written
@@ -59,10 +63,6 @@ module _ (place p : ℕ) (b m₁ m₂ : List ℕ) (is : List Instr) (ep : p ≡ 
       ∙ append-assoc (take (2 * place) b) (words is) (words js) ∙ ap (λ (l : List ℕ). take (2 * place) b ++ l) (sym (words-append is js))
 
 -- ---- the left side and =
-
-no-and : (a : Bool) → a && false ≡ false
-no-and true = refl
-no-and false = refl
 
 module _ (T s : List ℕ) (line place : ℕ) (b m₁ a : List ℕ) (r : Got) (most : ℕ) (g : Got)
     (an : Answers (readRef peek-in skip-in) (λ t v. codeRef t v line) (inRef 0) 0 1 T s 0 place most b m₁ g) where
@@ -111,11 +111,9 @@ module _ (T s : List ℕ) (line place : ℕ) (b m₁ a : List ℕ) (r : Got) (mo
       unfolding readAssign
       assign-shape f x hx = rw (hx, expects-there "=" go refl l)
 
-      module _ (tg : Target) (ta : Targets T s tg) (em : most ≡ cond (tg .variable) 2 0) (m₂ : List ℕ) (g₂ : Got)
-          (su : Summands (tg .reduction) T s n from p z m₁ m₂ g₂)
+      module _ (tg : Target) (ta : Targets T s tg) (em : most ≡ cond (tg .variable) 2 0) (lf : Left) (en : lf .end ≡ n) (ez : lf .rank ≡ z)
+          (ep : lf .place ≡ p) (m₂ : List ℕ) (g₂ : Got) (su : Offers tg lf T s from m₁ m₂ g₂)
           (room : 2 * (place + 2 * length s) ≤ length b) (same-length : length m₂ ≡ length b) where
-        -- ---- no update
-
         -- with the rank of the right side, the whole has its rank
         assigned-rank : (t : List Entry) (x : Ref) (c : Expr) → Meant T tg t x → z ≡ max most (worst t (variableOf T) (inRef 0 x))
             → max z (worst t (variableOf T) (mentions 0 c)) ≡ rankLine t (variableOf T) (inside (assign x c))
@@ -125,27 +123,19 @@ module _ (T s : List ℕ) (line place : ℕ) (b m₁ a : List ℕ) (r : Got) (mo
             let q : most ≡ cond (same (refName x) v) 2 0 = em ∙ ap (λ (y : Bool). cond y 2 0) (me .variable) in
             omega (arith, worst-append t v (inRef 0 x) (mentions 0 c))
 
-        -- where the code found no update, there is none
-        no-update : g₂ ≡ Broken → (t : List Entry) → Tabled T t → (f : ℕ) → 3 * length s + 4 ≤ suc (suc (suc f)) → (x : Ref) → Meant T tg t x
-            → readRef peek-in skip-in (suc (suc (suc f))) s ≡ done x (drop n s)
-            → (c : Expr) (w : List ℕ) → readExpr peek-in skip-in (suc (suc (suc f))) (drop from s) ≡ done c w → is-update t x c ≡ false
-        unfolding is-update Begun Adds
-        no-update eg t d f lt x me hx c w hc = by-summand (summand c) refl
-          where
-            by-test : (k j q : Bool) → k ≡ true → (u : List ℕ) (i : ℕ) → Adds (j && (k && q)) s u p i g₂ → j && q ≡ false
-            by-test true true true e u i (a′, h, _) = absurd (let z : _≡_ {A = ℕ} 0 1 = cc in omega arith)
-            by-test true true false e u i h = refl
-            by-test true false q e u i h = refl
-            by-test false j q e u i h = absurd (let z : _≡_ {A = ℕ} 0 1 = cc in omega arith)
+        kept : take (2 * p) m₂ ≡ take (2 * p) m₁
+        kept = subst (λ (i : ℕ). take (2 * i) m₂ ≡ take (2 * i) m₁) ep (su .kept)
 
-            by-summand : (o : Option Ref) → summand c ≡ o → is-reduction (find (refName x) t .class) && same-ref x o ≡ false
-            by-summand none e = no-and (is-reduction (find (refName x) t .class))
-            by-summand (some y) e =
-                let (u, hy, pl) = summand-read f (drop from s) w c y hc e in
-                ap (λ (q : Bool). q && alike (showRef x) (showRef y)) (sym (me .reduction))
-                ∙ by-test (signs u) (tg .reduction) (alike (showRef x) (showRef y)) pl u _
-                (subst (λ (P : Parsed (List ℕ) Ref). Begun (tg .reduction) t (variableOf T) s x P p z g₂) hy
-                (su .begun t d f (omega arith) x (sounds peek-in skip-in (suc (suc (suc f))) .ref s (drop n s) x hx)))
+        -- the left side, as it is spelled
+        spelled : (f : ℕ) (x : Ref) → readRef peek-in skip-in f s ≡ done x (drop n s) → Spells peek-in skip-in s (showRef x) (drop (lf .end) s)
+        spelled f x hx = subst (λ (i : ℕ). Spells peek-in skip-in s (showRef x) (drop i s)) (sym en) (sounds peek-in skip-in f .ref s (drop n s) x hx)
+
+        -- by what the table says of its name
+        update-is : (t : List Entry) (x : Ref) (c : Expr) → Meant T tg t x → is-update t x c ≡ tg .reduction && same-ref x (repeated (tg .operator) c)
+        unfolding is-update
+        update-is t x c me = (λ i. sym (me .reduction) i && same-ref x (repeated (sym (me .operator) i) c))
+
+        -- ---- no update
 
         module _ (eg : g₂ ≡ Broken) (st : Stores T s from line place z m₂ a r) where
           -- P is what is read as the right side
@@ -162,9 +152,10 @@ module _ (T s : List ℕ) (line place : ℕ) (b m₁ a : List ℕ) (r : Got) (mo
               let v = variableOf T in
               let me = meant ta t d (suc (suc (suc f))) x (drop n s) hx in
               let is = codeStore t v line x c in
+              let no = update-is t x c me ∙ su .none eg t d f (omega arith) x (spelled (suc (suc (suc f))) x hx) c w e in
               let ec : is ≡ codeAssign t v line x c = ap
-              (λ (q : Bool). cond q (((codeRef t v line x ++ checks t v line x) ++ code t v line (remainder c)) ++ (updates t v line x ∷ [])) is)
-              (sym (no-update eg t d f lt x me hx c w e)) in
+              (λ (q : Bool). cond q (((codeRef t v line x ++ checks t v line x) ++ code t v line (remainder (operator-at t x) c)) ++ (updates t v line x ∷ [])) is)
+              (sym no) in
               let er : max z (max (worst t v (mentions 0 c)) (worst t v (inRef 0 x))) ≡ rankLine t v (inside (assign x c)) =
               omega (arith, so .rank-is, assigned-rank t x c me (so .rank-is)) in
               let ej : 2 * (place + length is) ≡ 2 * place + length (words is) = omega (arith, words-length is) in (
@@ -172,7 +163,7 @@ module _ (T s : List ℕ) (line place : ℕ) (b m₁ a : List ℕ) (r : Got) (mo
                 h .1 ∙ (λ i. Done (length s - length w) (place + length (ec i)) (er i)),
                 subst (λ (js : List Instr). take (2 * (place + length js)) a ≡ take (2 * place) b ++ words js) ec
                     ((λ i. take (ej i) (h .2 i)) ∙ take-sets m₂ (2 * place) (words is) (omega (arith, bounded-done s place r _ _ _ (st .within) (h .1)))
-                    ∙ ap (λ (l : List ℕ). l ++ words is) (kept-before place p b m₁ m₂ (codeRef t v line x) (so .place-is) (so .code-is) (su .kept))),
+                    ∙ ap (λ (l : List ℕ). l ++ words is) (kept-before place p b m₁ m₂ (codeRef t v line x) (so .place-is) (so .code-is) kept)),
               )
 
           pub assign-stores : Compiles (readAssign peek-in skip-in) T s line place b a r
@@ -191,10 +182,9 @@ module _ (T s : List ℕ) (line place : ℕ) (b m₁ a : List ℕ) (r : Got) (mo
 
         -- ---- an update
 
-        module _ (a₂ q y₂ : ℕ) (eg : g₂ ≡ Done a₂ q y₂) (up : Updates T s a₂ line q y₂ m₂ a r) where
+        module _ (a₂ q y₂ : ℕ) (eg : g₂ ≡ Done a₂ q y₂) (up : Updates (tg .operator) T s a₂ line q y₂ m₂ a r) where
           past-left : (from < a₂) × (a₂ ≤ length s) × (q ≡ p)
-          unfolding Past
-          past-left = subst (Past s from p) eg (su .past)
+          past-left = let w = past-done s from (lf .place) g₂ a₂ q y₂ (su .past) eg in (w .0, w .1, w .2 ∙ ep)
 
           updates-bounded : Bounded s place r
           unfolding Within Bounded
@@ -218,76 +208,56 @@ module _ (T s : List ℕ) (line place : ℕ) (b m₁ a : List ℕ) (r : Got) (mo
           module _ (t : List Entry) (d : Tabled T t) (f : ℕ) (lt : 3 * length s + 4 ≤ suc (suc (suc f))) (x : Ref)
               (hx : readRef peek-in skip-in (suc (suc (suc f))) s ≡ done x (drop n s))
               (so : Since place most b (codeRef t (variableOf T) line x) (worst t (variableOf T) (inRef 0 x)) p z m₁) where
-            module _ (y : Ref) (ey : y₂ ≡ max z (worst t (variableOf T) (inRef 0 y))) (er : tg .reduction ≡ true)
-                (al : alike (showRef x) (showRef y) ≡ true) where
-              -- what is added is c
-              updates-it : (c : Expr) → is-update t x (joined y c) ≡ true
-              unfolding is-update
-              updates-it c =
-                  (λ i. sym (meant ta t d (suc (suc (suc f))) x (drop n s) hx .reduction) i && same-ref x (joined-summand y c i)) ∙ (λ i. er i && al i)
+            me : Meant T tg t x
+            me = meant ta t d (suc (suc (suc f))) x (drop n s) hx
 
-              update-code : (c : Expr) → remainder (joined y c) ≡ c
-                  → codeRef t (variableOf T) line x ++ codeUpdate t (variableOf T) line x c ≡ codeAssign t (variableOf T) line x (joined y c)
-              unfolding codeAssign
-              update-code c e =
-                  let v = variableOf T in
-                  sym (ap (λ (q : Bool). cond q
-                  (((codeRef t v line x ++ checks t v line x) ++ code t v line (remainder (joined y c))) ++ (updates t v line x ∷ []))
-                  (codeStore t v line x (joined y c)))
-                  (updates-it c)
-                  ∙ ap (λ (k : Expr). ((codeRef t v line x ++ checks t v line x) ++ code t v line k) ++ (updates t v line x ∷ [])) e
-                  ∙ simp append-assoc)
+            reduces-rest : (tg .reduction ≡ true) × Remains (tg .operator) t (variableOf T) s x f from a₂ (lf .rank) y₂
+            reduces-rest = su .found a₂ q y₂ eg t d f (omega arith) x (spelled (suc (suc (suc f))) x hx)
 
-              -- P is what is read as the remainder
-              updated : signs (drop a₂ s) ≡ true → (P : Parsed (List ℕ) Expr) → readExpr peek-in skip-in (suc (suc f)) (drop a₂ s) ≡ P
-                  → Reads (codeUpdate t (variableOf T) line x) (λ c. worst t (variableOf T) (mentions 0 c)) s P q y₂ m₂ a r
-                  → Writes t (variableOf T) line s (next (next P (λ c w. done (joined y c) w)) (λ c w. done (inside (assign x c)) w)) place b a r
-              unfolding Reads Writes codeLine
-              updated es broken e h = h
-              updated es (done c w) e h =
-                  let v = variableOf T in
-                  let me = meant ta t d (suc (suc (suc f))) x (drop n s) hx in
-                  let js = codeUpdate t v line x c in
-                  let eq = past-left .2 in
-                  let ec = update-code c (joined-remainder (suc f) (drop a₂ s) w y c es e) in
-                  let el : q + length js ≡ place + length (codeRef t v line x ++ js) = omega (arith, so .place-is, length-append (codeRef t v line x) js) in
-                  let ek : max y₂ (worst t v (mentions 0 c)) ≡ rankLine t v (inside (assign x (joined y c))) = omega (
-                    arith,
-                    assigned-rank t x (joined y c) me (so .rank-is),
-                    joined-rank t v y c,
-                  ) in (
-                    h .0,
-                    h .1 ∙ (λ i. Done (length s - length w) ((el ∙ ap (λ (k : List Instr). place + length k) ec) i) (ek i)),
-                    subst (λ (k : List Instr). take (2 * (place + length k)) a ≡ take (2 * place) b ++ words k) ec
-                        (written-after place p b m₁ m₂ (codeRef t v line x) (so .place-is) (so .code-is) (su .kept) a js
-                        (h .2 ∙ ap (λ (k : ℕ). sets m₂ (2 * k) (words js)) eq)
-                        (omega (arith, bounded-done s place r _ _ _ updates-bounded (h .1))) same-length),
-                  )
+            abbrev re : Remains (tg .operator) t (variableOf T) s x f from a₂ (lf .rank) y₂
+            re = reduces-rest .1
 
-            -- P is the reference that the right side begins with
-            by-reference : (P : Parsed (List ℕ) Ref) → readRef peek-in skip-in f (drop from s) ≡ P → Begun (tg .reduction) t (variableOf T) s x P p z g₂
+            -- the right side is c and its remainder k
+            update-code : (c k : Expr) → repeated (tg .operator) c ≡ some (re .ref) → remainder (tg .operator) c ≡ k
+                → codeRef t (variableOf T) line x ++ codeUpdate t (variableOf T) line x k ≡ codeAssign t (variableOf T) line x c
+            unfolding codeAssign
+            update-code c k h e =
+                let v = variableOf T in
+                let yes′ = update-is t x c me ∙ (λ i. reduces-rest .0 i && same-ref x (h i)) ∙ re .same in
+                sym (ap (λ (q : Bool). cond q
+                (((codeRef t v line x ++ checks t v line x) ++ code t v line (remainder (operator-at t x) c)) ++ (updates t v line x ∷ []))
+                (codeStore t v line x c))
+                yes′
+                ∙ ap (λ (i : Expr). ((codeRef t v line x ++ checks t v line x) ++ code t v line i) ++ (updates t v line x ∷ []))
+                (ap (λ (i : Operator). remainder i c) (sym (me .operator)) ∙ e)
+                ∙ simp append-assoc)
+
+            -- P is what is read as the remainder
+            updated : (P : Parsed (List ℕ) Expr) → readRest (tg .operator) (re .fuel) (drop a₂ s) ≡ P
+                → Reads (codeUpdate t (variableOf T) line x) (λ c. worst t (variableOf T) (mentions (depthOf (tg .operator)) c)) s P q y₂ m₂ a r
                 → Writes t (variableOf T) line s (readAssign peek-in skip-in (suc (suc (suc f))) s) place b a r
-            unfolding Begun Adds
-            by-reference broken e h = absurd (let z : _≡_ {A = ℕ} 0 1 = cc in omega arith)
-            by-reference (done y u) e h = by-test (tg .reduction) (signs u) (alike (showRef x) (showRef y)) refl refl refl h
-              where
-                by-test : (i j k : Bool) → tg .reduction ≡ i → signs u ≡ j → alike (showRef x) (showRef y) ≡ k
-                    → Adds (i && (j && k)) s u p (max z (worst t (variableOf T) (inRef 0 y))) g₂
-                    → Writes t (variableOf T) line s (readAssign peek-in skip-in (suc (suc (suc f))) s) place b a r
-                by-test true true true ei ej ek (a′, h, su′) =
-                    let ea : a′ ≡ a₂ = cc in
-                    let eu : u ≡ drop a₂ s = su′ ∙ ap (λ (i : ℕ). drop i s) ea in
-                    let ey : y₂ ≡ max z (worst t (variableOf T) (inRef 0 y)) = cc in
-                    subst (λ (P : Parsed (List ℕ) Line). Writes t (variableOf T) line s P place b a r)
-                    (sym (assign-shape (suc (suc (suc f))) x hx
-                    ∙ ap (λ (P : Parsed (List ℕ) Expr). next P (λ c w. done (inside (assign x c)) w))
-                    (joined-read f (drop from s) u y e ej
-                    ∙ ap (λ (v : List ℕ). next (readExpr peek-in skip-in (suc (suc f)) v) (λ c w. done (joined y c) w)) eu)))
-                    (updated y ey ei ek (ap signs (sym eu) ∙ ej) (readExpr peek-in skip-in (suc (suc f)) (drop a₂ s)) refl
-                    (up .reads t d (suc (suc f)) (omega (arith, past-left .0, past-left .1)) (suc (suc (suc f))) x (drop n s) hx))
-                by-test true true false ei ej ek h = absurd (let z : _≡_ {A = ℕ} 0 1 = cc in omega arith)
-                by-test true false k ei ej ek h = absurd (let z : _≡_ {A = ℕ} 0 1 = cc in omega arith)
-                by-test false j k ei ej ek h = absurd (let z : _≡_ {A = ℕ} 0 1 = cc in omega arith)
+            unfolding Reads Writes codeLine
+            updated broken e h =
+                subst (λ (P : Parsed (List ℕ) Line). Writes t (variableOf T) line s P place b a r)
+                (sym (assign-shape (suc (suc (suc f))) x hx ∙ ap (λ (P : Parsed (List ℕ) Expr). next P (λ c w. done (inside (assign x c)) w)) (re .unread e))) h
+            updated (done k w) e h =
+                let v = variableOf T in
+                let (c, hc, hr, hm, hk) = re .read k w e in
+                let js = codeUpdate t v line x k in
+                let eq = past-left .2 in
+                let ec = update-code c k hr hm in
+                let el : q + length js ≡ place + length (codeRef t v line x ++ js) = omega (arith, so .place-is, length-append (codeRef t v line x) js) in
+                let ek : max y₂ (worst t v (mentions (depthOf (tg .operator)) k)) ≡ rankLine t v (inside (assign x c)) =
+                hk ∙ ap (λ (i : ℕ). max i (worst t v (mentions 0 c))) ez ∙ assigned-rank t x c me (so .rank-is) in
+                subst (λ (P : Parsed (List ℕ) Line). Writes t (variableOf T) line s P place b a r)
+                (sym (assign-shape (suc (suc (suc f))) x hx ∙ ap (λ (P : Parsed (List ℕ) Expr). next P (λ c w. done (inside (assign x c)) w)) hc)) (
+                  h .0,
+                  h .1 ∙ (λ i. Done (length s - length w) ((el ∙ ap (λ (i : List Instr). place + length i) ec) i) (ek i)),
+                  subst (λ (i : List Instr). take (2 * (place + length i)) a ≡ take (2 * place) b ++ words i) ec
+                      (written-after place p b m₁ m₂ (codeRef t v line x) (so .place-is) (so .code-is) kept a js
+                      (h .2 ∙ ap (λ (i : ℕ). sets m₂ (2 * i) (words js)) eq)
+                      (omega (arith, bounded-done s place r _ _ _ updates-bounded (h .1))) same-length),
+                )
 
           pub assign-updates : Compiles (readAssign peek-in skip-in) T s line place b a r
           assign-updates = record { reads = by-fuel; within = updates-bounded }
@@ -299,5 +269,5 @@ module _ (T s : List ℕ) (line place : ℕ) (b m₁ a : List ℕ) (r : Got) (mo
               by-fuel t d (suc (suc zero)) lt = absurd (omega arith)
               by-fuel t d (suc (suc (suc f))) lt =
                   let (x, hx, so) = read-left t d (suc (suc (suc f))) lt in
-                  by-reference t d f lt x hx so (readRef peek-in skip-in f (drop from s)) refl
-                  (su .begun t d f (omega arith) x (sounds peek-in skip-in (suc (suc (suc f))) .ref s (drop n s) x hx))
+                  updated t d f lt x hx so (readRest (tg .operator) (re t d f lt x hx so .fuel) (drop a₂ s)) refl
+                  (up .reads t d (re t d f lt x hx so .fuel) (re t d f lt x hx so .enough) (suc (suc (suc f))) x (drop n s) hx)

@@ -1,4 +1,3 @@
--- What the readers of an assignment read, and assignments.
-pub mod Readings
+-- The parts of an assignment, and assignments.
 pub mod Assigned
 pub mod Assignments

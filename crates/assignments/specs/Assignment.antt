@@ -2,16 +2,19 @@
 -- of a store.
 use mathlib.Core.Path.{_≡_}
 use mathlib.Core.Bool.{Bool, true, false, cond, _&&_, _||_}
+use lib.Dec.{eqb}
 use mathlib.Core.List.{List, [], _∷_, _++_}
-use Prim.Native.Nat.{ℕ, suc, _+_, _-_, _*_, _≤_, _<_, max}
+use Prim.Native.Nat.{ℕ, suc, _+_, _-_, _*_, _<_, max}
 use lib.ListN.{length, take, drop}
 use lib.Seq.{sets}
+use Rattle.rules.specs.declared.Operator.{Operator}
+use Rattle.rules.specs.Loop.{operator}
 use Rattle.syntax.specs.Bytes.{same}
 use Rattle.syntax.specs.Grammar.{Expr, Ref, showRef}
 use Rattle.syntax.specs.Known.{Entry, find}
-use Rattle.syntax.specs.Meaning.{alike, is-reduction}
+use Rattle.syntax.specs.Meaning.{is-reduction, same-ref, repeated}
 use Rattle.syntax.specs.Conditions.{mentions, inRef}
-use Rattle.syntax.specs.Reader.{Parsed, broken, done, peek-in, skip-in, readExpr, readRef}
+use Rattle.syntax.specs.Reader.{done, peek-in, skip-in, readExpr, readRef}
 use Rattle.syntax.specs.Spelled.{Spells}
 use Rattle.code.specs.Instr.{Instr}
 use Rattle.code.specs.Compile.{code, codeRef, stores, checks, updates}
@@ -20,6 +23,8 @@ use Rattle.parts.specs.Answer.{worst, Reads, Within}
 use Rattle.parts.specs.Parts.{kindAt, textAt, stands}
 use Rattle.parts.specs.declared.Got.{Got}
 use Rattle.parts.specs.declared.Got.the-variants.{Broken, Done}
+use Rattle.updates.specs.declared.Left.{Left}
+use Rattle.updates.specs.Forms.{Past, depthOf, readRest, Remains}
 use Rattle.assignments.specs.declared.Target.{Target}
 use Rattle.statements.specs.Statement.{Bounded}
 
@@ -32,6 +37,7 @@ operandOf b first size = cond b (first + 4096 * size) first
 -- what the names t and the loop's variable v say of the name x
 pub record Named (t : List Entry) (v x : List ℕ) (r : Target) : Type 0 where
   pub reduction : r .reduction ≡ is-reduction (find x t .class)
+  pub operator : r .operator ≡ operator (find x t .class)
   pub variable : r .variable ≡ same x v
   pub operand : r .operand ≡ operandOf (r .subscripted) (find x t .first) (find x t .size)
 
@@ -42,31 +48,20 @@ pub record Targets (T s : List ℕ) (r : Target) : Type 0 where
 
 -- ---- whether it is an update
 
--- + or - stands there
-abbrev pub signs : List ℕ → Bool
-signs u = stands 43 u || stands 45 u
+-- a class is a reduction's, by its number
+abbrev pub reduces : ℕ → Bool
+reduces k = eqb k 2 || (eqb k 4 || eqb k 5)
 
--- Broken where it is none; else the place u of the sign and the highest rank so far
-unfoldable pub Adds : Bool → List ℕ → List ℕ → ℕ → ℕ → Got → Type 0
-Adds false s u place rank r = r ≡ Broken
-Adds true s u place rank r = (a : ℕ) × (r ≡ Done a place rank) × (u ≡ drop a s)
-
--- x is the left side, and what is read at the right side's place is a reference or none
-unfoldable pub Begun : Bool → List Entry → List ℕ → List ℕ → Ref → Parsed (List ℕ) Ref → ℕ → ℕ → Got → Type 0
-Begun b t v s x broken place most r = r ≡ Broken
-Begun b t v s x (done y u) place most r = Adds (b && (signs u && alike (showRef x) (showRef y))) s u place (max most (worst t v (inRef 0 y))) r
-
--- the place of the sign lies after the right side's place
-unfoldable pub Past : List ℕ → ℕ → ℕ → Got → Type 0
-Past s from place Broken = Unit {0}
-Past s from place (Done a p d) = (from < a) × (a ≤ length s) × (p ≡ place)
-
--- the right side, from a place on, begins with the left one, which ends at n, and + or - follows; b says whether its name is a reduction's
-pub record Summands (b : Bool) (T s : List ℕ) (n from place most : ℕ) (before after : List ℕ) (r : Got) : Type 0 where
-  pub begun : (t : List Entry) → Tabled T t → (f : ℕ) → 3 * (length s - from) < f → (x : Ref) → Spells peek-in skip-in s (showRef x) (drop n s)
-      → Begun b t (variableOf T) s x (readRef peek-in skip-in f (drop from s)) place most r
-  pub kept : take (2 * place) after ≡ take (2 * place) before
-  pub past : Past s from place r
+-- as `Rests`, for a target that need not be a reduction's
+pub record Offers (g : Target) (l : Left) (T s : List ℕ) (from : ℕ) (before after : List ℕ) (r : Got) : Type 0 where
+  pub none : r ≡ Broken → (t : List Entry) → Tabled T t → (f : ℕ) → 3 * (length s - from) < f → (x : Ref)
+      → Spells peek-in skip-in s (showRef x) (drop (l .end) s) → (c : Expr) (w : List ℕ)
+      → readExpr peek-in skip-in (suc (suc (suc f))) (drop from s) ≡ done c w → g .reduction && same-ref x (repeated (g .operator) c) ≡ false
+  pub found : (a q z : ℕ) → r ≡ Done a q z → (t : List Entry) → Tabled T t → (f : ℕ) → 3 * (length s - from) < f → (x : Ref)
+      → Spells peek-in skip-in s (showRef x) (drop (l .end) s)
+      → (g .reduction ≡ true) × Remains (g .operator) t (variableOf T) s x f from a (l .rank) z
+  pub kept : take (2 * l .place) after ≡ take (2 * l .place) before
+  pub past : Past s from (l .place) r
 
 -- ---- code
 
@@ -91,9 +86,9 @@ abbrev pub codeStore : List Entry → List ℕ → ℕ → Ref → Expr → List
 codeStore t v line x e = (code t v line e ++ codeRef t v line x) ++ (stores t v line x ∷ [])
 
 -- the remainder at a place, where x is the left side
-pub record Updates (T s : List ℕ) (at line place most : ℕ) (before after : List ℕ) (r : Got) : Type 0 where
+pub record Updates (o : Operator) (T s : List ℕ) (at line place most : ℕ) (before after : List ℕ) (r : Got) : Type 0 where
   pub reads : (t : List Entry) → Tabled T t → (f : ℕ) → 3 * (length s - at) + 2 < f → (g : ℕ) (x : Ref) (u : List ℕ) → readRef peek-in skip-in g s ≡ done x u
-      → Reads (codeUpdate t (variableOf T) line x) (λ e. worst t (variableOf T) (mentions 0 e)) s (readExpr peek-in skip-in f (drop at s)) place most before
+      → Reads (codeUpdate t (variableOf T) line x) (λ e. worst t (variableOf T) (mentions (depthOf o) e)) s (readRest o f (drop at s)) place most before
       after r
   pub within : Within s at (place + 2) (suc at) r
 

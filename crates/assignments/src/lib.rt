@@ -2,13 +2,12 @@
 ghost use mathlib.Core.Path.{_≡_};
 ghost use mathlib.Core.Bool.{cond};
 ghost use Prim.Native.Nat.{_≤_, _<_, _+_, _*_};
-ghost use lib.ListN.{length, drop};
+ghost use lib.ListN.{length};
 ghost use Rattle.syntax.specs.Reader.{peek-in, skip-in, readAssign};
 ghost use Rattle.parts.specs.Answer.{Ready};
 ghost use Rattle.parts.specs.Parts.{spanOf};
 ghost use Rattle.statements.specs.Statement.{Compiles};
-ghost use Rattle.assignments.specs.Assignment.{Targets, signs, Summands, Back, Tests, Updates, Stores};
-use alike::alike;
+ghost use Rattle.assignments.specs.Assignment.{reduces, Targets, Offers, Back, Tests, Updates, Stores};
 use code::CHECK;
 use code::LINE;
 use code::STORE;
@@ -27,18 +26,21 @@ use names::VARIABLE;
 use names::find;
 use names::is_named;
 use parts::Got;
-use parts::Joint;
 use parts::emit;
-use parts::join;
 use parts::span;
 use parts::then_emit;
+use rules::Operator;
+use updates::Left;
+use updates::remainder;
+use updates::rest;
 
 // ---- the name that is assigned
 
-// Whether it has a subscript, is a reduction's, is the loop's variable; and the argument of its accesses.
+// Whether it has a subscript, whether it is a reduction's and by which operator, whether it is the loop's variable; and the argument of its accesses.
 struct Target {
     subscripted: bool,
     reduction: bool,
+    operator: Operator,
     variable: bool,
     operand: u32,
 }
@@ -51,6 +53,19 @@ fn operand_of(subscripted: bool, first: u32, size: u32) -> u32
         return span(first, size);
     }
     first
+}
+
+// Whether a class is a reduction's.
+fn is_reduction(class: u32) -> bool
+    ensures { λ r. ⌜ r ≡ reduces class ⌝ }
+{
+    if class == rules::SUM {
+        return true;
+    }
+    if class == rules::PRODUCT {
+        return true;
+    }
+    class == rules::MAXIMUM
 }
 
 // The name that a line begins with.
@@ -67,6 +82,7 @@ fn target_of(s: &[u8], table: &Table) -> Target
         return Target {
             subscripted,
             reduction: false,
+            operator: Operator::Sum,
             variable: false,
             operand: 0,
         };
@@ -74,7 +90,8 @@ fn target_of(s: &[u8], table: &Table) -> Target
     let n = find(table, &s[a..e]);
     Target {
         subscripted,
-        reduction: n.class == rules::REDUCTION,
+        reduction: is_reduction(n.class),
+        operator: rules::operator_of(n.class),
         variable: is_named(table, VARIABLE, &s[a..e]),
         operand: operand_of(subscripted, n.first, n.size),
     }
@@ -82,61 +99,17 @@ fn target_of(s: &[u8], table: &Table) -> Target
 
 // ---- assignments
 
-// Whether + or - stands at a place.
-fn signed(s: &[u8], at: usize) -> bool
-    requires { ⌜ at ≤ length (now s) ⌝ }
-    ensures { λ r. ⌜ r ≡ signs (drop at (now (s .entry))) ⌝ }
+// Where the right side, from a place on, is that of an update: the place of its remainder. Only a reduction's name has updates, those of its own clause.
+fn offer(s: &[u8], from: usize, target: Target, left: Left, table: &Table, code: &mut [u32]) -> Got
+    requires { ⌜ Ready (now s) from 0 (left .place) (now code) ⌝ }
+    requires { ⌜ (left .end ≤ length (now s)) × (left .line ≤ 2049) ⌝ }
+    ensures { λ r. ⌜ Offers target left (now (table .entry)) (now (s .entry)) from (now (code .entry)) (now (code .exit)) r ⌝ }
 {
-    let j = join(s, at, b'+', b'-');
-    let sign = j.joint;
-    match sign {
-        Joint::Neither => false,
-        Joint::First => true,
-        Joint::Second => true,
-    }
-}
-
-// Where the right side begins with the left one, which ends at n, and + or - follows: the place of that sign. Only a reduction's name has updates. What is
-// emitted here lies after the place, and others write over it.
-fn summand(
-    s: &[u8],
-    n: usize,
-    from: usize,
-    rank: u32,
-    line: u32,
-    table: &Table,
-    code: &mut [u32],
-    place: usize,
-    reduction: bool,
-) -> Got
-    requires { ⌜ Ready (now s) from 0 place (now code) ⌝ }
-    requires { ⌜ (n ≤ length (now s)) × (line ≤ 2049) ⌝ }
-    ensures { λ r. ⌜ Summands reduction (now (table .entry)) (now (s .entry)) n from place rank (now (code .entry)) (now (code .exit)) r ⌝ }
-{
-    if !reduction {
+    if !target.reduction {
         return Got::Broken;
     }
-    let i = 2 * place;
-    match reference(s, from, rank, line, table, &mut code[i..], 0) {
-        Got::Done {
-            at: to,
-            place: p,
-            rank: d,
-        } => {
-            if !signed(s, to) {
-                return Got::Broken;
-            }
-            if !alike(s, n, from, to) {
-                return Got::Broken;
-            }
-            Got::Done {
-                at: to,
-                place,
-                rank: d,
-            }
-        }
-        Got::Broken => Got::Broken,
-    }
+    let operator = target.operator;
+    rest(s, from, operator, left, table, code)
 }
 
 // The operation of an access, without a subscript or with one.
@@ -172,7 +145,7 @@ fn test(code: &mut [u32], place: usize, line: u32, subscripted: bool, operand: u
     place
 }
 
-// The rest of an update: its remainder, an expression that begins with a sign. The code of its subscript stands before the place.
+// The rest of an update: its remainder. The code of its subscript stands before the place.
 fn updating(
     s: &[u8],
     at: usize,
@@ -183,16 +156,17 @@ fn updating(
     place: usize,
     target: Target,
 ) -> Got
-    requires { ⌜ Ready (now s) at 0 (place + 2) (now code) ⌝ }
+    requires { ⌜ Ready (now s) at 1 (place + 2) (now code) ⌝ }
     requires { ⌜ (line ≤ 2049) × Targets (now table) (now s) target ⌝ }
-    ensures { λ r. ⌜ Updates (now (table .entry)) (now (s .entry)) at line place rank (now (code .entry)) (now (code .exit)) r ⌝ }
+    ensures { λ r. ⌜ Updates (target .operator) (now (table .entry)) (now (s .entry)) at line place rank (now (code .entry)) (now (code .exit)) r ⌝ }
 {
     let subscripted = target.subscripted;
     let operand = target.operand;
+    let operator = target.operator;
     let p = test(code, place, line, subscripted, operand);
     let o = operation(UPDATE, UPDATE_AT, line, subscripted);
     then_emit(
-        expression(s, at, 0, rank, line, table, code, p),
+        remainder(s, at, operator, rank, line, table, code, p),
         code,
         o,
         operand,
@@ -223,7 +197,7 @@ fn storing(
             place: p,
             rank: d,
         } => {
-            let g = reference(s, 0, d, line, table, code, p);
+            let g = reference(s, 0, 0, d, line, table, code, p);
             then_emit(back(g, n), code, o, operand)
         }
         Got::Broken => Got::Broken,
@@ -249,6 +223,7 @@ pub fn assignment(s: &[u8], line: u32, table: &Table, code: &mut [u32], place: u
     match reference(
         s,
         0,
+        0,
         assigned_rank(target.variable),
         line,
         table,
@@ -264,7 +239,13 @@ pub fn assignment(s: &[u8], line: u32, table: &Table, code: &mut [u32], place: u
             if s.len() < from {
                 return Got::Broken;
             }
-            match summand(s, n, from, d, line, table, code, p, target.reduction) {
+            let left = Left {
+                end: n,
+                rank: d,
+                line,
+                place: p,
+            };
+            match offer(s, from, target, left, table, code) {
                 Got::Done {
                     at: a,
                     place: q,

@@ -7,6 +7,7 @@ use native.Mathlib.Decide.{decLt, ℕ-discrete}
 use native.Mathlib.Omega.{arith}
 use lib.Dec.{eqb}
 use lib.ListN.{length, getD, length-map}
+use Rattle.rules.specs.declared.Operator.the-variants.{Sum, Product, Maximum}
 use Rattle.rules.specs.Loop.{Class, shared, lastprivate, copied, reduction}
 use Rattle.rules.specs.Numbers.{class-number}
 use Rattle.syntax.specs.declared.ClauseKind.{ClauseKind}
@@ -58,13 +59,15 @@ last-number : (c : Class) → class-number c ≡ 1 → is-lastprivate c ≡ true
 last-number shared e = absurd (omega (arith, e))
 last-number lastprivate e = refl
 last-number copied e = absurd (omega (arith, e))
-last-number reduction e = absurd (omega (arith, e))
+last-number (reduction Sum) e = absurd (omega (arith, e))
+last-number (reduction Product) e = absurd (omega (arith, e))
+last-number (reduction Maximum) e = absurd (omega (arith, e))
 
 other-number : (c : Class) → (class-number c ≡ 1 → ⊥) → is-lastprivate c ≡ false
 other-number shared n = refl
 other-number lastprivate n = absurd (n refl)
 other-number copied n = refl
-other-number reduction n = refl
+other-number (reduction o) n = refl
 
 module _ (T : List ℕ) (σ : Stand) (m : Marked T σ) (w : List ℕ) where
   abbrev t : List Entry

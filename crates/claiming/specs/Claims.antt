@@ -26,7 +26,7 @@ abbrev pub class-by : ClauseKind → Class
 class-by Shared = shared
 class-by Lastprivate = lastprivate
 class-by Firstprivate = copied
-class-by Reduction = reduction
+class-by (Reduction o) = reduction o
 
 -- the names with what is known of them, and those that stood in clauses
 pub record Stand : Type 0 where
@@ -41,7 +41,7 @@ abbrev pub is-lastprivate : Class → Bool
 is-lastprivate shared = false
 is-lastprivate lastprivate = true
 is-lastprivate copied = false
-is-lastprivate reduction = false
+is-lastprivate (reduction o) = false
 
 -- whether a name may stand there: it is declared and stood in no clause; it is lastprivate
 abbrev pub fits : Deed → Stand → List ℕ → Bool

@@ -3,6 +3,7 @@
 ghost use mathlib.Core.Path.{_≡_};
 ghost use Prim.Native.Nat.{_≤_};
 ghost use lib.ListN.{length};
+ghost use Rattle.rules.specs.Loop.{reduction};
 ghost use Rattle.rules.specs.Numbers.{class-number};
 ghost use Rattle.syntax.specs.Known.{in-firstprivate};
 ghost use Rattle.names.specs.Table.{nameWords};
@@ -14,6 +15,7 @@ use names::Table;
 use names::classify;
 use names::copy_in;
 use names::find;
+use rules::Operator;
 use syntax::ClauseKind;
 
 // ---- readings
@@ -39,7 +41,7 @@ fn is_firstprivate(kind: ClauseKind) -> bool
         ClauseKind::Shared => false,
         ClauseKind::Lastprivate => false,
         ClauseKind::Firstprivate => true,
-        ClauseKind::Reduction => false,
+        ClauseKind::Reduction { operator: _ } => false,
     }
 }
 
@@ -61,15 +63,26 @@ pub fn deed_of(reading: Reading, kind: ClauseKind) -> Deed
 
 // ---- names
 
+// The number of the class of a reduction (document 02, Point 6).
+fn class_by(operator: Operator) -> u32
+    ensures { λ r. ⌜ (r ≡ class-number (reduction operator)) × (r ≤ 5) ⌝ }
+{
+    match operator {
+        Operator::Sum => rules::SUM,
+        Operator::Product => rules::PRODUCT,
+        Operator::Maximum => rules::MAXIMUM,
+    }
+}
+
 // The number of the class that a clause gives its names: here a clause becomes a class.
 fn class_of(kind: ClauseKind) -> u32
-    ensures { λ r. ⌜ (r ≡ class-number (class-by kind)) × (r ≤ 3) ⌝ }
+    ensures { λ r. ⌜ (r ≡ class-number (class-by kind)) × (r ≤ 5) ⌝ }
 {
     match kind {
         ClauseKind::Shared => rules::SHARED,
         ClauseKind::Lastprivate => rules::LASTPRIVATE,
         ClauseKind::Firstprivate => rules::COPIED,
-        ClauseKind::Reduction => rules::REDUCTION,
+        ClauseKind::Reduction { operator } => class_by(operator),
     }
 }
 

@@ -5,19 +5,21 @@ use mathlib.Core.List.{List, [], _∷_, _++_, map, append-assoc, append-nil}
 use Prim.Native.Nat.{ℕ, suc, _<_}
 use native.Mathlib.Omega.{arith}
 use lib.ListN.{length, getD}
+use Rattle.rules.specs.declared.Operator.{Operator}
+use Rattle.rules.specs.declared.Operator.the-variants.{Sum, Product, Maximum}
 use Rattle.rules.specs.Loop.{Class, shared, lastprivate, copied, reduction}
 use Rattle.rules.specs.Numbers.{class-number}
 use Rattle.syntax.specs.declared.ClauseKind.{ClauseKind}
 use Rattle.syntax.specs.declared.ClauseKind.the-variants.{Shared, Lastprivate, Firstprivate, Reduction}
 use Rattle.syntax.specs.Bytes.{any, same}
 use Rattle.syntax.specs.Grammar.{Clause, clause, threads, static}
-use Rattle.syntax.specs.Known.{Entry, nowhere, known, with-class, names-in, in-lastprivate, in-firstprivate, in-reduction, in-another}
+use Rattle.syntax.specs.Known.{Entry, nowhere, known, with-class, names-in, in-lastprivate, in-firstprivate, in-another, reduced-in}
 use Rattle.syntax.specs.Conditions.{different}
 use Rattle.syntax.proofs.Spelling.{both-true}
 use Rattle.syntax.proofs.TestLaws.{neither-holds, any-append}
 use Rattle.claiming.specs.declared.Deed.the-variants.{Claim}
 use Rattle.claiming.specs.declared.Reading.the-variants.{Classes}
-use Rattle.claiming.specs.Claims.{class-by, Stand, fits, with-name, all-fit, with-names}
+use Rattle.claiming.specs.Claims.{class-by, Stand, is-lastprivate, fits, with-name, all-fit, with-names}
 use Rattle.clauses.specs.Directive.{clauses-fit, with-clauses}
 use Rattle.clauses.proofs.NamesOnce.{different-apart, different-rest, frees, frees-append, frees-same}
 use Rattle.clauses.proofs.NamesGiven.{known-stays, map-none, map-twice, names-class, names-to, skip-fit, skip-with, names-are}
@@ -60,7 +62,7 @@ classes-fit σ (clause Firstprivate y ys ∷ cs) =
     (λ i. skip-fit σ ys i && clauses-fit Classes (skip-with σ ys i) cs) ∙ classes-fit σ cs
 classes-fit σ (clause Shared y ys ∷ cs) = claimed Shared σ y ys cs (classes-fit (with-names (Claim Shared) σ (y ∷ ys)) cs)
 classes-fit σ (clause Lastprivate y ys ∷ cs) = claimed Lastprivate σ y ys cs (classes-fit (with-names (Claim Lastprivate) σ (y ∷ ys)) cs)
-classes-fit σ (clause Reduction y ys ∷ cs) = claimed Reduction σ y ys cs (classes-fit (with-names (Claim Reduction) σ (y ∷ ys)) cs)
+classes-fit σ (clause (Reduction o) y ys ∷ cs) = claimed (Reduction o) σ y ys cs (classes-fit (with-names (Claim (Reduction o)) σ (y ∷ ys)) cs)
 
 -- an entry by clauses, one after the other
 abbrev pub one-by-one : List Clause → Entry → Entry
@@ -87,46 +89,63 @@ classes-with σ (clause Firstprivate y ys ∷ cs) h =
     ∙ classes-with σ cs (sym (λ i. skip-fit σ ys i && clauses-fit Classes (skip-with σ ys i) cs) ∙ h)
 classes-with σ (clause Shared y ys ∷ cs) h = given Shared σ y ys cs (classes-with (with-names (Claim Shared) σ (y ∷ ys)) cs) h
 classes-with σ (clause Lastprivate y ys ∷ cs) h = given Lastprivate σ y ys cs (classes-with (with-names (Claim Lastprivate) σ (y ∷ ys)) cs) h
-classes-with σ (clause Reduction y ys ∷ cs) h = given Reduction σ y ys cs (classes-with (with-names (Claim Reduction) σ (y ∷ ys)) cs) h
+classes-with σ (clause (Reduction o) y ys ∷ cs) h = given (Reduction o) σ y ys cs (classes-with (with-names (Claim (Reduction o)) σ (y ∷ ys)) cs) h
 
 -- ---- the class that it comes to
 
 -- by the clauses other than `firstprivate`
 abbrev pub plain : List Clause → List ℕ → Class
-plain cs x = cond (any (same x) (names-in in-lastprivate cs)) lastprivate (cond (any (same x) (names-in in-reduction cs)) reduction shared)
+plain cs x = cond (any (same x) (names-in in-lastprivate cs)) lastprivate (reduced-in cs x)
 
-part-of : (b : Bool) (f : ClauseKind → Bool) (y : List ℕ) (ys : List (List ℕ)) (cs : List Clause) (x : List ℕ)
-    → any (same x) ((y ∷ ys) ++ names-in in-another cs) ≡ false
-    → (any (same x) (names-in in-another cs) ≡ false → any (same x) (names-in f cs) ≡ false)
-    → any (same x) (cond b (y ∷ (ys ++ names-in f cs)) (names-in f cs)) ≡ false
-part-of b f y ys cs x h k =
-    let (p, q) = neither-holds (any (same x) (y ∷ ys)) _ (sym (any-append (same x) (y ∷ ys) (names-in in-another cs)) ∙ h) in
-    go b p (k q)
-  where
-    go : (b : Bool) → any (same x) (y ∷ ys) ≡ false → any (same x) (names-in f cs) ≡ false → any (same x) (cond b (y ∷ (ys ++ names-in f cs)) (names-in f cs)) ≡ false
-    go true p q = any-append (same x) (y ∷ ys) (names-in f cs) ∙ (λ i. p i || q i)
-    go false p q = q
+-- a name in none of those clauses
+module _ (y : List ℕ) (ys : List (List ℕ)) (cs : List Clause) (x : List ℕ) where
+  neither : any (same x) ((y ∷ ys) ++ names-in in-another cs) ≡ false
+      → (any (same x) (y ∷ ys) ≡ false) × (any (same x) (names-in in-another cs) ≡ false)
+  neither h = neither-holds (any (same x) (y ∷ ys)) _ (sym (any-append (same x) (y ∷ ys) (names-in in-another cs)) ∙ h)
 
--- a name in none of those clauses is in none of some of them
-in-part : (f : ClauseKind → Bool) → f Firstprivate ≡ false → (cs : List Clause) (x : List ℕ) → any (same x) (names-in in-another cs) ≡ false
-    → any (same x) (names-in f cs) ≡ false
-in-part f z [] x h = refl
-in-part f z (threads p ∷ cs) x h = in-part f z cs x h
-in-part f z (static ∷ cs) x h = in-part f z cs x h
-in-part f z (clause Firstprivate y ys ∷ cs) x h =
-    ap (λ (b : Bool). any (same x) (cond b (y ∷ (ys ++ names-in f cs)) (names-in f cs))) z ∙ in-part f z cs x h
-in-part f z (clause Shared y ys ∷ cs) x h = part-of (f Shared) f y ys cs x h (in-part f z cs x)
-in-part f z (clause Lastprivate y ys ∷ cs) x h = part-of (f Lastprivate) f y ys cs x h (in-part f z cs x)
-in-part f z (clause Reduction y ys ∷ cs) x h = part-of (f Reduction) f y ys cs x h (in-part f z cs x)
+not-last : (cs : List Clause) (x : List ℕ) → any (same x) (names-in in-another cs) ≡ false → any (same x) (names-in in-lastprivate cs) ≡ false
+not-last [] x h = refl
+not-last (threads p ∷ cs) x h = not-last cs x h
+not-last (static ∷ cs) x h = not-last cs x h
+not-last (clause Firstprivate y ys ∷ cs) x h = not-last cs x h
+not-last (clause Shared y ys ∷ cs) x h = not-last cs x (neither y ys cs x h .1)
+not-last (clause (Reduction o) y ys ∷ cs) x h = not-last cs x (neither y ys cs x h .1)
+not-last (clause Lastprivate y ys ∷ cs) x h =
+    let (p, q) = neither y ys cs x h in
+    any-append (same x) (y ∷ ys) (names-in in-lastprivate cs) ∙ (λ i. p i || not-last cs x q i)
 
--- and one that is in some of them is in them
-pub in-whole : (f : ClauseKind → Bool) → f Firstprivate ≡ false → (cs : List Clause) (x : List ℕ) → any (same x) (names-in f cs) ≡ true
-    → any (same x) (names-in in-another cs) ≡ true
-in-whole f z cs x h = go (any (same x) (names-in in-another cs)) refl
+not-reduced : (cs : List Clause) (x : List ℕ) → any (same x) (names-in in-another cs) ≡ false → reduced-in cs x ≡ shared
+not-reduced [] x h = refl
+not-reduced (threads p ∷ cs) x h = not-reduced cs x h
+not-reduced (static ∷ cs) x h = not-reduced cs x h
+not-reduced (clause Firstprivate y ys ∷ cs) x h = not-reduced cs x h
+not-reduced (clause Shared y ys ∷ cs) x h = not-reduced cs x (neither y ys cs x h .1)
+not-reduced (clause Lastprivate y ys ∷ cs) x h = not-reduced cs x (neither y ys cs x h .1)
+not-reduced (clause (Reduction o) y ys ∷ cs) x h =
+    let (p, q) = neither y ys cs x h in
+    (λ i. cond (p i) (reduction o) (not-reduced cs x q i))
+
+-- a lastprivate name is in one of them
+pub in-whole : (cs : List Clause) (x : List ℕ) → any (same x) (names-in in-lastprivate cs) ≡ true → any (same x) (names-in in-another cs) ≡ true
+in-whole cs x h = go (any (same x) (names-in in-another cs)) refl
   where
     go : (b : Bool) → any (same x) (names-in in-another cs) ≡ b → any (same x) (names-in in-another cs) ≡ true
     go true e = e
-    go false e = let y : _≡_ {A = ℕ} 0 1 = ap (λ (b : Bool). cond b 1 0) (sym (in-part f z cs x e) ∙ h) in absurd (omega arith)
+    go false e = let y : _≡_ {A = ℕ} 0 1 = ap (λ (b : Bool). cond b 1 0) (sym (not-last cs x e) ∙ h) in absurd (omega arith)
+
+-- the reduction clauses make no name lastprivate
+pub reduced-other : (cs : List Clause) (x : List ℕ) → is-lastprivate (reduced-in cs x) ≡ false
+reduced-other [] x = refl
+reduced-other (threads p ∷ cs) x = reduced-other cs x
+reduced-other (static ∷ cs) x = reduced-other cs x
+reduced-other (clause Firstprivate y ys ∷ cs) x = reduced-other cs x
+reduced-other (clause Shared y ys ∷ cs) x = reduced-other cs x
+reduced-other (clause Lastprivate y ys ∷ cs) x = reduced-other cs x
+reduced-other (clause (Reduction o) y ys ∷ cs) x = go (any (same x) (y ∷ ys)) (reduced-other cs x)
+  where
+    go : (b : Bool) → is-lastprivate (reduced-in cs x) ≡ false → is-lastprivate (cond b (reduction o) (reduced-in cs x)) ≡ false
+    go true h = refl
+    go false h = h
 
 -- one clause more: its names get its class, the others stay
 module _ (y : List ℕ) (ys : List (List ℕ)) (cs : List Clause) (x : List ℕ) (d : different ((y ∷ ys) ++ names-in in-another cs) ≡ true) where
@@ -136,37 +155,34 @@ module _ (y : List ℕ) (ys : List (List ℕ)) (cs : List Clause) (x : List ℕ)
   abbrev later : Bool
   later = any (same x) (names-in in-another cs)
 
-  none-later : here ≡ true → (any (same x) (names-in in-lastprivate cs) ≡ false) × (any (same x) (names-in in-reduction cs) ≡ false)
+  none-later : here ≡ true → (any (same x) (names-in in-lastprivate cs) ≡ false) × (reduced-in cs x ≡ shared)
   none-later a =
       let n = different-apart x (y ∷ ys) (names-in in-another cs) d a in
-      (in-part in-lastprivate refl cs x n, in-part in-reduction refl cs x n)
+      (not-last cs x n, not-reduced cs x n)
 
   plain-shared : plain (clause Shared y ys ∷ cs) x ≡ cond here shared (plain cs x)
-  plain-shared = go here (any (same x) (names-in in-lastprivate cs)) (any (same x) (names-in in-reduction cs)) none-later
+  plain-shared = go here (any (same x) (names-in in-lastprivate cs)) (reduced-in cs x) none-later
     where
-      go : (a l r : Bool) → (a ≡ true → (l ≡ false) × (r ≡ false))
-          → cond l lastprivate (cond r reduction shared) ≡ cond a shared (cond l lastprivate (cond r reduction shared))
-      go true l r h = let (p, q) = h refl in λ i. cond (p i) lastprivate (cond (q i) reduction shared)
+      go : (a l : Bool) (r : Class) → (a ≡ true → (l ≡ false) × (r ≡ shared)) → cond l lastprivate r ≡ cond a shared (cond l lastprivate r)
+      go true l r h = let (p, q) = h refl in λ i. cond (p i) lastprivate (q i)
       go false l r h = refl
 
   plain-lastprivate : plain (clause Lastprivate y ys ∷ cs) x ≡ cond here lastprivate (plain cs x)
   plain-lastprivate =
-      ap (λ (b : Bool). cond b lastprivate (cond (any (same x) (names-in in-reduction cs)) reduction shared)) (any-append (same x) (y ∷ ys) (names-in in-lastprivate cs))
-      ∙ go here (any (same x) (names-in in-lastprivate cs)) (cond (any (same x) (names-in in-reduction cs)) reduction shared)
+      ap (λ (b : Bool). cond b lastprivate (reduced-in cs x)) (any-append (same x) (y ∷ ys) (names-in in-lastprivate cs))
+      ∙ go here (any (same x) (names-in in-lastprivate cs)) (reduced-in cs x)
     where
       go : (a l : Bool) (z : Class) → cond (a || l) lastprivate z ≡ cond a lastprivate (cond l lastprivate z)
       go true l z = refl
       go false l z = refl
 
-  plain-reduction : plain (clause Reduction y ys ∷ cs) x ≡ cond here reduction (plain cs x)
-  plain-reduction =
-      ap (λ (b : Bool). cond (any (same x) (names-in in-lastprivate cs)) lastprivate (cond b reduction shared)) (any-append (same x) (y ∷ ys) (names-in in-reduction cs))
-      ∙ go here (any (same x) (names-in in-lastprivate cs)) (any (same x) (names-in in-reduction cs)) none-later
+  plain-reduction : (o : Operator) → plain (clause (Reduction o) y ys ∷ cs) x ≡ cond here (reduction o) (plain cs x)
+  plain-reduction o = go here (any (same x) (names-in in-lastprivate cs)) none-later
     where
-      go : (a l r : Bool) → (a ≡ true → (l ≡ false) × (r ≡ false))
-          → cond l lastprivate (cond (a || r) reduction shared) ≡ cond a reduction (cond l lastprivate (cond r reduction shared))
-      go true l r h = ap (λ (b : Bool). cond b lastprivate reduction) (h refl .0)
-      go false l r h = refl
+      go : (a l : Bool) → (a ≡ true → (l ≡ false) × (reduced-in cs x ≡ shared))
+          → cond l lastprivate (cond a (reduction o) (reduced-in cs x)) ≡ cond a (reduction o) (cond l lastprivate (reduced-in cs x))
+      go true l h = ap (λ (b : Bool). cond b lastprivate (reduction o)) (h refl .0)
+      go false l h = refl
 
   -- by the names so far, and then by those
   module _ (k : ClauseKind) (e : Entry) (ex : e .name ≡ x) (p : plain (clause k y ys ∷ cs) x ≡ cond here (class-by k) (plain cs x)) where
@@ -198,7 +214,7 @@ clauses-class (clause Shared y ys ∷ cs) x d e ex = joined y ys cs x d Shared e
     (clauses-class cs x (different-rest (y ∷ ys) (names-in in-another cs) d))
 clauses-class (clause Lastprivate y ys ∷ cs) x d e ex = joined y ys cs x d Lastprivate e ex (plain-lastprivate y ys cs x d)
     (clauses-class cs x (different-rest (y ∷ ys) (names-in in-another cs) d))
-clauses-class (clause Reduction y ys ∷ cs) x d e ex = joined y ys cs x d Reduction e ex (plain-reduction y ys cs x d)
+clauses-class (clause (Reduction o) y ys ∷ cs) x d e ex = joined y ys cs x d (Reduction o) e ex (plain-reduction y ys cs x d o)
     (clauses-class cs x (different-rest (y ∷ ys) (names-in in-another cs) d))
 
 -- an entry in no clause before
@@ -207,7 +223,7 @@ pub classified : (cs : List Clause) (e : Entry) → different (names-in in-anoth
 classified cs e d h = clauses-class cs (e .name) d e refl ∙ ap (λ (k : Class). with-class k e) (go (any (same (e .name)) (names-in in-another cs)) refl)
   where
     none : any (same (e .name)) (names-in in-another cs) ≡ false → plain cs (e .name) ≡ shared
-    none n = λ i. cond (in-part in-lastprivate refl cs (e .name) n i) lastprivate (cond (in-part in-reduction refl cs (e .name) n i) reduction shared)
+    none n = λ i. cond (not-last cs (e .name) n i) lastprivate (not-reduced cs (e .name) n i)
 
     go : (b : Bool) → any (same (e .name)) (names-in in-another cs) ≡ b → cond b (plain cs (e .name)) (e .class) ≡ plain cs (e .name)
     go true k = refl
@@ -222,4 +238,6 @@ pub shared-zero : (c : Class) → class-number c ≡ 0 → c ≡ shared
 shared-zero shared e = refl
 shared-zero lastprivate e = absurd (omega (arith, e))
 shared-zero copied e = absurd (omega (arith, e))
-shared-zero reduction e = absurd (omega (arith, e))
+shared-zero (reduction Sum) e = absurd (omega (arith, e))
+shared-zero (reduction Product) e = absurd (omega (arith, e))
+shared-zero (reduction Maximum) e = absurd (omega (arith, e))

@@ -1,21 +1,27 @@
 -- One clause: the words before the names, the names, `num_threads`, `schedule`.
-use mathlib.Core.Path.{_≡_, refl, _∙_, ap, subst}
-use mathlib.Core.Bool.{true}
+use mathlib.Core.Path.{_≡_, refl, sym, _∙_, ap, subst}
+use mathlib.Core.Bool.{Bool, true, cond}
 use mathlib.Core.List.{List, [], _∷_}
+use mathlib.Core.Option.{Option, none, some}
 use Prim.Native.Nat.{ℕ, suc, _-_, _≤_, _<_, min}
+use native.Mathlib.Decide.{decLt}
 use native.Mathlib.Omega.{arith}
 use borrow.Author.Tests.{le-leb, leb-true}
 use lib.Dec.{leb}
 use lib.ListN.{length, drop}
+use Rattle.rules.specs.declared.Operator.{Operator}
+use Rattle.rules.specs.declared.Operator.the-variants.{Sum, Product, Maximum}
 use Rattle.syntax.specs.declared.ClauseKind.{ClauseKind}
 use Rattle.syntax.specs.declared.ClauseKind.the-variants.{Shared, Lastprivate, Firstprivate, Reduction}
-use Rattle.syntax.specs.Bytes.{bytes, choose, between}
+use Rattle.syntax.specs.Bytes.{bytes, same, choose, between, Token, word-of}
 use Rattle.syntax.specs.Grammar.{number, Clause, clause, static}
-use Rattle.syntax.specs.Reader.{done, Reader, next, says, expects, wants, readName, readDigits, readKind, readThreads, readStatic, readNames, peek-in, skip-in}
+use Rattle.syntax.specs.Reader.{Parsed, done, Reader, next, text, is, isSign, says, expects, wants, given, readName, readDigits, readOperator, readKind, readThreads, readStatic, readNames, peek-in, skip-in}
 use Rattle.syntax.proofs.ReaderLaws.{next-assoc}
 use Rattle.syntax.proofs.Spelling.{both-true}
 use Rattle.syntax.proofs.TestLaws.{both-hold, same-truth}
-use Rattle.lexer.specs.Places.{Goes, Any, passes}
+use Rattle.lexer.specs.Places.{Lands, Goes, Any, passes}
+use Rattle.lexer.proofs.Said.{sign-text, word-text}
+use Rattle.lexer.proofs.PlaceLaws.{goes-end, pass-there, pass-not}
 use Rattle.lexer.proofs.Chains.{goes-as, Onward, goes-onward, onward-both, goes-then, goes-past, goes-past-word, goes-sealed, goes-word, goes-other, strictly-on}
 use Rattle.heading.specs.Lists.{readSome, Standing}
 use Rattle.heading.specs.declared.Headed.{Headed}
@@ -26,6 +32,60 @@ use Rattle.claiming.specs.declared.Reading.{Reading}
 use Rattle.claiming.specs.declared.Deed.{Deed}
 use Rattle.clauses.proofs.SomeMarked.{some-marked}
 
+-- ---- the operator of a reduction
+
+-- this sign or word stands for o; else the operator is as `others` says
+module _ {s : List ℕ} {at m : ℕ} (w : List ℕ) (g : Goes Any s at (passes w) m) (test : Option Token → Bool)
+    (told : (u : List ℕ) → test (peek-in u) ≡ same w (text (peek-in u))) (o : Operator) (others : Option Token → Option Operator) where
+  abbrev by-test : Bool → List ℕ → Parsed (List ℕ) Operator
+  by-test b u = given peek-in skip-in (cond b (some o) (others (peek-in u))) u
+
+  operator-there : m ≤ length s → Goes (λ q. o ≡ q) s at (λ u. by-test (test (peek-in u)) u) m
+  operator-there l = record {
+    lands = λ b.
+        let (e, n) = pass-there s w at m g b l in
+        subst (λ (x : Bool). Lands (λ q. o ≡ q) s (by-test x (drop at s)) m) (sym (told (drop at s) ∙ e)) (n, l, refl);
+    from = g .from;
+    lost = g .lost;
+  }
+
+  operator-other : length s < m → {q : Operator} {r : ℕ} → Goes (λ x. q ≡ x) s at (λ u. given peek-in skip-in (others (peek-in u)) u) r
+      → Goes (λ x. q ≡ x) s at (λ u. by-test (test (peek-in u)) u) r
+  operator-other l {q} {r} k = record {
+    lands = λ b. subst (λ (x : Bool). Lands (λ y. q ≡ y) s (by-test x (drop at s)) r) (sym (told (drop at s) ∙ pass-not s w at m g b l)) (k .lands b);
+    from = k .from;
+    lost = k .lost;
+  }
+
+abbrev max-only : Option Token → Option Operator
+max-only t = cond (is (word-of (bytes "max")) t) (some Maximum) none
+
+abbrev times-or-max : Option Token → Option Operator
+times-or-max t = cond (isSign "*" t) (some Product) (max-only t)
+
+module _ {s : List ℕ} {from a : ℕ} (ga : Goes Any s from (passes (bytes "+")) a) where
+  pub operator-sum : a ≤ length s → Goes (λ q. Sum ≡ q) s from (readOperator peek-in skip-in) a
+  operator-sum = operator-there (bytes "+") ga (isSign "+") (sign-text (bytes "+") refl) Sum times-or-max
+
+  module _ (na : length s < a) {b : ℕ} (gb : Goes Any s from (passes (bytes "*")) b) where
+    pub operator-product : b ≤ length s → Goes (λ q. Product ≡ q) s from (readOperator peek-in skip-in) b
+    operator-product l =
+        operator-other (bytes "+") ga (isSign "+") (sign-text (bytes "+") refl) Sum times-or-max na
+        (operator-there (bytes "*") gb (isSign "*") (sign-text (bytes "*") refl) Product max-only l)
+
+    pub operator-maximum : length s < b → {c : ℕ} → Goes Any s from (passes (bytes "max")) c
+        → Goes (λ q. Maximum ≡ q) s from (readOperator peek-in skip-in) c
+    operator-maximum nb {c} gc =
+        operator-other (bytes "+") ga (isSign "+") (sign-text (bytes "+") refl) Sum times-or-max na
+        (operator-other (bytes "*") gb (isSign "*") (sign-text (bytes "*") refl) Product max-only nb last)
+      where
+        last : Goes (λ q. Maximum ≡ q) s from (λ u. given peek-in skip-in (max-only (peek-in u)) u) c
+        last = elim (decLt (length s) c) [
+          | yes l ↦ operator-other (bytes "max") gc (is (word-of (bytes "max"))) (word-text (bytes "max") refl) Maximum (λ _. none) l
+              (record { lands = λ _. goes-end gc l; from = gc .from; lost = gc .lost })
+          | no l ↦ operator-there (bytes "max") gc (is (word-of (bytes "max"))) (word-text (bytes "max") refl) Maximum (λ _. none) (omega arith)
+        ]
+
 -- ---- the words before the names
 
 abbrev opens-as : ClauseKind → Reader (List ℕ) ClauseKind
@@ -33,8 +93,8 @@ opens-as k u = next (expects peek-in skip-in "(" u) (λ _. done k)
 
 abbrev opens-reduction : Reader (List ℕ) ClauseKind
 opens-reduction u =
-    next (wants peek-in skip-in "reduction" u) (λ _ v. next (expects peek-in skip-in "(" v) (λ _ w. next (expects peek-in skip-in "+" w)
-    (λ _ x. next (expects peek-in skip-in ":" x) (λ _. done Reduction))))
+    next (wants peek-in skip-in "reduction" u) (λ _ v. next (expects peek-in skip-in "(" v) (λ _ w. next (readOperator peek-in skip-in w)
+    (λ o x. next (expects peek-in skip-in ":" x) (λ _. done (Reduction o)))))
 
 abbrev opens-first : Reader (List ℕ) ClauseKind
 opens-first u = choose (says peek-in skip-in "firstprivate" u) (λ _. opens-as Firstprivate (skip-in u)) (λ _. opens-reduction u)
@@ -58,13 +118,14 @@ module _ {s : List ℕ} {from r a : ℕ} (ga : Goes Any s from (passes (bytes "s
           goes-other (opens-as Shared) opens-other "shared" refl ga na (goes-other (opens-as Lastprivate) opens-first "lastprivate" refl gb nb
           (goes-word (opens-as Firstprivate) opens-reduction "firstprivate" refl gc l (goes-sealed "(" refl g Firstprivate refl)))
 
-      pub kind-reduction : length s < c → {d e f : ℕ} → Goes Any s from (passes (bytes "reduction")) d → Goes Any s d (passes (bytes "(")) e
-          → Goes Any s e (passes (bytes "+")) f
-          → Goes Any s f (passes (bytes ":")) r → Goes (λ k. Reduction ≡ k) s from (readKind peek-in skip-in) r
+      pub kind-reduction : length s < c → {d e f : ℕ} {o : Operator} → Goes Any s from (passes (bytes "reduction")) d
+          → Goes Any s d (passes (bytes "(")) e → Goes (λ q. o ≡ q) s e (readOperator peek-in skip-in) f
+          → Goes Any s f (passes (bytes ":")) r → Goes (λ k. Reduction o ≡ k) s from (readKind peek-in skip-in) r
       kind-reduction nc gd ge gf gg =
           goes-other (opens-as Shared) opens-other "shared" refl ga na (goes-other (opens-as Lastprivate) opens-first "lastprivate" refl gb nb
           (goes-other (opens-as Firstprivate) opens-reduction "firstprivate" refl gc nc
-          (goes-past-word "reduction" refl gd (goes-past "(" refl ge (goes-past "+" refl gf (goes-sealed ":" refl gg Reduction refl))))))
+          (goes-past-word "reduction" refl gd (goes-past "(" refl ge
+          (goes-then gf (λ q h _ _. goes-sealed ":" refl gg (Reduction q) (ap (λ (x : Operator). Reduction x) h)) (goes-onward gg))))))
 
 -- ---- a clause with names
 

@@ -25,7 +25,7 @@ copies-fit σ (threads p ∷ cs) = copies-fit σ cs
 copies-fit σ (static ∷ cs) = copies-fit σ cs
 copies-fit σ (clause Shared y ys ∷ cs) = (λ i. skip-fit σ ys i && clauses-fit Copies (skip-with σ ys i) cs) ∙ copies-fit σ cs
 copies-fit σ (clause Lastprivate y ys ∷ cs) = (λ i. skip-fit σ ys i && clauses-fit Copies (skip-with σ ys i) cs) ∙ copies-fit σ cs
-copies-fit σ (clause Reduction y ys ∷ cs) = (λ i. skip-fit σ ys i && clauses-fit Copies (skip-with σ ys i) cs) ∙ copies-fit σ cs
+copies-fit σ (clause (Reduction o) y ys ∷ cs) = (λ i. skip-fit σ ys i && clauses-fit Copies (skip-with σ ys i) cs) ∙ copies-fit σ cs
 copies-fit σ (clause Firstprivate y ys ∷ cs) =
     ap (λ (b : Bool). all-fit CopyIn σ (y ∷ ys) && b) (copies-fit (with-names CopyIn σ (y ∷ ys)) cs)
     ∙ sym (fit-append CopyIn σ (y ∷ ys) (names-in in-firstprivate cs))
@@ -36,7 +36,7 @@ copies-with σ (threads p ∷ cs) = copies-with σ cs
 copies-with σ (static ∷ cs) = copies-with σ cs
 copies-with σ (clause Shared y ys ∷ cs) = ap (λ (z : Stand). with-clauses Copies z cs) (skip-with σ ys) ∙ copies-with σ cs
 copies-with σ (clause Lastprivate y ys ∷ cs) = ap (λ (z : Stand). with-clauses Copies z cs) (skip-with σ ys) ∙ copies-with σ cs
-copies-with σ (clause Reduction y ys ∷ cs) = ap (λ (z : Stand). with-clauses Copies z cs) (skip-with σ ys) ∙ copies-with σ cs
+copies-with σ (clause (Reduction o) y ys ∷ cs) = ap (λ (z : Stand). with-clauses Copies z cs) (skip-with σ ys) ∙ copies-with σ cs
 copies-with σ (clause Firstprivate y ys ∷ cs) =
     copies-with (with-names CopyIn σ (y ∷ ys)) cs ∙ sym (with-append CopyIn σ (y ∷ ys) (names-in in-firstprivate cs))
 

@@ -6,11 +6,11 @@ use Prim.Native.Nat.{ℕ, _/_, _%_, _<_}
 use native.Mathlib.Omega.{arith}
 use lib.Dec.{eqb}
 use lib.ListN.{length, getD}
-use Rattle.rules.specs.Loop.{shared, lastprivate, copied, reduction}
+use Rattle.rules.specs.Loop.{lastprivate, copied}
 use Rattle.rules.specs.Numbers.{class-number}
 use Rattle.syntax.specs.Bytes.{all, any, same}
 use Rattle.syntax.specs.Grammar.{Clause}
-use Rattle.syntax.specs.Known.{Entry, nowhere, known, find, with-class, names-in, in-lastprivate, in-firstprivate, in-reduction, in-another, class-in, classify}
+use Rattle.syntax.specs.Known.{Entry, nowhere, known, find, with-class, names-in, in-lastprivate, in-firstprivate, in-another, reduced-in, class-in, classify}
 use Rattle.syntax.specs.Conditions.{different, eachOnce}
 use Rattle.syntax.proofs.Spelling.{both-true, same-true}
 use Rattle.names.specs.Table.{Tabled, Unclaimed, factsAt}
@@ -19,7 +19,7 @@ use Rattle.claiming.specs.Claims.{Stand, is-lastprivate, Marked}
 use Rattle.clauses.specs.Directive.{clauses-fit, with-clauses, bare, twice-fit, with-both}
 use Rattle.clauses.proofs.NamesOnce.{frees-are, frees-true}
 use Rattle.clauses.proofs.NamesGiven.{map-twice, names-class, names-to, names-are}
-use Rattle.clauses.proofs.ClassesGiven.{classes-fit, classes-with, classified, in-whole, map-each, one-by-one, plain, shared-zero}
+use Rattle.clauses.proofs.ClassesGiven.{classes-fit, classes-with, classified, in-whole, map-each, one-by-one, plain, reduced-other, shared-zero}
 use Rattle.clauses.proofs.NamesCopied.{copies-fit, copies-free, copies-with, last-in}
 use Rattle.claiming.specs.declared.Deed.the-variants.{CopyIn}
 
@@ -59,12 +59,11 @@ module _ (T : List ℕ) (t : List Entry) (cs : List Clause) (tab : Tabled T t) (
 
     -- a lastprivate name is one in that clause
     plain-last : (x : List ℕ) → is-lastprivate (plain cs x) ≡ in-last x
-    plain-last x = go (in-last x) (any (same x) (names-in in-reduction cs))
+    plain-last x = go (in-last x)
       where
-        go : (l r : Bool) → is-lastprivate (cond l lastprivate (cond r reduction shared)) ≡ l
-        go true r = refl
-        go false true = refl
-        go false false = refl
+        go : (l : Bool) → is-lastprivate (cond l lastprivate (reduced-in cs x)) ≡ l
+        go true = refl
+        go false = reduced-other cs x
 
     last-found : (x : List ℕ) (v : List Entry) → last-in (map (λ e. with-class (plain cs (e .name)) e) v) x ≡ known x v && in-last x
     unfolding find
@@ -81,7 +80,7 @@ module _ (T : List ℕ) (t : List Entry) (cs : List Clause) (tab : Tabled T t) (
     declared-last x = go (in-last x) refl
       where
         go : (b : Bool) → in-last x ≡ b → known x t && b ≡ b
-        go true e = ap (λ (k : Bool). k && true) (among (λ y. known y t) x others (found .1) (in-whole in-lastprivate refl cs x e))
+        go true e = ap (λ (k : Bool). k && true) (among (λ y. known y t) x others (found .1) (in-whole cs x e))
         go false e = and-false (known x t)
 
     copies-right : clauses-fit Copies σ₁ cs ≡ eachOnce in-last firsts

@@ -8,7 +8,7 @@ ghost use lib.ListN.{length};
 ghost use Rattle.syntax.specs.Bytes.{between};
 ghost use Rattle.syntax.specs.Grammar.{number, static};
 ghost use Rattle.syntax.specs.Known.{grouping-by};
-ghost use Rattle.syntax.specs.Reader.{readKind, readThreads, readStatic, peek-in, skip-in};
+ghost use Rattle.syntax.specs.Reader.{readOperator, readKind, readThreads, readStatic, peek-in, skip-in};
 ghost use Rattle.lexer.specs.Places.{Goes};
 ghost use Rattle.heading.specs.Lists.{Keeps, Standing};
 ghost use Rattle.clauses.specs.Directive.{ClaimAt, Claims, NamesAt, ClauseAt, Clauses, none-before, Directive};
@@ -25,6 +25,7 @@ use lexer::name;
 use lexer::pass;
 use names::Table;
 use rules::Grouping;
+use rules::Operator;
 use syntax::ClauseKind;
 
 // ---- names
@@ -63,6 +64,36 @@ fn claims(s: &[u8], at: usize, table: &mut Table, deed: Deed, rank: u32) -> Head
 
 // ---- clauses
 
+// The operator of a reduction (document 02, Point 6), and the place after it; past the line's end where none stands.
+pub struct Operated {
+    pub next: usize,
+    pub operator: Operator,
+}
+
+fn operator_at(s: &[u8], at: usize) -> Operated
+    requires { ⌜ length (now s) ≤ 2048 ⌝ }
+    ensures { λ r. ⌜ Goes (λ o. r .operator ≡ o) (now (s .entry)) at (readOperator peek-in skip-in) (r .next) ⌝ }
+{
+    let plus = pass(s, at, b"+");
+    if plus <= s.len() {
+        return Operated {
+            next: plus,
+            operator: Operator::Sum,
+        };
+    }
+    let times = pass(s, at, b"*");
+    if times <= s.len() {
+        return Operated {
+            next: times,
+            operator: Operator::Product,
+        };
+    }
+    Operated {
+        next: pass(s, at, b"max"),
+        operator: Operator::Maximum,
+    }
+}
+
 // What the words and signs before the names of a clause say, and the place after them.
 pub struct Opened {
     pub next: usize,
@@ -97,10 +128,11 @@ fn kind_at(s: &[u8], at: usize) -> Opened
     }
     let d = pass(s, at, b"reduction");
     let e = pass(s, d, b"(");
-    let f = pass(s, e, b"+");
+    let o = operator_at(s, e);
+    let operator = o.operator;
     Opened {
-        next: pass(s, f, b":"),
-        kind: ClauseKind::Reduction,
+        next: pass(s, o.next, b":"),
+        kind: ClauseKind::Reduction { operator },
     }
 }
 

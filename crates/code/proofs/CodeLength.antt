@@ -6,10 +6,13 @@ use Prim.Native.Nat.{ℕ, suc, _+_, _≤_}
 use native.Mathlib.Omega.{arith}
 use lib.ListN.{length, length-append, length-set}
 use Rattle.int32.specs.declared.Relation.{Relation}
+use Rattle.rules.specs.declared.Operator.{Operator}
+use Rattle.rules.specs.declared.Operator.the-variants.{Sum, Product, Maximum}
+use Rattle.syntax.specs.declared.Function.the-variants.{Rdiv, Max}
 use Rattle.syntax.specs.Bytes.{bytes, Token, sign}
-use Rattle.syntax.specs.Grammar.{Lead, bare, plus, minus, Expr, expr, Terms, no-terms, terms, Term, term, Factors, no-factors, factors, Factor, literal, cell, rdiv, brackets, Ref, single, element, sg, showLead, show, showTerms, showTerm, showFactors, showFactor, showRef, Statement, assign, when, otherwise, end-if, Line, declare, give, direct, loop, inside, end-do, close, showLine}
+use Rattle.syntax.specs.Grammar.{Lead, bare, plus, minus, Expr, expr, Terms, no-terms, terms, Term, term, Factors, no-factors, factors, Factor, literal, cell, call, brackets, Ref, single, element, sg, showLead, show, showTerms, showTerm, showFactors, showFactor, showRef, Statement, assign, when, otherwise, end-if, Line, declare, give, direct, loop, inside, end-do, close, showLine}
 use Rattle.syntax.specs.Known.{Entry, total, State, nothing, after}
-use Rattle.syntax.specs.Meaning.{is-update, remainder}
+use Rattle.syntax.specs.Meaning.{operator-at, is-update, remainder}
 use Rattle.syntax.specs.Conditions.{stands}
 use Rattle.syntax.specs.Text.{read, good}
 use Rattle.syntax.specs.Follows.{Program, InOrder, learnt}
@@ -53,7 +56,8 @@ module _ (t : List Entry) (v : List ℕ) (line : ℕ) where
     factor-length : (f : Factor) → length (codeFactor t v line f) ≤ length (showFactor f)
     factor-length (literal d) = omega arith
     factor-length (cell r) = simp length-append (omega (arith, ref-length r))
-    factor-length (rdiv a b) = simp length-append (omega (arith, expr-length a, expr-length b))
+    factor-length (call Rdiv a b) = simp length-append (omega (arith, expr-length a, expr-length b))
+    factor-length (call Max a b) = simp length-append (omega (arith, expr-length a, expr-length b))
     factor-length (brackets e) = simp length-append (omega (arith, expr-length e))
 
     -- one token is left for the read or the store
@@ -63,11 +67,21 @@ module _ (t : List Entry) (v : List ℕ) (line : ℕ) where
 
 -- ---- lines
 
-remainder-length : (t : List Entry) (v : List ℕ) (line : ℕ) (e : Expr) → length (code t v line (remainder e)) ≤ length (show e)
-unfolding remainder show showTerms
-remainder-length t v line (expr l a no-terms) = expr-length t v line (expr l a no-terms)
-remainder-length t v line (expr l a (terms true b bs)) = simp length-append (omega (arith, simp length-append at (expr-length t v line (expr minus b bs))))
-remainder-length t v line (expr l a (terms false b bs)) = simp length-append (omega (arith, simp length-append at (expr-length t v line (expr plus b bs))))
+remainder-length : (t : List Entry) (v : List ℕ) (line : ℕ) (o : Operator) (e : Expr) → length (code t v line (remainder o e)) ≤ length (show e)
+unfolding remainder show showTerms showTerm showFactors showFactor
+remainder-length t v line Sum (expr l a no-terms) = expr-length t v line (expr l a no-terms)
+remainder-length t v line Sum (expr l a (terms true b bs)) = simp length-append (omega (arith, simp length-append at (expr-length t v line (expr minus b bs))))
+remainder-length t v line Sum (expr l a (terms false b bs)) = simp length-append (omega (arith, simp length-append at (expr-length t v line (expr plus b bs))))
+remainder-length t v line Product (expr l (term x no-factors) ts) =
+    simp length-append (omega (arith, simp length-append at (expr-length t v line (expr bare (term x no-factors) no-terms))))
+remainder-length t v line Product (expr l (term x (factors o y ys)) ts) =
+    simp length-append (omega (arith, simp length-append at (expr-length t v line (expr bare (term y ys) no-terms))))
+remainder-length t v line Maximum (expr l (term (literal d) xs) ts) =
+    simp length-append (omega (arith, simp length-append at (expr-length t v line (expr bare (term (literal d) no-factors) no-terms))))
+remainder-length t v line Maximum (expr l (term (cell q) xs) ts) =
+    simp length-append (omega (arith, simp length-append at (expr-length t v line (expr bare (term (cell q) no-factors) no-terms))))
+remainder-length t v line Maximum (expr l (term (call f a b) xs) ts) = simp length-append (omega (arith, expr-length t v line b))
+remainder-length t v line Maximum (expr l (term (brackets e) xs) ts) = simp length-append (omega (arith, expr-length t v line e))
 
 checks-length : (t : List Entry) (v : List ℕ) (line : ℕ) (r : Ref) → length (checks t v line r) ≤ 1
 checks-length t v line (single x) = omega arith
@@ -76,7 +90,7 @@ checks-length t v line (element x e) = omega arith
 pub assign-length : (t : List Entry) (v : List ℕ) (line : ℕ) (r : Ref) (e : Expr) → length (codeAssign t v line r e) ≤ length (showLine (inside (assign r e)))
 unfolding codeAssign showLine
 assign-length t v line r e = cond-each (λ (c : List Instr). length c ≤ length (showRef r ++ (sg "=" ++ show e))) (is-update t r e)
-    (simp length-append (omega (arith, ref-length t v line r, checks-length t v line r, remainder-length t v line e)))
+    (simp length-append (omega (arith, ref-length t v line r, checks-length t v line r, remainder-length t v line (operator-at t r) e)))
     (simp length-append (omega (arith, ref-length t v line r, expr-length t v line e)))
 
 pub when-length : (t : List Entry) (v : List ℕ) (line : ℕ) (a : Expr) (rel : Relation) (b : Expr) (n : ℕ)

@@ -2,7 +2,7 @@
 use mathlib.Core.Path.{_≡_, refl, sym, _∙_, ap, fun-ext}
 use mathlib.Core.Bool.{Bool, true, false, cond, _&&_}
 use mathlib.Core.List.{List, [], _∷_, _++_, append-nil}
-use Prim.Native.Nat.{ℕ, suc, _+_, _-_}
+use Prim.Native.Nat.{ℕ, suc, _+_, _-_, _≤_}
 use native.Mathlib.Omega.{arith}
 use lib.Dec.{leb}
 use lib.ListN.{length}
@@ -10,12 +10,14 @@ use lib.IntN.{ℤ, pos, negsuc}
 use borrow.Author.Tests.{leb-true}
 use Rattle.int32.specs.declared.Relation.{Relation}
 use Rattle.int32.specs.Integers.{related}
+use Rattle.rules.specs.declared.Operator.{Operator}
+use Rattle.rules.specs.declared.Operator.the-variants.{Sum, Product, Maximum}
 use Rattle.rules.specs.Loop.{Act, write, fault, done}
 use Rattle.syntax.specs.Bytes.{choose, all}
-use Rattle.syntax.specs.Grammar.{Expr, expr, no-terms, terms, Ref, single, element}
+use Rattle.syntax.specs.Grammar.{bare, Expr, expr, no-terms, terms, term, Factors, no-factors, factors, Factor, literal, cell, call, brackets, Ref, single, element}
 use Rattle.syntax.specs.Known.{Entry, find, State, Stmts, stop, set, if-then, if-else}
-use Rattle.syntax.specs.Conditions.{opens, mentions, inTerms, inTerm, inRef, small, finished}
-use Rattle.syntax.specs.Meaning.{is-update, remainder, located, eval, place, assigned, exec}
+use Rattle.syntax.specs.Conditions.{opens, mentions, inTerms, inTerm, inFactors, inFactor, inRef, small, finished}
+use Rattle.syntax.specs.Meaning.{operator-at, is-update, second-of, remainder, located, eval, place, assigned, exec}
 use Rattle.syntax.specs.Text.{read, good}
 use Rattle.syntax.specs.Sane.{SaneStmts, Sane}
 use Rattle.syntax.proofs.Spelling.{both-true}
@@ -49,10 +51,44 @@ located-again line first size (pos n) g h = go (leb 1 n && leb n size)
     go false = refl
 located-again line first size (negsuc n) g h = refl
 
-remainder-small : (e : Expr) → all small (mentions 0 e) ≡ true → all small (mentions 0 (remainder e)) ≡ true
-unfolding mentions inTerms remainder
-remainder-small (expr l a no-terms) h = h
-remainder-small (expr l a (terms o b bs)) h = all-parts small (inTerm 0 a) (inTerm 0 b ++ inTerms 0 bs) h .1
+-- an expression within the limits, with a bracket open around it or none
+record Shallow (e : Expr) : Type 0 where
+  depth : ℕ
+  most : depth ≤ 1
+  within : all small (mentions depth e) ≡ true
+
+-- one term alone
+lone-term : (x : Factor) (xs : Factors) → all small (inFactor 0 x ++ inFactors 0 xs) ≡ true → Shallow (expr bare (term x xs) no-terms)
+unfolding mentions inTerms inTerm
+lone-term x xs h = record { depth = 0; most = omega arith; within = ap (all small) (append-nil (inFactor 0 x ++ inFactors 0 xs)) ∙ h }
+
+second-small : (x : Factor) → all small (inFactor 0 x) ≡ true → Shallow (second-of x)
+unfolding inFactor inFactors
+second-small (literal d) h = lone-term (literal d) no-factors (ap (all small) (append-nil (inFactor 0 (literal d))) ∙ h)
+second-small (cell q) h = lone-term (cell q) no-factors (ap (all small) (append-nil (inFactor 0 (cell q))) ∙ h)
+second-small (call f a b) h = record {
+  depth = 1;
+  most = omega arith;
+  within = all-parts small (mentions 1 a) (mentions 1 b) (both-true (small (opens 1)) (all small (mentions 1 a ++ mentions 1 b)) h .1) .1;
+}
+second-small (brackets e) h = record { depth = 1; most = omega arith; within = both-true (small (opens 1)) (all small (mentions 1 e)) h .1 }
+
+-- the remainder of an update: that of a maximum stands in its bracket
+remainder-small : (o : Operator) (e : Expr) → all small (mentions 0 e) ≡ true → Shallow (remainder o e)
+unfolding mentions inTerms inTerm inFactors remainder
+remainder-small Sum (expr l a no-terms) h = record { depth = 0; most = omega arith; within = h }
+remainder-small Sum (expr l a (terms m b bs)) h = record {
+  depth = 0;
+  most = omega arith;
+  within = all-parts small (inTerm 0 a) (inTerm 0 b ++ inTerms 0 bs) h .1;
+}
+remainder-small Product (expr l (term x no-factors) ts) h = lone-term x no-factors (all-parts small (inFactor 0 x ++ []) (inTerms 0 ts) h .0)
+remainder-small Product (expr l (term x (factors o y ys)) ts) h =
+    lone-term y ys
+    (all-parts small (inFactor 0 x) (inFactor 0 y ++ inFactors 0 ys)
+    (all-parts small (inFactor 0 x ++ (inFactor 0 y ++ inFactors 0 ys)) (inTerms 0 ts) h .0) .1)
+remainder-small Maximum (expr l (term x xs) ts) h =
+    second-small x (all-parts small (inFactor 0 x) (inFactors 0 xs) (all-parts small (inFactor 0 x ++ inFactors 0 xs) (inTerms 0 ts) h .0) .0)
 
 module _ (t : List Entry) (v : List ℕ) (x : ℤ) where
   -- ---- assignments
@@ -64,28 +100,32 @@ module _ (t : List Entry) (v : List ℕ) (x : ℤ) where
   resume-store line (element z e) rest y h =
       resume-expr t v x line 1 e _ (y ∷ []) (omega arith) (both-true (small (opens 1)) (all small (mentions 1 e)) h .1) (omega arith)
 
-  resume-update : (line : ℕ) (r : Ref) (e : Expr) (rest : List Instr) → all small (inRef 0 r) ≡ true → all small (mentions 0 e) ≡ true
+  resume-update : (line : ℕ) (r : Ref) (e : Expr) (rest : List Instr) → all small (inRef 0 r) ≡ true → Shallow e
       → resume (codeRef t v line r ++ (checks t v line r ++ (code t v line e ++ (updates t v line r ∷ rest)))) 0 [] x
       ≡ place t v x line r (λ c. eval t v x line e (λ y. loop.update c y (resume rest 0 [] x)))
   unfolding codeRef place inRef resume perform with1 with2
-  resume-update line (single z) e rest h k = resume-expr t v x line 0 e _ [] (omega arith) k (omega arith)
+  resume-update line (single z) e rest h k = resume-expr t v x line (k .depth) e _ [] (omega (arith, k .most)) (k .within) (omega arith)
   resume-update line (element z i) e rest h k =
       resume-expr t v x line 1 i _ [] (omega arith) (both-true (small (opens 1)) (all small (mentions 1 i)) h .1) (omega arith)
       ∙ ap (eval t v x line i) (fun-ext (λ j.
-      ap (located line (find z t .first) (find z t .size) j) (fun-ext (λ _. resume-expr t v x line 0 e _ (j ∷ []) (omega arith) k (omega arith)))
+      ap (located line (find z t .first) (find z t .size) j) (fun-ext (λ _.
+      resume-expr t v x line (k .depth) e _ (j ∷ []) (omega (arith, k .most)) (k .within) (omega arith)))
       ∙ located-again line (find z t .first) (find z t .size) j (eval t v x line e) (λ c y. loop.update c y (resume rest 0 [] x))))
 
   pub resume-assign : (line : ℕ) (r : Ref) (e : Expr) (rest : List Instr) → all small (inRef 0 r) ≡ true → all small (mentions 0 e) ≡ true
       → resume (codeAssign t v line r e ++ rest) 0 [] x ≡ assigned t v x line r e (resume rest 0 [] x)
   unfolding codeAssign assigned
   resume-assign line r e rest h k = either (is-update t r e) _ _ _ _
-      (resume-assoc ((codeRef t v line r ++ checks t v line r) ++ code t v line (remainder e)) (updates t v line r ∷ []) rest [] x
-      ∙ resume-assoc₂ (codeRef t v line r) (checks t v line r) (code t v line (remainder e)) (updates t v line r ∷ rest) [] x
-      ∙ resume-update line r (remainder e) rest h (remainder-small e k))
+      (resume-assoc ((codeRef t v line r ++ checks t v line r) ++ code t v line (remainder o e)) (updates t v line r ∷ []) rest [] x
+      ∙ resume-assoc₂ (codeRef t v line r) (checks t v line r) (code t v line (remainder o e)) (updates t v line r ∷ rest) [] x
+      ∙ resume-update line r (remainder o e) rest h (remainder-small o e k))
       (resume-assoc₂ (code t v line e) (codeRef t v line r) (stores t v line r ∷ []) rest [] x
       ∙ resume-expr t v x line 0 e _ [] (omega arith) k (omega arith)
       ∙ ap (eval t v x line e) (fun-ext (λ y. resume-store line r rest y h)))
     where
+      o : Operator
+      o = operator-at t r
+
       either : (u : Bool) (a b : List Instr) (f g : Act) → resume (a ++ rest) 0 [] x ≡ f → resume (b ++ rest) 0 [] x ≡ g
           → resume (cond u a b ++ rest) 0 [] x ≡ choose u (λ _. f) (λ _. g)
       either true a b f g p q = p

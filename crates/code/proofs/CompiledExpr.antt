@@ -11,15 +11,17 @@ use borrow.Author.Tests.{lt-ltb, leb-true}
 use Rattle.int32.specs.Integers.{value, sum, difference, product, quotient}
 use Rattle.int32.proofs.Laws.{value-cases}
 use Rattle.rules.specs.Loop.{Act, read}
+use Rattle.syntax.specs.declared.Function.{Function}
+use Rattle.syntax.specs.declared.Function.the-variants.{Rdiv, Max}
 use Rattle.syntax.specs.Bytes.{choose, all, same}
-use Rattle.syntax.specs.Grammar.{number, Lead, bare, plus, minus, Expr, expr, Terms, no-terms, terms, Term, term, Factors, no-factors, factors, Factor, literal, cell, rdiv, brackets, Ref, single, element}
+use Rattle.syntax.specs.Grammar.{number, Lead, bare, plus, minus, Expr, expr, Terms, no-terms, terms, Term, term, Factors, no-factors, factors, Factor, literal, cell, call, brackets, Ref, single, element}
 use Rattle.syntax.specs.Known.{Entry, find}
 use Rattle.syntax.specs.Conditions.{opens, mentions, inTerms, inTerm, inFactors, inFactor, inRef, small}
-use Rattle.syntax.specs.Meaning.{led, divides, isVariable, eval, evalTerms, evalTerm, evalFactors, evalFactor, place}
+use Rattle.syntax.specs.Meaning.{led, divides, called, isVariable, eval, evalTerms, evalTerm, evalFactors, evalFactor, place}
 use Rattle.syntax.proofs.Spelling.{both-true}
 use Rattle.syntax.proofs.TestLaws.{all-parts}
-use Rattle.code.specs.Instr.{Instr, push, push-v, load, add, subtract, multiply, divide, round, room, with1, with2, perform, resume}
-use Rattle.code.specs.Compile.{codeLead, reads, code, codeTerms, codeTerm, codeFactors, codeFactor, codeRef}
+use Rattle.code.specs.Instr.{Instr, push, push-v, load, add, subtract, multiply, divide, room, with1, with2, perform, resume}
+use Rattle.code.specs.Compile.{codeLead, calls, reads, code, codeTerms, codeTerm, codeFactors, codeFactor, codeRef}
 
 room-left : (s : List ℤ) (a : Act) → length s < 32 → room s a ≡ a
 unfolding room
@@ -52,6 +54,11 @@ module _ (x : ℤ) (rest : List Instr) (s : List ℤ) where
   unfolding resume perform with2
   resume-product line true y z k h = ap (divides line quotient y z) (fun-ext h)
   resume-product line false y z k h = h (product y z)
+
+  resume-call : (line : ℕ) (f : Function) (y z : ℤ) → resume (calls line f ∷ rest) 0 (z ∷ y ∷ s) x ≡ called line f y z (λ w. resume rest 0 (w ∷ s) x)
+  unfolding resume perform with2 called
+  resume-call line Rdiv y z = refl
+  resume-call line Max y z = refl
 
   resume-variable : (v? : Bool) (c : ℕ) → length s < 32
       → resume (cond v? push-v (load c) ∷ rest) 0 s x ≡ choose v? (λ _. resume rest 0 (x ∷ s) x) (λ _. read c (λ y. resume rest 0 (y ∷ s) x))
@@ -112,13 +119,14 @@ module _ (t : List Entry) (v : List ℕ) (x : ℤ) (line : ℕ) where
         → resume (codeFactor t v line f ++ rest) 0 s x ≡ evalFactor t v x line f (λ y. resume rest 0 (y ∷ s) x)
     resume-factor n (literal d) rest s b h l = resume-literal x rest s d (leb-true (number d) 2147483647 (both-true _ true h .0)) (omega arith)
     resume-factor n (cell r) rest s b h l = resume-assoc (codeRef t v line r) (reads t v line r ∷ []) rest s x ∙ resume-read n r rest s b h l
-    resume-factor n (rdiv a c) rest s b h l =
+    resume-factor n (call f a c) rest s b h l =
         let (o, m) = both-true (small (opens (suc n))) _ h in
         let (p, q) = all-parts small (mentions (suc n) a) (mentions (suc n) c) m in
         let k = leb-true (suc n) 8 o in
-        resume-assoc₂ (code t v line a) (code t v line c) (round line ∷ []) rest s x
+        resume-assoc₂ (code t v line a) (code t v line c) (calls line f ∷ []) rest s x
         ∙ resume-expr (suc n) a _ s k p (omega arith)
-        ∙ ap (eval t v x line a) (fun-ext (λ y. resume-expr (suc n) c (round line ∷ rest) (y ∷ s) k q (omega arith)))
+        ∙ ap (eval t v x line a) (fun-ext (λ y. resume-expr (suc n) c (calls line f ∷ rest) (y ∷ s) k q (omega arith)
+        ∙ ap (eval t v x line c) (fun-ext (λ z. resume-call x rest s line f y z))))
     resume-factor n (brackets e) rest s b h l =
         let (o, m) = both-true (small (opens (suc n))) (all small (mentions (suc n) e)) h in
         resume-expr (suc n) e rest s (leb-true (suc n) 8 o) m (omega arith)

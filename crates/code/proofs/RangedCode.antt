@@ -6,15 +6,17 @@ use Prim.Native.Nat.{ℕ, min, _≤_, _<_}
 use native.Mathlib.Omega.{arith}
 use lib.ListN.{length}
 use Rattle.int32.specs.declared.Relation.{Relation}
+use Rattle.syntax.specs.declared.Function.{Function}
+use Rattle.syntax.specs.declared.Function.the-variants.{Rdiv, Max}
 use Rattle.syntax.specs.Bytes.{same}
-use Rattle.syntax.specs.Grammar.{number, Lead, bare, plus, minus, Expr, expr, Terms, no-terms, terms, Term, term, Factors, no-factors, factors, Factor, literal, cell, rdiv, brackets, Ref, single, element}
+use Rattle.syntax.specs.Grammar.{number, Lead, bare, plus, minus, Expr, expr, Terms, no-terms, terms, Term, term, Factors, no-factors, factors, Factor, literal, cell, call, brackets, Ref, single, element}
 use Rattle.syntax.specs.Known.{Entry, find, cells, Stmts, stop, set, if-then, if-else, Open, State}
-use Rattle.syntax.specs.Meaning.{is-update, remainder}
+use Rattle.syntax.specs.Meaning.{operator-at, is-update, remainder}
 use Rattle.syntax.specs.Sane.{Each, SaneTable, Sane}
 use Rattle.syntax.proofs.TestLaws.{each-append, cond-each}
 use Rattle.syntax.proofs.Table.{find-first}
-use Rattle.code.specs.Instr.{Instr, push, add, subtract, multiply, negate, divide, round, jump-unless, jump}
-use Rattle.code.specs.Compile.{codeLead, reads, code, codeTerms, codeTerm, codeFactors, codeFactor, codeRef, stores, checks, updates, codeAssign, codeIf, codeStmts, codeOpen, codeOpens, codeLines, codeOf}
+use Rattle.code.specs.Instr.{Instr, push, add, subtract, multiply, negate, divide, jump-unless, jump}
+use Rattle.code.specs.Compile.{codeLead, calls, reads, code, codeTerms, codeTerm, codeFactors, codeFactor, codeRef, stores, checks, updates, codeAssign, codeIf, codeStmts, codeOpen, codeOpens, codeLines, codeOf}
 use Rattle.code.proofs.Words.{Ranged}
 
 -- as a record, so that the list is inferred
@@ -41,6 +43,10 @@ module _ (t : List Entry) (v : List ℕ) (low : (x : List ℕ) → find x t .fir
   reads-ranged line (single x) = cond-each Ranged (same x v) tt tt
   reads-ranged line (element x e) = low x
 
+  calls-ranged : (line : ℕ) (f : Function) → Ranged (calls line f)
+  calls-ranged line Rdiv = tt
+  calls-ranged line Max = tt
+
   mutual
     unfolding code codeTerms codeTerm codeFactors codeFactor codeRef
 
@@ -62,7 +68,7 @@ module _ (t : List Entry) (v : List ℕ) (low : (x : List ℕ) → find x t .fir
     factor-readable : (line : ℕ) (f : Factor) → Readable (codeFactor t v line f)
     factor-readable line (literal d) = one (push (min (number d) 2147483648)) tt
     factor-readable line (cell r) = ref-readable line r ▸ one (reads t v line r) (reads-ranged line r)
-    factor-readable line (rdiv a b) = (expr-readable line a ▸ expr-readable line b) ▸ one (round line) tt
+    factor-readable line (call f a b) = (expr-readable line a ▸ expr-readable line b) ▸ one (calls line f) (calls-ranged line f)
     factor-readable line (brackets e) = expr-readable line e
 
     ref-readable : (line : ℕ) (r : Ref) → Readable (codeRef t v line r)
@@ -84,7 +90,7 @@ module _ (t : List Entry) (v : List ℕ) (low : (x : List ℕ) → find x t .fir
   assign-readable : (line : ℕ) (r : Ref) (e : Expr) → Readable (codeAssign t v line r e)
   unfolding codeAssign
   assign-readable line r e = cond-each Readable (is-update t r e)
-      (((ref-readable line r ▸ checks-readable line r) ▸ expr-readable line (remainder e)) ▸ one (updates t v line r) (updates-ranged line r))
+      (((ref-readable line r ▸ checks-readable line r) ▸ expr-readable line (remainder (operator-at t r) e)) ▸ one (updates t v line r) (updates-ranged line r))
       ((expr-readable line e ▸ ref-readable line r) ▸ one (stores t v line r) (stores-ranged line r))
 
   if-readable : (line : ℕ) (a : Expr) (rel : Relation) (b : Expr) (n : ℕ) → Readable (codeIf t v line a rel b n)

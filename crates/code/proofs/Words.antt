@@ -7,7 +7,7 @@ use lib.ListN.{length, getD, set}
 use Rattle.int32.specs.declared.Relation.{Relation}
 use Rattle.int32.specs.declared.Relation.the-variants.{Equal, Unequal, Less, AtMost, Greater, AtLeast}
 use Rattle.syntax.specs.Sane.{Each}
-use Rattle.code.specs.Instr.{Instr, push, push-v, load, load-at, add, subtract, multiply, negate, divide, round, store, store-at, check, update, update-at, jump-unless, jump, end, relation-number, relation-of, operation, argument, words, numbered, decode, instructions}
+use Rattle.code.specs.Instr.{Instr, push, push-v, load, load-at, add, subtract, multiply, negate, divide, round, store, store-at, check, update, update-at, jump-unless, jump, maximum, end, relation-number, relation-of, operation, argument, words, numbered, decode, instructions}
 
 -- an array's first cell leaves room for its length in the argument
 abbrev pub Ranged : Instr → Type 0
@@ -28,6 +28,7 @@ Ranged (update c) = Unit {0}
 Ranged (update-at b n l) = b < 4096
 Ranged (jump-unless r n) = Unit {0}
 Ranged (jump n) = Unit {0}
+Ranged maximum = Unit {0}
 Ranged end = Unit {0}
 
 -- ---- one instruction
@@ -88,6 +89,7 @@ decode-words (update c) h = refl
 decode-words (update-at b n l) h = decode-line 14 l _ (omega arith) ∙ split-array b n l update-at h
 decode-words (jump-unless r n) h = split-relation r n
 decode-words (jump n) h = let e : 8 * n / 8 ≡ n = omega arith in rw e
+decode-words maximum h = refl
 decode-words end h = refl
 
 -- ---- lists of them

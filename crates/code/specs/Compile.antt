@@ -5,16 +5,22 @@ use mathlib.Core.Option.{Option, none, some}
 use Prim.Native.Nat.{ℕ, suc, _-_, min}
 use lib.ListN.{length}
 use Rattle.int32.specs.declared.Relation.{Relation}
+use Rattle.syntax.specs.declared.Function.{Function}
+use Rattle.syntax.specs.declared.Function.the-variants.{Rdiv, Max}
 use Rattle.syntax.specs.Bytes.{same}
-use Rattle.syntax.specs.Grammar.{number, Lead, bare, plus, minus, Expr, expr, Terms, no-terms, terms, Term, term, Factors, no-factors, factors, Factor, literal, cell, rdiv, brackets, Ref, single, element}
+use Rattle.syntax.specs.Grammar.{number, Lead, bare, plus, minus, Expr, expr, Terms, no-terms, terms, Term, term, Factors, no-factors, factors, Factor, literal, cell, call, brackets, Ref, single, element}
 use Rattle.syntax.specs.Known.{Entry, find, Stmts, stop, set, if-then, if-else, Open, State}
-use Rattle.syntax.specs.Meaning.{is-update, remainder}
-use Rattle.code.specs.Instr.{Instr, push, push-v, load, load-at, add, subtract, multiply, negate, divide, round, store, store-at, check, update, update-at, jump-unless, jump}
+use Rattle.syntax.specs.Meaning.{operator-at, is-update, remainder}
+use Rattle.code.specs.Instr.{Instr, push, push-v, load, load-at, add, subtract, multiply, negate, divide, round, store, store-at, check, update, update-at, jump-unless, jump, maximum}
 
 abbrev pub codeLead : Lead → List Instr
 codeLead bare = []
 codeLead plus = []
 codeLead minus = negate ∷ []
+
+abbrev pub calls : ℕ → Function → Instr
+calls line Rdiv = round line
+calls line Max = maximum
 
 -- the names, and the loop's variable; the line
 module _ (t : List Entry) (v : List ℕ) where
@@ -42,7 +48,7 @@ module _ (t : List Entry) (v : List ℕ) where
     pub codeFactor : ℕ → Factor → List Instr
     codeFactor line (literal d) = push (min (number d) 2147483648) ∷ []
     codeFactor line (cell r) = codeRef line r ++ (reads line r ∷ [])
-    codeFactor line (rdiv a b) = (code line a ++ code line b) ++ (round line ∷ [])
+    codeFactor line (call f a b) = (code line a ++ code line b) ++ (calls line f ∷ [])
     codeFactor line (brackets e) = code line e
 
     -- the subscript of a reference
@@ -65,7 +71,7 @@ module _ (t : List Entry) (v : List ℕ) where
   unfoldable pub codeAssign : ℕ → Ref → Expr → List Instr
   codeAssign line r e =
       cond (is-update t r e)
-      (((codeRef line r ++ checks line r) ++ code line (remainder e)) ++ (updates line r ∷ []))
+      (((codeRef line r ++ checks line r) ++ code line (remainder (operator-at t r) e)) ++ (updates line r ∷ []))
       ((code line e ++ codeRef line r) ++ (stores line r ∷ []))
 
   -- the condition of an `if`, and the jump over its first part, of so many instructions

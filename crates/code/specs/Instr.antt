@@ -8,12 +8,12 @@ use lib.ListN.{length, getD}
 use lib.IntN.{ℤ}
 use Rattle.int32.specs.declared.Relation.{Relation}
 use Rattle.int32.specs.declared.Relation.the-variants.{Equal, Unequal, Less, AtMost, Greater, AtLeast}
-use Rattle.int32.specs.Integers.{value, sum, difference, product, negation, quotient, rdiv, related}
+use Rattle.int32.specs.Integers.{value, sum, difference, product, negation, larger, quotient, rdiv, related}
 use Rattle.rules.specs.Loop.{Act, read, write, done}
 use Rattle.syntax.specs.Meaning.{located, divides}
 use Rattle.rules.specs.Loop as loop
 
--- A literal by its word, v, a cell; an element of an array with its first cell, its length and the line; the operations, a division with its line; the
+-- A literal by its word, v, a cell; an element of an array with its first cell, its length and the line; the operations, a division with its line; the larger of two; the
 -- store of a value in a cell or an element; the test of an update's subscript, which stays pending, and the update; jumps over so many
 -- instructions.
 pub data Instr : Type 0 where
@@ -30,6 +30,7 @@ pub data Instr : Type 0 where
   update-at : ℕ → ℕ → ℕ → Instr
   jump-unless : Relation → ℕ → Instr
   jump : ℕ → Instr
+  maximum : Instr
   end : Instr
 
 -- ---- words
@@ -68,7 +69,8 @@ operation (update c) = 13
 operation (update-at b n l) = 14 + 32 * l
 operation (jump-unless r n) = 15
 operation (jump n) = 16
-operation end = 17
+operation maximum = 17
+operation end = 18
 
 abbrev pub argument : Instr → ℕ
 argument (push n) = n
@@ -88,6 +90,7 @@ argument (update c) = c
 argument (update-at b n l) = b + 4096 * n
 argument (jump-unless r n) = relation-number r + 8 * n
 argument (jump n) = 8 * n
+argument maximum = 0
 argument end = 0
 
 -- the words of instructions
@@ -115,6 +118,7 @@ numbered l a =
     ∷ update-at (a % 4096) (a / 4096) l
     ∷ jump-unless (relation-of (a % 8)) (a / 8)
     ∷ jump (a / 8)
+    ∷ maximum
     ∷ []
 
 -- the instruction of two words; others are `end`
@@ -163,6 +167,7 @@ perform (update c) on past s v = with1 s (λ x t. loop.update c x (on t))
 perform (update-at b n l) on past s v = with2 s (λ i x t. located l b n i (λ c. loop.update c x (on t)))
 perform (jump-unless r n) on past s v = with2 s (λ x y t. cond (related r x y) (on t) (past n t))
 perform (jump n) on past s v = past n s
+perform maximum on past s v = with2 s (λ x y t. on (larger x y ∷ t))
 perform end on past s v = done
 
 -- from place p of the code on

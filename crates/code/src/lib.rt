@@ -36,6 +36,8 @@ pub const JUMP_UNLESS: u32 = 15;
 
 pub const JUMP: u32 = 16;
 
+pub const MAXIMUM: u32 = 17;
+
 pub const LINE: u32 = 32;
 
 // The second word of an element: its array's first cell, and ELEMENT times how many cells that has.

@@ -6,20 +6,23 @@ use Prim.Native.Nat.{ℕ, suc, _+_, _-_, _*_, _≤_, _<_, max}
 use native.Mathlib.Omega.{arith}
 use lib.Dec.{leb}
 use lib.ListN.{length, drop}
-use Rattle.syntax.specs.Grammar.{Expr, Factor, literal, cell, rdiv, brackets, Ref, single, element}
+use lib.Seq.{sets}
+use Rattle.syntax.specs.declared.Function.{Function}
+use Rattle.syntax.specs.declared.Function.the-variants.{Rdiv, Max}
+use Rattle.syntax.specs.Grammar.{Expr, Factor, literal, cell, call, brackets, Ref, single, element}
 use Rattle.syntax.specs.Known.{Entry}
 use Rattle.syntax.specs.Conditions.{refers, mentions, inFactor, inRef}
 use Rattle.syntax.specs.Reader.{Parsed, done, next, expects, peek-in, skip-in, readExpr, readFactor, readRef}
-use Rattle.code.specs.Instr.{Instr, round, words}
-use Rattle.code.specs.Compile.{code, codeFactor, codeRef}
+use Rattle.code.specs.Instr.{Instr, operation, words}
+use Rattle.code.specs.Compile.{calls, code, codeFactor, codeRef}
 use Rattle.names.specs.Table.{variableOf, Tabled}
 use Rattle.parts.specs.Answer.{rank-of, worst, Reads, Within, Answers}
-use Rattle.expressions.specs.Readers.{readQuotient}
+use Rattle.expressions.specs.Readers.{readArguments}
 use Rattle.parts.specs.Parts.{textAt, Passes, begun, Begins, Sealed, Emits, Ranked, readsOf, Fetches, pushes, literalRank, Pushes, Loads}
 use Rattle.parts.specs.declared.Got.{Got}
 use Rattle.parts.specs.declared.Got.the-variants.{Broken, Done}
 use Rattle.parts.specs.declared.Beginning.{Beginning}
-use Rattle.parts.specs.declared.Beginning.the-variants.{Nothing, Literal, Bracket, Quotient, Name, Element}
+use Rattle.parts.specs.declared.Beginning.the-variants.{Nothing, Literal, Bracket, Call, Name, Element}
 use Rattle.parts.specs.declared.Begun.{Begun}
 use Rattle.parts.proofs.Laws.{worst-append, fueled, Since, since-none, since-rank, since-emit, reads-done, reads-sealed, reads-as, emits-broken, emits-none, done-emits}
 use Rattle.parts.proofs.Leaves.{fetches-emits}
@@ -115,13 +118,13 @@ module _ (T s : List ℕ) (at depth line place most : ℕ) (b a : List ℕ) (r :
       s place most most′ b a a g r r (readExpr peek-in skip-in f (drop (j .next) s)) em (h .reads t d f (omega arith)) se (emits-none r a)))
       (enclosed-within 0 [] s at (j .next) place g r a a r (omega arith) fr (h .within) se (emits-none r a))
 
-  pub factor-rdiv : j .beginning ≡ Quotient
-      → Answers readQuotient (λ t v. codeFactor t v line) (inFactor depth) 2 (suc (j .next)) T s (j .next) place most b a r → Answers-factor
-  factor-rdiv e h =
-      let p = passed s at j be Quotient e in
+  pub factor-call : (q : Function) → j .beginning ≡ Call q
+      → Answers (readArguments q) (λ t v. codeFactor t v line) (inFactor depth) 2 (suc (j .next)) T s (j .next) place most b a r → Answers-factor
+  factor-call q e h =
+      let p = passed s at j be (Call q) e in
       let fr = p .from in
       let wi = p .within in
-      by-shape Quotient e (λ t d f le. subst (λ (u : List ℕ). Reads-factor (readQuotient f u) t) (p .left) (h .reads t d f (omega arith)))
+      by-shape (Call q) e (λ t d f le. subst (λ (u : List ℕ). Reads-factor (readArguments q f u) t) (p .left) (h .reads t d f (omega arith)))
       (within-from s (j .next) place (suc (j .next)) at place (suc at) r (omega arith) (omega arith) (h .within))
 
   -- the rank of a name with a subscript, and of its bracket
@@ -213,71 +216,77 @@ module _ (T s : List ℕ) (at depth line place most : ℕ) (b a : List ℕ) (r :
     within = subst (Within s at place (suc at)) (sym er) (within-broken s at place (suc at));
   }
 
--- ---- the two expressions of rdiv
+-- ---- the two expressions of a function
 
 -- what comes after the first: the second with its bracket and the instruction, or nothing
-unfoldable pub Ends : ℕ → ℕ → List ℕ → List ℕ → List ℕ → List ℕ → Got → Got → Type 0
-Ends inner line T s m a Broken r = r ≡ Broken
-Ends inner line T s m a (Done n p q) r =
+unfoldable pub Ends : ℕ → ℕ → ℕ → List ℕ → List ℕ → List ℕ → List ℕ → Got → Got → Type 0
+Ends op inner line T s m a Broken r = r ≡ Broken
+Ends op inner line T s m a (Done n p q) r =
     (m₂ : List ℕ) × (g₂ : Got) × (g₃ : Got) × Answers (readExpr peek-in skip-in) (λ t v. code t v line)
-    (mentions inner) 2 (suc n) T s n p q m m₂ g₂ × Sealed 41 s g₂ g₃ × Emits 1 ((9 + 32 * line) ∷ 0 ∷ []) g₃ m₂ a r
+    (mentions inner) 2 (suc n) T s n p q m m₂ g₂ × Sealed 41 s g₂ g₃ × Emits 1 (op ∷ 0 ∷ []) g₃ m₂ a r
 
-module _ (inner line : ℕ) (T s m a : List ℕ) (g : Got) where
+module _ (op inner line : ℕ) (T s m a : List ℕ) (g : Got) where
   pub ends-on : (n p q : ℕ) (m₂ : List ℕ) (g₂ g₃ r : Got) → g ≡ Done n p q
       → Answers (readExpr peek-in skip-in) (λ t v. code t v line) (mentions inner) 2 (suc n) T s n p q m m₂ g₂ → Sealed 41 s g₂ g₃
-      → Emits 1 ((9 + 32 * line) ∷ 0 ∷ []) g₃ m₂ a r → Ends inner line T s m a g r
+      → Emits 1 (op ∷ 0 ∷ []) g₃ m₂ a r → Ends op inner line T s m a g r
   unfolding Ends
-  ends-on n p q m₂ g₂ g₃ r e h se em = subst (λ (x : Got). Ends inner line T s m a x r) (sym e) (m₂, g₂, g₃, h, se, em)
+  ends-on n p q m₂ g₂ g₃ r e h se em = subst (λ (x : Got). Ends op inner line T s m a x r) (sym e) (m₂, g₂, g₃, h, se, em)
 
-  pub ends-not : g ≡ Broken → Ends inner line T s m a g Broken
+  pub ends-not : g ≡ Broken → Ends op inner line T s m a g Broken
   unfolding Ends
-  ends-not e = subst (λ (x : Got). Ends inner line T s m a x Broken) (sym e) refl
+  ends-not e = subst (λ (x : Got). Ends op inner line T s m a x Broken) (sym e) refl
 
-  ends-broken : (r : Got) → Ends inner line T s m a g r → g ≡ Broken → r ≡ Broken
+  ends-broken : (r : Got) → Ends op inner line T s m a g r → g ≡ Broken → r ≡ Broken
   unfolding Ends
-  ends-broken r h e = subst (λ (x : Got). Ends inner line T s m a x r) e h
+  ends-broken r h e = subst (λ (x : Got). Ends op inner line T s m a x r) e h
 
 -- where they end
-ends-within : (inner line : ℕ) (T s m a : List ℕ) (g r : Got) (at place lo : ℕ) → Ends inner line T s m a g r → Within s (at + 1) place lo g
+ends-within : (op inner line : ℕ) (T s m a : List ℕ) (g r : Got) (at place lo : ℕ) → Ends op inner line T s m a g r → Within s (at + 1) place lo g
     → Within s at place lo r
 unfolding Ends
-ends-within inner line T s m a Broken r at place lo h w = subst (Within s at place lo) (sym h) (within-broken s at place lo)
-ends-within inner line T s m a (Done n p q) r at place lo (m₂, g₂, g₃, h, se, em) w =
+ends-within op inner line T s m a Broken r at place lo h w = subst (Within s at place lo) (sym h) (within-broken s at place lo)
+ends-within op inner line T s m a (Done n p q) r at place lo (m₂, g₂, g₃, h, se, em) w =
     let (l₁, l₂, l₃) = within-done s (at + 1) place lo (Done n p q) n p q w refl in
     within-from s (n + 1) (p + 1) (suc n) at place lo r (omega arith) (omega arith)
-    (within-emits 1 ((9 + 32 * line) ∷ 0 ∷ []) g₃ m₂ a r s (n + 1) p (suc n) em (within-sealed n p (suc n) se (h .within)))
+    (within-emits 1 (op ∷ 0 ∷ []) g₃ m₂ a r s (n + 1) p (suc n) em (within-sealed n p (suc n) se (h .within)))
 
-module _ (T s : List ℕ) (at depth line place most : ℕ) (b m a : List ℕ) (g g₁ r : Got) (inner most′ : ℕ) (ei : inner ≡ suc depth)
-    (eo : most′ ≡ max most (cond (leb inner 8) 0 1))
+call-words : (c : Function) (line : ℕ) → operation (calls line c) ∷ 0 ∷ [] ≡ words (calls line c ∷ [])
+unfolding words
+call-words Rdiv line = refl
+call-words Max line = refl
+
+module _ (c : Function) (T s : List ℕ) (at depth line place most : ℕ) (b m a : List ℕ) (g g₁ r : Got) (op inner most′ : ℕ)
+    (eop : op ≡ operation (calls line c)) (ei : inner ≡ suc depth) (eo : most′ ≡ max most (cond (leb inner 8) 0 1))
     (h : Answers (readExpr peek-in skip-in) (λ t v. code t v line) (mentions inner) 2 (suc at) T s at place most′ b m g) (se : Sealed 44 s g g₁)
-    (en : Ends inner line T s m a g₁ r) where
-  quotient-reads : (t : List Entry) → Tabled T t → (f : ℕ) → 3 * (length s - at) + 2 < f
-      → Reads (codeFactor t (variableOf T) line) (λ x. worst t (variableOf T) (inFactor depth x)) s (readQuotient f (drop at s)) place most b a r
+    (en : Ends op inner line T s m a g₁ r) where
+  arguments-read : (t : List Entry) → Tabled T t → (f : ℕ) → 3 * (length s - at) + 2 < f
+      → Reads (codeFactor t (variableOf T) line) (λ x. worst t (variableOf T) (inFactor depth x)) s (readArguments c f (drop at s)) place most b a r
   unfolding code mentions worst words Ends
-  quotient-reads t d f lt =
+  arguments-read t d f lt =
       let v = variableOf T in
       let k : Expr → ℕ = λ e. worst t v (mentions inner e) in
       reads-sealed (codeFactor t v line) (λ x. worst t v (inFactor depth x)) s place most b a r (code t v line) k (readExpr peek-in skip-in f (drop at s))
-      (λ x w. next (readExpr peek-in skip-in f w) (λ y u. next (expects peek-in skip-in ")" u) (λ _ z. done (rdiv x y) z))) m g
+      (λ x w. next (readExpr peek-in skip-in f w) (λ y u. next (expects peek-in skip-in ")" u) (λ _ z. done (call c x y) z))) m g
       (since-rank (since-none place most b) (cond (leb inner 8) 0 1) eo)
       (h .reads t d f lt) se
       (λ x n p q le e so.
-      let (m₂, g₂, g₃, h₂, se₂, em₂) = subst (λ (i : Got). Ends inner line T s m a i r) e en in
+      let (m₂, g₂, g₃, h₂, se₂, em₂) = subst (λ (i : Got). Ends op inner line T s m a i r) e en in
       let (l₁, l₂, l₃) = within-done s (at + 1) place (suc at) g₁ n p q (within-sealed at place (suc at) se (h .within)) e in
       reads-sealed (codeFactor t v line)
       (λ x. worst t v (inFactor depth x)) s place most b a r (code t v line) k (readExpr peek-in skip-in f (drop n s))
-      (λ y z. done (rdiv x y) z) m₂ g₂ so (h₂ .reads t d f (omega arith)) se₂
+      (λ y z. done (call c x y) z) m₂ g₂ so (h₂ .reads t d f (omega arith)) se₂
       (λ y n′ p′ q′ le′ e′ so′.
-      let w = done-emits 1 ((9 + 32 * line) ∷ 0 ∷ []) g₃ m₂ a r n′ p′ q′ em₂ e′ in
-      reads-done (codeFactor t v line) (λ x. worst t v (inFactor depth x)) s place most b a r (rdiv x y) le′ (since-emit so′ (round line ∷ []) (w .1)) refl
+      let w = done-emits 1 (op ∷ 0 ∷ []) g₃ m₂ a r n′ p′ q′ em₂ e′ in
+      reads-done (codeFactor t v line) (λ x. worst t v (inFactor depth x)) s place most b a r (call c x y) le′
+      (since-emit so′ (calls line c ∷ []) (w .1 ∙ ap (sets m₂ (2 * p′)) (ap (λ (o : ℕ). o ∷ 0 ∷ []) eop ∙ call-words c line))) refl
       (ap (λ (i : ℕ). max (cond (leb i 8) 0 1) (worst t v (mentions i x ++ mentions i y))) (sym ei)
       ∙ omega (arith, worst-append t v (mentions inner x) (mentions inner y)))
       (w .0))
-      (emits-broken 1 ((9 + 32 * line) ∷ 0 ∷ []) g₃ m₂ a r em₂))
-      (ends-broken inner line T s m a g₁ r en)
+      (emits-broken 1 (op ∷ 0 ∷ []) g₃ m₂ a r em₂))
+      (ends-broken op inner line T s m a g₁ r en)
 
-  pub quotient-answers : Answers readQuotient (λ t v. codeFactor t v line) (inFactor depth) 2 (suc at) T s at place most b a r
-  quotient-answers = record {
-    reads = quotient-reads;
-    within = ends-within inner line T s m a g₁ r at place (suc at) en (within-sealed at place (suc at) se (h .within));
+  pub call-answers : Answers (readArguments c) (λ t v. codeFactor t v line) (inFactor depth) 2 (suc at) T s at place most b a r
+  call-answers = record {
+    reads = arguments-read;
+    within = ends-within op inner line T s m a g₁ r at place (suc at) en (within-sealed at place (suc at) se (h .within));
   }

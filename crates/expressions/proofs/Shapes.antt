@@ -7,17 +7,18 @@ use native.Mathlib.Omega.{arith}
 use borrow.Author.Tests.{eqb-true, eq-eqb, ne-eqb}
 use lib.Dec.{eqb}
 use lib.ListN.{drop}
+use Rattle.syntax.specs.declared.Function.the-variants.{Rdiv, Max}
 use Rattle.syntax.specs.Bytes.{choose, bytes, same, sign}
 use Rattle.syntax.specs.Grammar.{Lead, bare, plus, minus, Expr, expr, Factor, literal, cell, brackets, Ref, single, element}
 use Rattle.syntax.specs.Reader.{Parsed, broken, done, next, is, kind, text, isDigits, says, expects, peek-in, skip-in, readLead, readExpr, readTerms, readTerm, readFactor, readRef}
 use Rattle.syntax.proofs.Spelling.{is-true}
-use Rattle.expressions.specs.Readers.{readQuotient}
+use Rattle.expressions.specs.Readers.{readArguments}
 use Rattle.parts.specs.Parts.{skipped, Passes, stands, either, joined, chosen, leadBy, Joins, begins}
 use Rattle.parts.specs.declared.Joint.{Joint}
 use Rattle.parts.specs.declared.Joint.the-variants.{Neither}
 use Rattle.parts.specs.declared.Joined.{Joined}
 use Rattle.parts.specs.declared.Beginning.{Beginning}
-use Rattle.parts.specs.declared.Beginning.the-variants.{Nothing, Literal, Bracket, Quotient, Name, Element}
+use Rattle.parts.specs.declared.Beginning.the-variants.{Nothing, Literal, Bracket, Call, Name, Element}
 
 -- ---- a lead, and terms
 
@@ -67,14 +68,15 @@ module _ (a b : ℕ) (s : List ℕ) (at : ℕ) (r : Joined) (j : Joins a b s at 
 -- ---- how a factor begins
 
 -- by the tests of the definition
-abbrev begins-as : Bool → Bool → Bool → Bool → Bool → Beginning
-begins-as n o r p k = cond n Literal (cond o Bracket (cond r (cond p Quotient Nothing) (cond k (cond p Element Name) Nothing)))
+abbrev begins-as : Bool → Bool → Bool → Bool → Bool → Bool → Beginning
+begins-as n o r m p k =
+    cond n Literal (cond o Bracket (cond r (cond p (Call Rdiv) Nothing) (cond m (cond p (Call Max) Nothing) (cond k (cond p Element Name) Nothing))))
 
 -- a name begins with nothing else
 name-begins : (u : List ℕ) → kind (peek-in u) ≡ 1 → begins u ≡ cond (stands 40 (skip-in u)) Element Name
 name-begins u e =
     ap (λ (k : ℕ). begins-as (eqb k 3) (eqb 4 k && same (40 ∷ []) (text (peek-in u))) (eqb 2 k && same (bytes "rdiv") (text (peek-in u)))
-    (stands 40 (skip-in u)) (eqb k 1))
+    (eqb 2 k && same (bytes "max") (text (peek-in u))) (stands 40 (skip-in u)) (eqb k 1))
     e
 
 -- and whatever begins like a name is one
@@ -82,7 +84,7 @@ abbrev pub named : Beginning → Bool
 named Nothing = false
 named Literal = false
 named Bracket = false
-named Quotient = false
+named (Call f) = false
 named Name = true
 named Element = true
 
@@ -90,7 +92,7 @@ abbrev counted : Beginning → Bool
 counted Nothing = false
 counted Literal = true
 counted Bracket = false
-counted Quotient = false
+counted (Call f) = false
 counted Name = false
 counted Element = false
 
@@ -99,28 +101,34 @@ clash h = absurd (let z : _≡_ {A = ℕ} 0 1 = cc in omega arith)
 
 pub begins-kind : (u : List ℕ) → named (begins u) ≡ true → kind (peek-in u) ≡ 1
 begins-kind u h = eqb-true (kind (peek-in u)) 1
-    (go (isDigits peek-in skip-in u) (stands 40 u) (says peek-in skip-in "rdiv" u) (stands 40 (skip-in u)) (eqb (kind (peek-in u)) 1) h)
+    (go (isDigits peek-in skip-in u) (stands 40 u) (says peek-in skip-in "rdiv" u) (says peek-in skip-in "max" u) (stands 40 (skip-in u))
+    (eqb (kind (peek-in u)) 1) h)
   where
-    go : (n o r p k : Bool) → named (begins-as n o r p k) ≡ true → k ≡ true
-    go true o r p k h = clash h
-    go false true r p k h = clash h
-    go false false true true k h = clash h
-    go false false true false k h = clash h
-    go false false false p true h = refl
-    go false false false p false h = clash h
+    go : (n o r m p k : Bool) → named (begins-as n o r m p k) ≡ true → k ≡ true
+    go true o r m p k h = clash h
+    go false true r m p k h = clash h
+    go false false true m true k h = clash h
+    go false false true m false k h = clash h
+    go false false false true true k h = clash h
+    go false false false true false k h = clash h
+    go false false false false p true h = refl
+    go false false false false p false h = clash h
 
 pub begins-digits : (u : List ℕ) → begins u ≡ Literal → kind (peek-in u) ≡ 3
 begins-digits u h = eqb-true (kind (peek-in u)) 3
-    (go (isDigits peek-in skip-in u) (stands 40 u) (says peek-in skip-in "rdiv" u) (stands 40 (skip-in u)) (eqb (kind (peek-in u)) 1) (ap counted h))
+    (go (isDigits peek-in skip-in u) (stands 40 u) (says peek-in skip-in "rdiv" u) (says peek-in skip-in "max" u) (stands 40 (skip-in u))
+    (eqb (kind (peek-in u)) 1) (ap counted h))
   where
-    go : (n o r p k : Bool) → counted (begins-as n o r p k) ≡ true → n ≡ true
-    go true o r p k h = refl
-    go false true r p k h = clash h
-    go false false true true k h = clash h
-    go false false true false k h = clash h
-    go false false false true true h = clash h
-    go false false false false true h = clash h
-    go false false false p false h = clash h
+    go : (n o r m p k : Bool) → counted (begins-as n o r m p k) ≡ true → n ≡ true
+    go true o r m p k h = refl
+    go false true r m p k h = clash h
+    go false false true m true k h = clash h
+    go false false true m false k h = clash h
+    go false false false true true k h = clash h
+    go false false false true false k h = clash h
+    go false false false false true true h = clash h
+    go false false false false false true h = clash h
+    go false false false false p false h = clash h
 
 -- what follows a name
 module _ (u : List ℕ) where
@@ -182,28 +190,32 @@ abbrev pub shape : Beginning → ℕ → List ℕ → Parsed (List ℕ) Factor
 shape Nothing f u = broken
 shape Literal f u = done (literal (text (peek-in u))) (skip-in u)
 shape Bracket f u = next (readExpr peek-in skip-in f (skip-in u)) (λ e v. next (expects peek-in skip-in ")" v) (λ _ w. done (brackets e) w))
-shape Quotient f u = readQuotient f (skip-in (skip-in u))
+shape (Call g) f u = readArguments g f (skip-in (skip-in u))
 shape Name f u = next (readRef peek-in skip-in f u) (λ r v. done (cell r) v)
 shape Element f u = next (readRef peek-in skip-in f u) (λ r v. done (cell r) v)
 
 pub factor-shape : (f : ℕ) (u : List ℕ) → readFactor peek-in skip-in (suc f) u ≡ shape (begins u) f u
 unfolding readExpr
-factor-shape f u = go (isDigits peek-in skip-in u) (stands 40 u) (says peek-in skip-in "rdiv" u) (stands 40 (skip-in u)) (eqb (kind (peek-in u)) 1)
-    (no-name u f)
+factor-shape f u =
+    go (isDigits peek-in skip-in u) (stands 40 u) (says peek-in skip-in "rdiv" u) (says peek-in skip-in "max" u) (stands 40 (skip-in u))
+    (eqb (kind (peek-in u)) 1) (no-name u f)
   where
-    go : (n o r p k : Bool) → (k ≡ false → readRef peek-in skip-in f u ≡ broken)
+    go : (n o r m p k : Bool) → (k ≡ false → readRef peek-in skip-in f u ≡ broken)
         → choose n (λ _. next (cond n (done (text (peek-in u)) (skip-in u)) broken) (λ d v. done (literal d) v)) (λ _.
         choose o (λ _. next (readExpr peek-in skip-in f (skip-in u)) (λ e v. next (expects peek-in skip-in ")" v) (λ _ w. done (brackets e) w))) (λ _.
-        choose r (λ _. next (cond p (done (tt {0}) (skip-in (skip-in u))) broken) (λ _. readQuotient f)) (λ _.
-        next (readRef peek-in skip-in f u) (λ r v. done (cell r) v))))
-        ≡ shape (begins-as n o r p k) f u
-    go true o r p k h = refl
-    go false true r p k h = refl
-    go false false true true k h = refl
-    go false false true false k h = refl
-    go false false false true true h = refl
-    go false false false false true h = refl
-    go false false false p false h = ap (λ (P : Parsed (List ℕ) Ref). next P (λ r v. done (cell r) v)) (h refl)
+        choose r (λ _. next (cond p (done (tt {0}) (skip-in (skip-in u))) broken) (λ _. readArguments Rdiv f)) (λ _.
+        choose m (λ _. next (cond p (done (tt {0}) (skip-in (skip-in u))) broken) (λ _. readArguments Max f)) (λ _.
+        next (readRef peek-in skip-in f u) (λ r v. done (cell r) v)))))
+        ≡ shape (begins-as n o r m p k) f u
+    go true o r m p k h = refl
+    go false true r m p k h = refl
+    go false false true m true k h = refl
+    go false false true m false k h = refl
+    go false false false true true k h = refl
+    go false false false true false k h = refl
+    go false false false false true true h = refl
+    go false false false false false true h = refl
+    go false false false false p false h = ap (λ (P : Parsed (List ℕ) Ref). next P (λ r v. done (cell r) v)) (h refl)
 
 -- an element, as a factor
 module _ (f : ℕ) (u : List ℕ) (e : begins u ≡ Element) where

@@ -1,9 +1,10 @@
--- The reader of a quotient over what is left of a line's bytes, by those of `Rattle.syntax.specs.Reader`.
+-- The reader of a function's two expressions over what is left of a line's bytes, by those of `Rattle.syntax.specs.Reader`.
 use Prim.Native.Nat.{ℕ}
 use mathlib.Core.List.{List}
-use Rattle.syntax.specs.Grammar.{Factor, rdiv}
+use Rattle.syntax.specs.declared.Function.{Function}
+use Rattle.syntax.specs.Grammar.{Factor, call}
 use Rattle.syntax.specs.Reader.{Reader, readPair, readExpr, peek-in, skip-in}
 
--- what follows `rdiv(`
-abbrev pub readQuotient : ℕ → Reader (List ℕ) Factor
-readQuotient f = readPair peek-in skip-in (readExpr peek-in skip-in f) rdiv
+-- what follows the function and its bracket
+abbrev pub readArguments : Function → ℕ → Reader (List ℕ) Factor
+readArguments g f = readPair peek-in skip-in (readExpr peek-in skip-in f) (call g)

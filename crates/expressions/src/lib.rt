@@ -5,14 +5,13 @@ ghost use Rattle.syntax.specs.Reader.{peek-in, skip-in, readExpr, readTerms, re
 ghost use Rattle.syntax.specs.Conditions.{mentions, inTerms, inTerm, inFactors, inFactor, inRef};
 ghost use Rattle.code.specs.Compile.{code as codeExpr, codeTerms, codeTerm, codeFactors, codeFactor, codeRef};
 ghost use Rattle.parts.specs.Answer.{Answers, Ready};
-ghost use Rattle.expressions.specs.Readers.{readQuotient};
-use code::LINE;
-use code::ROUND;
+ghost use Rattle.expressions.specs.Readers.{readArguments};
 use names::Table;
 use parts::Beginning;
 use parts::Got;
 use parts::Joint;
 use parts::begin;
+use parts::call_operation;
 use parts::constant;
 use parts::expect;
 use parts::factor_operation;
@@ -24,6 +23,7 @@ use parts::then_emit;
 use parts::then_negate;
 use parts::then_read;
 use parts::variable;
+use syntax::Function;
 
 // They call each other. The bytes that are left and the brackets that may still open, fewer than bytes, give the number that falls with each call.
 
@@ -169,7 +169,7 @@ fn more_factors(
 }
 
 // A factor, by how it begins.
-fn factor(
+pub fn factor(
     s: &[u8],
     at: usize,
     depth: usize,
@@ -195,7 +195,9 @@ fn factor(
             let g = expression(s, next, inner, worse, line, table, code, place);
             expect(s, g, b')')
         }
-        Beginning::Quotient => quotient(s, next, depth, rank, line, table, code, place),
+        Beginning::Call { function } => {
+            pair(s, next, depth, rank, line, table, code, place, function)
+        }
         Beginning::Name => variable(s, at, rank, line, table, code, place),
         Beginning::Element => {
             let worse = opened(named(s, at, rank, table, true), inner);
@@ -206,8 +208,8 @@ fn factor(
     }
 }
 
-// The two expressions of rdiv, after its bracket.
-fn quotient(
+// The two expressions of a function, after its bracket.
+fn pair(
     s: &[u8],
     at: usize,
     depth: usize,
@@ -216,10 +218,11 @@ fn quotient(
     table: &Table,
     code: &mut [u32],
     place: usize,
+    function: Function,
 ) -> Got
     requires { ⌜ Ready (now s) at (depth + 1) place (now code) ⌝ }
     requires { ⌜ line ≤ 2049 ⌝ }
-    ensures { λ r. ⌜ Answers readQuotient (λ t v. codeFactor t v line) (inFactor depth) 2 (suc at) (now (table .entry)) (now (s .entry)) at place rank
+    ensures { λ r. ⌜ Answers (readArguments function) (λ t v. codeFactor t v line) (inFactor depth) 2 (suc at) (now (table .entry)) (now (s .entry)) at place rank
         (now (code .entry)) (now (code .exit)) r ⌝ }
 {
     let inner = depth + 1;
@@ -231,30 +234,32 @@ fn quotient(
             rank: d,
         } => {
             let b = expression(s, n, inner, d, line, table, code, p);
-            then_emit(expect(s, b, b')'), code, ROUND + LINE * line, 0)
+            then_emit(expect(s, b, b')'), code, call_operation(function, line), 0)
         }
         Got::Broken => Got::Broken,
     }
 }
 
-// A name, and its subscript if it has one: only the subscript's code is emitted.
+// A name, and its subscript if it has one, with so many brackets open around it: only the subscript's code is emitted.
 pub fn reference(
     s: &[u8],
     at: usize,
+    depth: usize,
     rank: u32,
     line: u32,
     table: &Table,
     code: &mut [u32],
     place: usize,
 ) -> Got
-    requires { ⌜ Ready (now s) at 0 place (now code) ⌝ }
+    requires { ⌜ Ready (now s) at depth place (now code) ⌝ }
     requires { ⌜ line ≤ 2049 ⌝ }
-    ensures { λ r. ⌜ Answers (readRef peek-in skip-in) (λ t v. codeRef t v line) (inRef 0) 0 (suc at) (now (table .entry)) (now (s .entry)) at place rank
+    ensures { λ r. ⌜ Answers (readRef peek-in skip-in) (λ t v. codeRef t v line) (inRef depth) 0 (suc at) (now (table .entry)) (now (s .entry)) at place rank
         (now (code .entry)) (now (code .exit)) r ⌝ }
 {
     let b = begin(s, at);
     let beginning = b.beginning;
     let next = b.next;
+    let inner = depth + 1;
     match beginning {
         Beginning::Name => Got::Done {
             at: next,
@@ -262,13 +267,13 @@ pub fn reference(
             rank: named(s, at, rank, table, false),
         },
         Beginning::Element => {
-            let worse = named(s, at, rank, table, true);
-            let g = expression(s, next, 1, worse, line, table, code, place);
+            let worse = opened(named(s, at, rank, table, true), inner);
+            let g = expression(s, next, inner, worse, line, table, code, place);
             expect(s, g, b')')
         }
         Beginning::Literal => Got::Broken,
         Beginning::Bracket => Got::Broken,
-        Beginning::Quotient => Got::Broken,
+        Beginning::Call { function: _ } => Got::Broken,
         Beginning::Nothing => Got::Broken,
     }
 }

@@ -4,8 +4,7 @@ use mathlib.Core.Logic.{_↔_}
 use mathlib.Core.Bool.{true}
 use mathlib.Core.List.{List}
 use Prim.Native.Nat.{ℕ, _<_}
-use lib.IntN.{pos}
-use Rattle.int32.specs.Integers.{value, sum}
+use Rattle.int32.specs.Integers.{value}
 use Rattle.rules.specs.Loop.{Loop, Partition}
 use Rattle.rules.specs.Log.{Log, only}
 use Rattle.rules.specs.Marks.{marks}
@@ -13,7 +12,6 @@ use Rattle.rules.specs.Obstacles.{ObstacleAt}
 use Rattle.rules.specs.Record.{Recorded}
 use Rattle.rules.specs.Steps.{State}
 use Rattle.rules.specs.Merge.{pairs, written-cells}
-use Rattle.rules.specs.Proper.{Proper}
 use Rattle.shadow.proofs.Shows.{Shows, merged-right}
 use Rattle.shadow.specs.Tables.{table}
 use Rattle.tables.specs.Layout.{row-at, pairs-word, cells-word, entry-word, lowest-word, highest-word}
@@ -52,9 +50,9 @@ module _ (l : Loop) (δ : Partition) (g : Log) (W : List ℕ) (h : Logged l δ g
           (λ o. x .0 (y .1 o), λ e. y .0 (x .1 e))
 
 -- the merge
-pub logged-merged : (l : Loop) (δ : Partition) → l .plus ≡ sum → l .zero ≡ pos 0 → Proper l δ → (s : State) (W : List ℕ) → Logged l δ (s .log) W
+pub logged-merged : (l : Loop) (δ : Partition) (s : State) (W : List ℕ) → Logged l δ (s .log) W
     → Shows l δ (s .log) (table l δ (s .log)) → (c : ℕ) → c < l .size
     → findings.merged W (row-at (δ .processors) c) (δ .processors) (s .cells c) ≡ merge.merged l δ s c
-logged-merged l δ f z o s W h t c b =
-    merged-held l δ f z (l .class c) c W (row-at (δ .processors) c) (table l δ (s .log) .rows c) (h .rows c b) (s .cells)
-    ∙ merged-right l δ o s (table l δ (s .log)) t c
+logged-merged l δ s W h t c b =
+    merged-held l δ c W (row-at (δ .processors) c) (table l δ (s .log) .rows c) (s .cells) (l .class c) (h .rows c b)
+    ∙ merged-right l δ s (table l δ (s .log)) t c

@@ -7,18 +7,22 @@ use mathlib.Core.Option.{Option, Option·getD}
 use Prim.Native.Nat.{ℕ, zero, suc, _*_, _/_, _%_, _≤_, _<_}
 use native.Mathlib.Decide.{ℕ-discrete}
 use native.Mathlib.Omega.{arith}
-use borrow.Author.Tests.{lt-ltb, ltb-true}
+use borrow.Author.Tests.{lt-ltb, ltb-true, ne-eqb}
 use lib.Dec.{eqb, ltb}
-use lib.IntN.{ℤ, pos}
-use Rattle.int32.specs.Integers.{value, sum}
+use lib.IntN.{ℤ}
+use Rattle.int32.specs.Integers.{value}
 use Rattle.rules.specs.ChooseLaws.{pick-same, pick-other}
+use Rattle.rules.specs.declared.Operator.{Operator}
+use Rattle.rules.specs.Operation.{Operation, operation}
 use Rattle.rules.specs.Loop.{Class, shared, lastprivate, copied, reduction, Loop, Partition}
-use Rattle.rules.specs.Merge.{sum-of}
-use Rattle.rules.specs.Numbers.{class-number}
+use Rattle.rules.specs.Merge.{join-all}
+use Rattle.rules.specs.Numbers.{class-number, operator-by}
+use Rattle.rules.proofs.NumberLaws.{reduction-number}
+use Rattle.rules.proofs.SumLaws.{join-same}
 use Rattle.shadow.specs.Tables.{Row, shown, Stale-row, Blocked, chosen}
 use Rattle.shadow.proofs.Shows.{merged-off}
 use Rattle.tables.specs.Layout.{bit, flags-word, class-word, RowHeld}
-use Rattle.tables.proofs.Flags.{flags-crossed, flags-updated, flags-class}
+use Rattle.tables.proofs.Flags.{flags-crossed, flags-updated, flags-class, flags-operator}
 use Rattle.findings.specs.Findings.{marks-of, contested, stale, late, mixed, blocked, blocked-of, last-word, gathered, merged}
 
 -- ---- marks
@@ -76,6 +80,12 @@ module _ (m w : ℕ) where
   mixed-is : (f : ℕ) (b : Bool) → f / 2 % 2 ≡ bit b → ((0 < m) × (b ≡ true)) ↔ (mixed m f ≡ true)
   mixed-is f b e = rw e (both (ltb 0 m) (eqb (bit b) 1) (above 0 m) (marked b))
 
+-- the number of a class with updates is none of the others
+reduces : (o : Operator) (n : ℕ) → n ≡ class-number (reduction o) → (eqb n 0 ≡ false) × (eqb n 1 ≡ false) × (eqb n 3 ≡ false)
+reduces o n e =
+    let r = reduction-number o in
+    (ne-eqb n 0 (omega (arith, r .0, e)), ne-eqb n 1 (omega (arith, r .0, e)), ne-eqb n 3 (λ q. r .1 (sym e ∙ q)))
+
 late-is : (lo hi : ℕ) → ((0 < lo) × (lo < hi)) ↔ (late lo hi ≡ true)
 late-is lo hi = both (ltb 0 lo) (ltb lo hi) (above 0 lo) (above lo hi)
 
@@ -87,14 +97,17 @@ module _ (p : ℕ) (k : Class) (e : ℤ) (W : List ℕ) (row : ℕ) (r : Row) (x
       s : Stale-row r ↔ (stale (r .met) (r .writers) (flags-word W row) ≡ true)
       s = stale-is (r .met) (r .writers) (flags-word W row) (r .crossed) (crossed-bit p k e W row r x)
 
+      reduced : (Stale-row r ⊎ ((0 < r .met) × (r .updated ≡ true)))
+          ↔ (stale (r .met) (r .writers) (flags-word W row) || mixed (r .met) (flags-word W row) ≡ true)
+      reduced = either (stale (r .met) (r .writers) (flags-word W row)) (mixed (r .met) (flags-word W row)) s
+          (mixed-is (r .met) (r .writers) (flags-word W row) (r .updated) (updated-bit p k e W row r x))
+
       by-class : (k : Class) → class-word W row ≡ class-number k
           → Blocked k r ↔ (blocked (r .met) (r .writers) (flags-word W row) (r .lowest) (r .highest) ≡ true)
       by-class shared c = rw c (contested-is (r .met) (r .writers))
       by-class lastprivate c = rw c s
       by-class copied c = rw c (late-is (r .lowest) (r .highest))
-      by-class reduction c = rw c
-          (either (stale (r .met) (r .writers) (flags-word W row)) (mixed (r .met) (flags-word W row)) s
-          (mixed-is (r .met) (r .writers) (flags-word W row) (r .updated) (updated-bit p k e W row r x)))
+      by-class (reduction o) c = let a = reduces o (class-word W row) c in rw (a .0, a .2, a .1) reduced
 
   -- ---- private values
 
@@ -114,32 +127,32 @@ module _ (p : ℕ) (k : Class) (e : ℤ) (W : List ℕ) (row : ℕ) (r : Row) (x
   last-held zero h = x .entry
   last-held (suc n) h = last-more n h (last-held n (omega arith))
 
-  -- the sums
-  gathered-held : (l : Loop) → l .plus ≡ sum → l .zero ≡ pos 0 → (n : ℕ) → n ≤ p → gathered W row n ≡ sum-of l n (λ q. r .own q .sum)
-  unfolding gathered sum-of
-  gathered-held l f z zero h = sym z
-  gathered-held l f z (suc n) h =
-      (λ i. sum (gathered-held l f z n (omega arith) i) (x .own n h .sum i))
-      ∙ ap (λ (g : ℤ → ℤ → ℤ). g (sum-of l n (λ q. r .own q .sum)) (r .own n .sum)) (sym f)
+  -- the partial results
+  gathered-held : (o : Operation) → gathered o W row p ≡ join-all o p (λ q. r .own q .partial)
+  gathered-held o = join-same o p _ _ (λ q b. x .own q b .partial)
 
 -- ---- the merge
 
 -- what a cell is left with
-pub merged-held : (l : Loop) (δ : Partition) → l .plus ≡ sum → l .zero ≡ pos 0 → (k : Class) (c : ℕ) (W : List ℕ) (row : ℕ) (r : Row)
-    → RowHeld (δ .processors) k (l .entry c) W row r → (m : ℕ → ℤ)
-    → merged W row (δ .processors) (m c) ≡ merged-off l δ k m c r
-merged-held l δ f z shared c W row r x m = rw (class-bits (δ .processors) shared (l .entry c) W row r x)
-merged-held l δ f z lastprivate c W row r x m = rw (class-bits (δ .processors) lastprivate (l .entry c) W row r x)
-    (last-held (δ .processors) lastprivate (l .entry c) W row r x (δ .processors) (omega arith))
-merged-held l δ f z copied c W row r x m = rw (class-bits (δ .processors) copied (l .entry c) W row r x)
-    (last-held (δ .processors) copied (l .entry c) W row r x (δ .processors) (omega arith))
-merged-held l δ f z reduction c W row r x m =
-    let p = δ .processors in
-    let u : eqb (flags-word W row / 2 % 2) 1 ≡ r .updated = ap (λ (b : ℕ). eqb b 1) (updated-bit p reduction (l .entry c) W row r x) ∙ bit-is (r .updated) in
-    let v = last-held p reduction (l .entry c) W row r x p (omega arith) in
-    let g = gathered-held p reduction (l .entry c) W row r x l f z p (omega arith) in
-    rw (class-bits p reduction (l .entry c) W row r x, u, v, g)
-    (ap
-    (λ (h : ℤ → ℤ → ℤ). cond (r .updated) (h (Option·getD (chosen (r .own) p) (l .entry c)) (sum-of l p (λ q. r .own q .sum)))
-    (Option·getD (chosen (r .own) p) (l .entry c)))
-    (sym f))
+module _ (l : Loop) (δ : Partition) (c : ℕ) (W : List ℕ) (row : ℕ) (r : Row) (m : ℕ → ℤ) where
+  abbrev Held : Class → Type 0
+  Held k = RowHeld (δ .processors) k (l .entry c) W row r
+
+  abbrev last : ℤ
+  last = Option·getD (chosen (r .own) (δ .processors)) (l .entry c)
+
+  pub merged-held : (k : Class) → Held k → merged W row (δ .processors) (m c) ≡ merged-off l δ k m c r
+  merged-held shared x = rw (class-bits (δ .processors) shared (l .entry c) W row r x)
+  merged-held lastprivate x = rw (class-bits (δ .processors) lastprivate (l .entry c) W row r x)
+      (last-held (δ .processors) lastprivate (l .entry c) W row r x (δ .processors) (omega arith))
+  merged-held copied x = rw (class-bits (δ .processors) copied (l .entry c) W row r x)
+      (last-held (δ .processors) copied (l .entry c) W row r x (δ .processors) (omega arith))
+  merged-held (reduction o) x =
+      let p = δ .processors in
+      let a = reduces o (class-word W row) (class-bits p (reduction o) (l .entry c) W row r x) in
+      let u = ap (λ (b : ℕ). eqb b 1) (updated-bit p (reduction o) (l .entry c) W row r x) ∙ bit-is (r .updated) in
+      let v = last-held p (reduction o) (l .entry c) W row r x p (omega arith) in
+      let j = ap (λ (f : ℕ). operator-by (f / 4)) (x .flags) ∙ flags-operator (reduction o) (r .crossed) (r .updated) in
+      rw (a .0, a .1, a .2, u, v)
+      (ap (λ (q : Operator). cond (r .updated) (operation q .join last (gathered (operation q) W row p)) last) j
+      ∙ ap (λ (y : ℤ). cond (r .updated) (operation o .join last y) last) (gathered-held p (reduction o) (l .entry c) W row r x (operation o)))

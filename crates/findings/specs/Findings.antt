@@ -5,10 +5,13 @@ use mathlib.Core.List.{List}
 use mathlib.Core.Option.{Option, none, some}
 use Prim.Native.Nat.{ℕ, zero, suc, _+_, _*_, _/_, _%_}
 use lib.Dec.{eqb, ltb}
-use lib.IntN.{ℤ, pos}
-use Rattle.int32.specs.Integers.{value, sum}
+use lib.IntN.{ℤ}
+use Rattle.int32.specs.Integers.{value}
 use Rattle.rules.specs.Choose.{pick, below}
-use Rattle.tables.specs.Layout.{own-at, entry-word, met-word, writers-word, flags-word, lowest-word, highest-word, class-word, private-word, wrote-word, sum-word}
+use Rattle.rules.specs.Operation.{Operation, operation}
+use Rattle.rules.specs.Numbers.{operator-by}
+use Rattle.rules.specs.Merge.{join-all}
+use Rattle.tables.specs.Layout.{own-at, entry-word, met-word, writers-word, flags-word, lowest-word, highest-word, class-word, private-word, wrote-word, partial-word}
 
 -- ---- marks
 
@@ -64,10 +67,13 @@ unfoldable pub last-word : List ℕ → ℕ → ℕ → ℕ
 last-word W row zero = entry-word W row
 last-word W row (suc k) = pick (wrote-word W (own-at row k)) 0 (last-word W row k) (private-word W (own-at row k))
 
--- the sums of k processors, taken together
-unfoldable pub gathered : List ℕ → ℕ → ℕ → ℤ
-gathered W row zero = pos 0
-gathered W row (suc k) = sum (gathered W row k) (value (sum-word W (own-at row k)))
+-- the partial results of p processors, taken together
+abbrev pub gathered : Operation → List ℕ → ℕ → ℕ → ℤ
+gathered o W row p = join-all o p (λ q. value (partial-word W (own-at row q)))
+
+-- what updates of a cell do, by the class in its flags
+abbrev pub joining : List ℕ → ℕ → Operation
+joining W row = operation (operator-by (class-word W row))
 
 -- what a cell is left with after a run that passed; x is what stands in it
 abbrev pub merged : List ℕ → ℕ → ℕ → ℤ → ℤ
@@ -83,5 +89,5 @@ merged W row p x =
     (value (last-word W row p))
     (cond
     (eqb (flags-word W row / 2 % 2) 1)
-    (sum (value (last-word W row p)) (gathered W row p))
+    (joining W row .join (value (last-word W row p)) (gathered (joining W row) W row p))
     (value (last-word W row p)))))

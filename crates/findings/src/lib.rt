@@ -5,10 +5,12 @@ ghost use Prim.Native.Nat.{_+_, _*_, _≤_, _<_};
 ghost use lib.ListN.{length};
 ghost use Rattle.int32.specs.Integers.{value};
 ghost use Rattle.rules.specs.Choose.{below};
+ghost use Rattle.rules.specs.Operation.{operation};
 ghost use Rattle.tables.specs.Layout.{pairs-word, cells-word, entry-word};
 ghost use Rattle.findings.specs.Findings.{marks-read, marks-of, contested, stale, late, mixed, blocked, blocked-of, last-word, gathered, merged};
 use rules::COPIED;
 use rules::LASTPRIVATE;
+use rules::Operator;
 use rules::Processor;
 use rules::SHARED;
 use tables::CELLS;
@@ -17,7 +19,7 @@ use tables::HIGHEST;
 use tables::LOWEST;
 use tables::MET;
 use tables::PAIRS;
-use tables::SUM;
+use tables::PARTIAL;
 use tables::WRITERS;
 use tables::WROTE;
 use tables::choose;
@@ -160,20 +162,20 @@ fn last_value(w: &[u32], row: usize, processors: u32) -> i32
     int32::of_word(x)
 }
 
-// The sums of the processors, taken together.
-fn total(w: &[u32], row: usize, processors: u32) -> i32
+// The partial results of the processors, taken together.
+fn total(w: &[u32], row: usize, processors: u32, operator: Operator) -> i32
     requires { ⌜ (row < 4294967296) × (row + 6 + 5 * processors ≤ length (now w)) ⌝ }
-    ensures { λ r. ⌜ r ≡ gathered (now (w .entry)) row processors ⌝ }
+    ensures { λ r. ⌜ r ≡ gathered (operation operator) (now (w .entry)) row processors ⌝ }
 {
-    let mut sum = 0;
+    let mut x = rules::neutral(operator);
     let mut q: u32 = 0;
     while q < processors {
         let p = Processor(q);
         let own = own_of(row, p);
-        sum = int32::add(sum, int32::of_word(w[own + SUM]));
+        x = rules::combine(operator, x, int32::of_word(w[own + PARTIAL]));
         q += 1;
     }
-    sum
+    x
 }
 
 // What a cell is left with after a run that passed; `shared` is what stands in it.
@@ -193,7 +195,8 @@ pub fn merged_value(w: &[u32], row: usize, shared: i32, processors: u32) -> i32
         return last;
     }
     if flags / 2 % 2 == 1 {
-        return int32::add(last, total(w, row, processors));
+        let operator = rules::operator_of(flags / 4);
+        return rules::combine(operator, last, total(w, row, processors, operator));
     }
     last
 }

@@ -88,6 +88,7 @@ pub fn perform(
         code::UPDATE_AT => accesses::update_at(place, depth, pending, arg, line),
         code::JUMP_UNLESS => jump_unless(place, depth, pending, arg),
         code::JUMP => jump(place, depth, arg),
+        code::MAXIMUM => operands::maximum(place, depth, pending),
         _ => stop(place, depth, Move::End),
     }
 }

@@ -1,6 +1,6 @@
 -- The laws of the cell arithmetic. Assumes nothing.
 use Prim.Native.Nat.{ℕ, zero, suc, _+_, _-_, _*_, _/_, _%_, _^_, _<_, _≤_}
-use native.Mathlib.Nat.{mod-add-div', add-mul, mul-right-comm, add-mul-mod-self-right, mul-comm, mul-sub, mul-le-mul-left, mod-lt, mul-le-mul, lt-of-le-of-lt, le-pred-of-lt}
+use native.Mathlib.Nat.{mod-add-div', add-mul, mul-right-comm, add-mul-mod-self-right, mul-comm, mul-sub, mul-le-mul-left, mod-lt, mul-le-mul, mul-assoc, mul-one, lt-of-le-of-lt, le-pred-of-lt}
 use native.Mathlib.Omega.{arith}
 use mathlib.Core.Path.{_≡_, refl, sym, ap, _∙_}
 use mathlib.Core.Bool.{Bool, true, false, cond, not}
@@ -9,7 +9,7 @@ use lib.IntN.{ℤ, pos, negsuc, negℤ, subℕ, _+ℤ_, _-ℤ_, _*ℤ_, +ℤ-com
 use mir.Syntax.{Width, w32}
 use mir.Val.{SFits, toZ, ofZ}
 use mir.ValLaws.{toZ-ofZ}
-use Rattle.int32.specs.Integers.{word, value, wrap, sum, difference, product, negation}
+use Rattle.int32.specs.Integers.{word, value, wrap, sum, difference, product, negation, greater, larger}
 
 -- ---- by the test that a definition makes
 
@@ -224,3 +224,88 @@ value-word z f = wrap-id z f
 
 pub sum-zero-r : (x : ℤ) → SFits w32 x → sum x (pos 0) ≡ x
 sum-zero-r x f = sum-comm x (pos 0) ∙ sum-zero x f
+
+-- ---- the wrapped product
+
+product-word : (x y : ℤ) → product x y ≡ value (word x * word y % 2 ^ 32)
+unfolding product wrap
+product-word x y = ap value (word-product x y)
+
+word-of-product : (x y : ℤ) → word (product x y) ≡ word x * word y % 2 ^ 32
+unfolding product
+word-of-product x y = word-wrap (x *ℤ y) ∙ word-product x y
+
+pub product-comm : (x y : ℤ) → product x y ≡ product y x
+product-comm x y = product-word x y ∙ ap (λ (n : ℕ). value (n % 2 ^ 32)) (mul-comm (word x) (word y)) ∙ sym (product-word y x)
+
+pub product-assoc : (x y z : ℤ) → product (product x y) z ≡ product x (product y z)
+product-assoc x y z =
+    product-word (product x y) z
+    ∙ ap (λ (n : ℕ). value (n * word z % 2 ^ 32)) (word-of-product x y)
+    ∙ ap value (sym (mul-mod-l (word x * word y) (word z) (2 ^ 32)) ∙ ap (λ (n : ℕ). n % 2 ^ 32) (mul-assoc (word x) (word y) (word z))
+    ∙ mul-mod-r (word x) (word y * word z) (2 ^ 32))
+    ∙ ap (λ (n : ℕ). value (word x * n % 2 ^ 32)) (sym (word-of-product y z))
+    ∙ sym (product-word x (product y z))
+
+pub product-one-r : (x : ℤ) → SFits w32 x → product x (pos 1) ≡ x
+unfolding word
+product-one-r x f =
+    product-word x (pos 1) ∙ ap (λ (n : ℕ). value (n % 2 ^ 32)) (mul-one (word x)) ∙ ap value (small (word x) (word-lt x)) ∙ value-word x f
+  where
+    small : (n : ℕ) → n < 2 ^ 32 → n % 2 ^ 32 ≡ n
+    small n h = omega arith
+
+-- ---- the larger of two
+
+greater-comm : (x y : ℤ) → greater x y ≡ greater y x
+unfolding greater
+greater-comm (pos a) (pos b) = ap pos (omega arith)
+greater-comm (pos a) (negsuc b) = refl
+greater-comm (negsuc a) (pos b) = refl
+greater-comm (negsuc a) (negsuc b) = ap negsuc (omega arith)
+
+greater-assoc : (x y z : ℤ) → greater (greater x y) z ≡ greater x (greater y z)
+unfolding greater
+greater-assoc (pos a) (pos b) (pos c) = ap pos (omega arith)
+greater-assoc (pos a) (pos b) (negsuc c) = refl
+greater-assoc (pos a) (negsuc b) (pos c) = refl
+greater-assoc (pos a) (negsuc b) (negsuc c) = refl
+greater-assoc (negsuc a) (pos b) (pos c) = refl
+greater-assoc (negsuc a) (pos b) (negsuc c) = refl
+greater-assoc (negsuc a) (negsuc b) (pos c) = refl
+greater-assoc (negsuc a) (negsuc b) (negsuc c) = ap negsuc (omega arith)
+
+greater-fits : (x y : ℤ) → SFits w32 x → SFits w32 y → SFits w32 (greater x y)
+unfolding greater
+greater-fits (pos a) (pos b) f g = record { sfits = omega (arith, f .sfits, g .sfits) }
+greater-fits (pos a) (negsuc b) f g = f
+greater-fits (negsuc a) (pos b) f g = g
+greater-fits (negsuc a) (negsuc b) f g = record { sfits = omega (arith, f .sfits, g .sfits) }
+
+greater-least : (x : ℤ) → SFits w32 x → greater x (negsuc 2147483647) ≡ x
+unfolding greater
+greater-least (pos a) f = refl
+greater-least (negsuc a) f = ap negsuc (omega (arith, f .sfits))
+
+-- of numbers in the range
+pub larger-greater : (x y : ℤ) → SFits w32 x → SFits w32 y → larger x y ≡ greater x y
+unfolding larger
+larger-greater x y f g = λ i. greater (wrap-id x f i) (wrap-id y g i)
+
+pub larger-fits : (x y : ℤ) → SFits w32 (larger x y)
+unfolding larger
+larger-fits x y = greater-fits (wrap x) (wrap y) (wrap-fits x) (wrap-fits y)
+
+pub larger-comm : (x y : ℤ) → larger x y ≡ larger y x
+unfolding larger
+larger-comm x y = greater-comm (wrap x) (wrap y)
+
+pub larger-assoc : (x y z : ℤ) → larger (larger x y) z ≡ larger x (larger y z)
+unfolding larger
+larger-assoc x y z =
+    ap (λ (u : ℤ). greater u (wrap z)) (wrap-id (larger x y) (larger-fits x y))
+    ∙ greater-assoc (wrap x) (wrap y) (wrap z)
+    ∙ ap (greater (wrap x)) (sym (wrap-id (larger y z) (larger-fits y z)))
+
+pub larger-least-r : (x : ℤ) → SFits w32 x → larger x (negsuc 2147483647) ≡ x
+larger-least-r x f = larger-greater x (negsuc 2147483647) f (record { sfits = omega arith }) ∙ greater-least x f

@@ -3,16 +3,16 @@ use Prim.Native.Nat.{ℕ, zero, suc, _+_, _-_, _^_, _<_}
 use native.Mathlib.Omega.{arith}
 use mathlib.Core.Path.{_≡_, refl, sym, ap, _∙_}
 use mathlib.Core.Bool.{true, false}
-use borrow.Author.Tests.{leb-false, ne-eqb, eq-eqb}
+use borrow.Author.Tests.{ltb-true, ltb-false, leb-false, ne-eqb, eq-eqb}
 use native.Mathlib.Decide.{ℕ-discrete}
 use lib.Dec.{eqb}
-use lib.Signed.{mag, leZ}
+use lib.Signed.{mag, ltZ, leZ}
 use lib.IntN.{ℤ, pos, negsuc, _-ℤ_}
 use mir.Syntax.{Width, w32}
 use mir.Val.{SFits, toZ, ofZ}
 use mir.ValLaws.{toZ-ofZ}
-use Rattle.int32.specs.Integers.{same}
-use Rattle.int32.proofs.Laws.{sub-cases}
+use Rattle.int32.specs.Integers.{same, greater, larger}
+use Rattle.int32.proofs.Laws.{sub-cases, larger-greater}
 
 is-pos : (z : ℤ) → leZ (pos 0) z ≡ true → z ≡ pos (mag z)
 is-pos (pos n) e = refl
@@ -53,3 +53,25 @@ test-same (negsuc a) (negsuc b) f g = elim (ℕ-discrete a b) [
   | yes e ↦ eq-eqb (2 ^ 32 - suc a) (2 ^ 32 - suc b) (omega arith) ∙ sym (eq-eqb a b e)
   | no n ↦ ne-eqb (2 ^ 32 - suc a) (2 ^ 32 - suc b) (omega (arith, f .sfits, g .sfits)) ∙ sym (ne-eqb a b n)
 ]
+
+-- the test of order, on the bits, and the larger number
+greater-right : (x y : ℤ) → ltZ x y ≡ true → greater x y ≡ y
+unfolding greater
+greater-right (pos a) (pos b) e = ap pos (omega (arith, ltb-true a b e))
+greater-right (pos a) (negsuc b) e = cc
+greater-right (negsuc a) (pos b) e = refl
+greater-right (negsuc a) (negsuc b) e = ap negsuc (omega (arith, ltb-true b a e))
+
+greater-left : (x y : ℤ) → ltZ x y ≡ false → greater x y ≡ x
+unfolding greater
+greater-left (pos a) (pos b) e = ap pos (omega (arith, ltb-false a b e))
+greater-left (pos a) (negsuc b) e = refl
+greater-left (negsuc a) (pos b) e = cc
+greater-left (negsuc a) (negsuc b) e = ap negsuc (omega (arith, ltb-false b a e))
+
+module _ (x y : ℤ) (f : SFits w32 x) (g : SFits w32 y) where
+  pub test-right : ltZ (toZ w32 (ofZ w32 x)) (toZ w32 (ofZ w32 y)) ≡ true → larger x y ≡ y
+  test-right e = larger-greater x y f g ∙ greater-right x y (sym (λ i. ltZ (toZ-ofZ w32 x f i) (toZ-ofZ w32 y g i)) ∙ e)
+
+  pub test-left : ltZ (toZ w32 (ofZ w32 x)) (toZ w32 (ofZ w32 y)) ≡ false → larger x y ≡ x
+  test-left e = larger-greater x y f g ∙ greater-left x y (sym (λ i. ltZ (toZ-ofZ w32 x f i) (toZ-ofZ w32 y g i)) ∙ e)

@@ -1,6 +1,6 @@
--- Document 01, Integers, and document 02, Points 2 and 4. A cell's value is a number of ℤ from -2^31 to 2^31 - 1. Each operation is done on ℤ
+-- Document 01, Integers, and document 02, Points 2, 4 and 6. A cell's value is a number of ℤ from -2^31 to 2^31 - 1. Each operation is done on ℤ
 -- and its result wrapped, so that "wrap at 32 bits" is said once; `/` goes by cases instead. Assumes nothing.
-use Prim.Native.Nat.{ℕ, suc, _+_, _-_, _*_, _/_, _%_, _^_}
+use Prim.Native.Nat.{ℕ, suc, _+_, _-_, _*_, _/_, _%_, _^_, min, max}
 use mathlib.Core.Bool.{Bool, false, cond, not}
 use lib.Dec.{ltb, eqb}
 use lib.IntN.{ℤ, pos, negsuc, negℤ, _+ℤ_, _-ℤ_, _*ℤ_}
@@ -34,6 +34,18 @@ product x y = wrap (x *ℤ y)
 
 unfoldable pub negation : ℤ → ℤ
 negation x = wrap (negℤ x)
+
+-- Document 02, Point 6: "`max(e, e)`". Of two numbers that differ in sign the one that is not negative, of two negative ones (`negsuc n` is -(n + 1)) the
+-- one with the smaller magnitude
+unfoldable pub greater : ℤ → ℤ → ℤ
+greater (pos a) (pos b) = pos (max a b)
+greater (pos a) (negsuc b) = pos a
+greater (negsuc a) (pos b) = pos b
+greater (negsuc a) (negsuc b) = negsuc (min a b)
+
+-- the numbers wrap first, as the result does in the operations above; those of cells stay as they are. So no result is below −2147483648
+unfoldable pub larger : ℤ → ℤ → ℤ
+larger x y = greater (wrap x) (wrap y)
 
 -- whether two numbers are the same
 unfoldable pub same : ℤ → ℤ → Bool

@@ -1,10 +1,10 @@
-// The arithmetic of cells: 32-bit signed numbers (document 01, Integers).
+// The arithmetic of cells: 32-bit signed numbers (document 01, Integers; document 02, Points 2, 4 and 6).
 ghost use mathlib.Core.Path.{_≡_};
 ghost use Prim.Native.Nat.{_≤_, _<_};
 ghost use lib.IntN.{natAbs, pos};
 ghost use mir.Syntax.{w32};
 ghost use mir.Val.{SFits};
-ghost use Rattle.int32.specs.Integers.{word, value, sum, difference, product, negation, truncated, quotient, rdiv, divided, nearest, related};
+ghost use Rattle.int32.specs.Integers.{word, value, sum, difference, product, negation, larger, truncated, quotient, rdiv, divided, nearest, related};
 ghost use Rattle.int32.specs.SignWord.{signWord};
 
 // The two's complement word of a number.
@@ -53,6 +53,13 @@ pub fn multiply(x: i32, y: i32) -> i32
 {
     let p = to_word(x) as u64 * to_word(y) as u64;
     of_word((p % 4294967296) as u32)
+}
+
+// The larger of two cells (document 02, Point 6).
+pub fn maximum(x: i32, y: i32) -> i32
+    ensures { λ r. ⌜ r ≡ larger x y ⌝ }
+{
+    if x < y { y } else { x }
 }
 
 // The answer of a division.

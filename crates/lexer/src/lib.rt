@@ -191,7 +191,10 @@ fn reserved(w: &[u8]) -> bool
     if equal(w, b"else") {
         return true;
     }
-    equal(w, b"rdiv")
+    if equal(w, b"rdiv") {
+        return true;
+    }
+    equal(w, b"max")
 }
 
 fn kind_number(k: Kind) -> u32

@@ -233,7 +233,7 @@ pub fn give(table: &mut Table, i: usize)
 
 // Entry i stands in a clause, and has the class of that number.
 pub fn classify(table: &mut Table, i: usize, class: u32)
-    requires { ⌜ (i < mostNames) × (class ≤ 3) ⌝ }
+    requires { ⌜ (i < mostNames) × (class ≤ 5) ⌝ }
     ensures { λ _. ⌜ Classed (now (table .entry)) i class (now (table .exit)) ⌝ }
 {
     let base = i * ENTRY;

@@ -11,18 +11,21 @@ use mir.Syntax.{w32}
 use mir.Val.{SFits}
 use lib.ListN.{getD}
 use lib.IntN.{ℤ}
-use Rattle.int32.specs.Integers.{value, sum}
-use Rattle.int32.proofs.Laws.{value-word, sum-fits}
+use Rattle.int32.specs.Integers.{value}
+use Rattle.int32.proofs.Laws.{value-word}
 use Rattle.rules.specs.Choose.{pick}
 use Rattle.rules.specs.ChooseLaws.{pick-same, pick-other}
+use Rattle.rules.specs.Operation.{operation}
 use Rattle.rules.specs.Loop.{Class}
 use Rattle.rules.specs.Log.{reads, writes, updates, access}
-use Rattle.rules.specs.Numbers.{class-number}
+use Rattle.rules.specs.Numbers.{class-number, operator-by}
+use Rattle.rules.proofs.OperationLaws.{join-fits}
 use Rattle.shadow.specs.Tables.{Own, Tables, note}
 use Rattle.tables.specs.Layout.{row-at, own-at, bit, flags-of, RowHeld, Holds}
 use Rattle.noting.specs.Changes.{Placed, one-more, read-noted, counted, written, updated}
-use Rattle.noting.proofs.Words.{read-length, read-met, read-highest, read-exposed, read-other, counted-length, counted-other, counted-pairs, counted-cells, counted-touched, counted-placed, written-length, written-met, written-writers, written-flags, written-lowest, written-value, written-wrote, written-other, updated-length, updated-flags, updated-sum, updated-other}
-use Rattle.tables.proofs.Flags.{bit-most, flags-updated, pick-bit}
+use Rattle.noting.proofs.Words.{read-length, read-met, read-highest, read-exposed, read-other, counted-length, counted-other, counted-pairs, counted-cells, counted-touched, counted-placed, written-length, written-met, written-writers, written-flags, written-lowest, written-value, written-wrote, written-other, updated-length, updated-flags, updated-partial, updated-other}
+use Rattle.tables.proofs.Flags.{bit-most, flags-updated, flags-operator, pick-bit}
+use Rattle.tables.proofs.Start.{joins}
 use Rattle.tables.proofs.Held.{rows-apart, outside-other, outside-part, row-changed, holds-changed}
 
 -- ---- flags
@@ -62,7 +65,7 @@ cells-is : {f w m w′ m′ : ℕ} (k : Class) (cr up : Bool) → f ≡ flags-of
     → pick (f / 2 % 2) 1 m (pick w 0 (m + 1) m) ≡ cond up m′ (pick w′ 0 (suc m′) m′)
 cells-is {m′ = m′} k cr up e g h = rw (e, g, h, add-one m′, flags-updated k cr up) (pick-bit up _ _)
 
-module _ (n p : ℕ) (class : ℕ → Class) (entry : ℕ → ℤ) (W : List ℕ) (t : Tables) (h : Holds n p class entry W t) (γ π : ℕ → ℕ) (nought : ℤ) (i c : ℕ)
+module _ (n p : ℕ) (class : ℕ → Class) (entry : ℕ → ℤ) (W : List ℕ) (t : Tables) (h : Holds n p class entry W t) (γ π : ℕ → ℕ) (i c : ℕ)
     (b : c < n) (a : π (γ i) < p) where
   abbrev row : ℕ
   row = row-at p c
@@ -83,7 +86,7 @@ module _ (n p : ℕ) (class : ℕ → Class) (entry : ℕ → ℤ) (W : List ℕ
   held : RowHeld p (class c) (entry c) W row (t .rows c)
   held = h .rows c b
 
-  pub holds-read : (v : ℤ) → Holds n p class entry (read-noted W row own g) (note γ π sum nought (access reads i c v) t)
+  pub holds-read : (v : ℤ) → Holds n p class entry (read-noted W row own g) (note γ π (joins class) (access reads i c v) t)
   unfolding note
   holds-read v =
       let r = held in
@@ -101,7 +104,7 @@ module _ (n p : ℕ) (class : ℕ → Class) (entry : ℕ → ℤ) (W : List ℕ
         value = ap value (other own (omega arith) (omega arith) (omega arith)) ∙ x .value;
         wrote = other (own + 1) (omega arith) (omega arith) (omega arith) ∙ x .wrote;
         exposed = read-exposed W row own g placed ∙ rw (x .wrote, x .exposed, add-one g);
-        sum = ap value (other (own + 3) (omega arith) (omega arith) (omega arith)) ∙ x .sum;
+        partial = ap value (other (own + 3) (omega arith) (omega arith) (omega arith)) ∙ x .partial;
         touched = other (own + 4) (omega arith) (omega arith) (omega arith) ∙ x .touched;
       })
       (λ j (f : row + 6 ≤ j) s. other j (omega arith) (omega arith) (outside-other (own + 2) s (omega arith) (omega arith))))
@@ -127,7 +130,7 @@ module _ (n p : ℕ) (class : ℕ → Class) (entry : ℕ → ℤ) (W : List ℕ
   cells-after : getD X 1 0 ≡ cond (t .rows c .updated) (t .cells) (pick (t .rows c .writers) 0 (suc (t .cells)) (t .cells))
   cells-after = counted-cells W row own i placed ∙ cells-is (class c) (t .rows c .crossed) (t .rows c .updated) (held .flags) (held .writers) (h .cells)
 
-  pub holds-write : (v : ℤ) → SFits w32 v → Holds n p class entry (written X row own g v) (note γ π sum nought (access writes i c v) t)
+  pub holds-write : (v : ℤ) → SFits w32 v → Holds n p class entry (written X row own g v) (note γ π (joins class) (access writes i c v) t)
   unfolding note
   holds-write v f =
       let r = held in
@@ -150,10 +153,10 @@ module _ (n p : ℕ) (class : ℕ → Class) (entry : ℕ → ℤ) (W : List ℕ
         value = ap value (written-value X row own g v placed-counted) ∙ value-word v f;
         wrote = written-wrote X row own g v placed-counted ∙ add-one g;
         exposed = other (own + 2) (inr (omega arith)) (inr (omega arith)) ∙ exposed;
-        sum =
+        partial =
             ap value
             (other (own + 3) (inr (omega arith)) (inr (omega arith)) ∙ still (own + 3) (omega arith) (omega arith))
-            ∙ x .sum;
+            ∙ x .partial;
         touched = other (own + 4) (inr (omega arith)) (inr (omega arith)) ∙ counted-touched W row own i placed ∙ add-one i;
       })
       (λ j (y : row + 6 ≤ j) s.
@@ -166,12 +169,14 @@ module _ (n p : ℕ) (class : ℕ → Class) (entry : ℕ → ℤ) (W : List ℕ
       (other 0 (inl (omega arith)) (inl (omega arith)) ∙ pairs-after)
       (other 1 (inl (omega arith)) (inl (omega arith)) ∙ cells-after)
 
-  pub holds-update : (v : ℤ) → Holds n p class entry (updated X row own v) (note γ π sum nought (access updates i c v) t)
+  pub holds-update : (v : ℤ) → Holds n p class entry (updated X row own v) (note γ π (joins class) (access updates i c v) t)
   unfolding note
   holds-update v =
       let r = held in
       let x = r .own (π (γ i)) a in
       let flags : getD X (row + 3) 0 ≡ flags-of (class c) (t .rows c .crossed) (t .rows c .updated) = still (row + 3) (omega arith) (omega arith) ∙ r .flags in
+      let by = ap (λ (f : ℕ). operator-by (f / 4)) flags ∙ flags-operator (class c) (t .rows c .crossed) (t .rows c .updated) in
+      let before : value (getD X (own + 3) 0) ≡ o .partial = ap value (still (own + 3) (omega arith) (omega arith)) ∙ x .partial in
       let other = updated-other X row own v placed-counted in
       holds-changed W (updated X row own v) n p class entry t h c b (updated-length X row own v placed-counted ∙ counted-length W row own i) _
       (row-changed W (updated X row own v) p (class c) (entry c) row (t .rows c) r (π (γ i)) _ _ _ _ _ _ _
@@ -185,9 +190,9 @@ module _ (n p : ℕ) (class : ℕ → Class) (entry : ℕ → ℤ) (W : List ℕ
         value = ap value (other own (omega arith) (omega arith) ∙ still own (omega arith) (omega arith)) ∙ x .value;
         wrote = other (own + 1) (omega arith) (omega arith) ∙ still (own + 1) (omega arith) (omega arith) ∙ x .wrote;
         exposed = other (own + 2) (omega arith) (omega arith) ∙ still (own + 2) (omega arith) (omega arith) ∙ x .exposed;
-        sum =
-            ap value (updated-sum X row own v placed-counted) ∙ value-word _ (sum-fits v _)
-            ∙ ap (sum v) (ap value (still (own + 3) (omega arith) (omega arith)) ∙ x .sum);
+        partial =
+            ap value (updated-partial X row own v placed-counted) ∙ value-word _ (join-fits (operator-by (getD X (row + 3) 0 / 4)) v _)
+            ∙ (λ i. operation (by i) .join v (before i));
         touched = other (own + 4) (omega arith) (omega arith) ∙ counted-touched W row own i placed ∙ add-one i;
       })
       (λ j (y : row + 6 ≤ j) s. other j (omega arith) (outside-other (own + 3) s (omega arith) (omega arith))

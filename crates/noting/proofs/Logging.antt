@@ -1,13 +1,12 @@
 -- The words stand for the tables of a log, access by access, and what an access then reads of them. This is what a step over these words cites.
-use mathlib.Core.Path.{_≡_, sym, _∙_, ap, subst}
+use mathlib.Core.Path.{_≡_, _∙_, ap, subst}
 use mathlib.Core.List.{List, _∷_}
 use mathlib.Core.Option.{Option, Option·getD}
 use Prim.Native.Nat.{ℕ, _≤_, _<_}
 use mir.Syntax.{w32}
 use mir.Val.{SFits}
 use lib.IntN.{ℤ}
-use Rattle.int32.specs.Integers.{sum}
-use Rattle.rules.specs.Loop.{Loop, Partition}
+use Rattle.rules.specs.Loop.{Loop, joining, Partition}
 use Rattle.rules.specs.Log.{reads, writes, updates, Access, access, Log, only}
 use Rattle.rules.specs.Steps.{latest}
 use Rattle.rules.specs.Proper.{Proper}
@@ -23,8 +22,7 @@ use Rattle.noting.proofs.Room.{ready}
 use Rattle.tables.specs.Logged.{Logged}
 use Rattle.noting.proofs.OwnValue.{own-value-held}
 
--- cells are 32-bit numbers
-module _ (l : Loop) (δ : Partition) (f : l .plus ≡ sum) where
+module _ (l : Loop) (δ : Partition) where
   -- ---- one access more, by processor p at iteration i
 
   module _ (g : Log) (W : List ℕ) (h : Logged l δ g W) (p i c : ℕ) (w : worker l δ i ≡ p) (b : c < l .size) (a : worker l δ i < δ .processors) where
@@ -33,28 +31,22 @@ module _ (l : Loop) (δ : Partition) (f : l .plus ≡ sum) where
 
     -- the words X that go with p's own part
     more : (e : Access) (X : ℕ → List ℕ)
-        → Holds (l .size) (δ .processors) (l .class) (l .entry) (X (own-at row (worker l δ i)))
-        (note (δ .group) (whose δ) sum (l .zero) e (table l δ g))
+        → Holds (l .size) (δ .processors) (l .class) (l .entry) (X (own-at row (worker l δ i))) (note (δ .group) (whose δ) (joining l) e (table l δ g))
         → Logged l δ (e ∷ g) (X (own-at row p))
     unfolding tables
-    more e X x =
-        subst (λ (q : ℕ). Logged l δ (e ∷ g) (X (own-at row q))) w
-        (subst
-        (λ (m : ℤ → ℤ → ℤ). Holds (l .size) (δ .processors) (l .class) (l .entry) (X (own-at row (worker l δ i)))
-        (note (δ .group) (whose δ) m (l .zero) e (table l δ g)))
-        (sym f) x)
+    more e X x = subst (λ (q : ℕ). Logged l δ (e ∷ g) (X (own-at row q))) w x
 
     pub logged-read : (v : ℤ) → Logged l δ (access reads i c v ∷ g) (read-noted W row (own-at row p) (δ .group i))
     logged-read v = more (access reads i c v) (λ own. read-noted W row own (δ .group i))
-        (holds-read (l .size) (δ .processors) (l .class) (l .entry) W (table l δ g) h (δ .group) (whose δ) (l .zero) i c b a v)
+        (holds-read (l .size) (δ .processors) (l .class) (l .entry) W (table l δ g) h (δ .group) (whose δ) i c b a v)
 
     pub logged-write : (v : ℤ) → SFits w32 v → Logged l δ (access writes i c v ∷ g) (written (counted W row (own-at row p) i) row (own-at row p) (δ .group i) v)
     logged-write v s = more (access writes i c v) (λ own. written (counted W row own i) row own (δ .group i) v)
-        (holds-write (l .size) (δ .processors) (l .class) (l .entry) W (table l δ g) h (δ .group) (whose δ) (l .zero) i c b a v s)
+        (holds-write (l .size) (δ .processors) (l .class) (l .entry) W (table l δ g) h (δ .group) (whose δ) i c b a v s)
 
     pub logged-update : (v : ℤ) → Logged l δ (access updates i c v ∷ g) (updated (counted W row (own-at row p) i) row (own-at row p) v)
     logged-update v = more (access updates i c v) (λ own. updated (counted W row own i) row own v)
-        (holds-update (l .size) (δ .processors) (l .class) (l .entry) W (table l δ g) h (δ .group) (whose δ) (l .zero) i c b a v)
+        (holds-update (l .size) (δ .processors) (l .class) (l .entry) W (table l δ g) h (δ .group) (whose δ) i c b a v)
 
 -- ---- what is read off
 

@@ -5,7 +5,10 @@ use Prim.Native.Nat.{ℕ, max, _+_, _*_, _/_, _%_, _<_}
 use native.Mathlib.Omega.{arith}
 use lib.IntN.{ℤ}
 use lib.ListN.{length, getD, set, length-set}
-use Rattle.int32.specs.Integers.{word, value, sum}
+use Rattle.int32.specs.Integers.{word, value}
+use Rattle.rules.specs.Operation.{operation}
+use Rattle.rules.specs.Numbers.{operator-by}
+use Rattle.tables.specs.Layout.{class-word}
 use Rattle.rules.specs.Choose.{pick}
 use Rattle.shadow.specs.Tables.{lower}
 use Rattle.tables.proofs.Words.{hit, unset}
@@ -186,9 +189,9 @@ module _ (W : List ℕ) (row own : ℕ) (v : ℤ) (p : Placed W row own) where
   unfolding updated
   updated-flags = unset flags-set (own + 3) (row + 3) _ (omega (arith, p .apart)) ∙ hit W (row + 3) _ (omega (arith, p .apart, p .inside))
 
-  pub updated-sum : getD (updated W row own v) (own + 3) 0 ≡ word (sum v (value (getD W (own + 3) 0)))
+  pub updated-partial : getD (updated W row own v) (own + 3) 0 ≡ word (operation (operator-by (class-word W row)) .join v (value (getD W (own + 3) 0)))
   unfolding updated
-  updated-sum = hit flags-set (own + 3) _ (simp length-set (omega (arith, p .inside)))
+  updated-partial = hit flags-set (own + 3) _ (simp length-set (omega (arith, p .inside)))
 
   pub updated-other : (k : ℕ) → (k ≡ row + 3 → ⊥) → (k ≡ own + 3 → ⊥) → getD (updated W row own v) k 0 ≡ getD W k 0
   unfolding updated

@@ -4,10 +4,12 @@ use mathlib.Core.List.{List}
 use Prim.Native.Nat.{ℕ, max, _+_, _*_, _/_, _%_, _≤_, _<_}
 use lib.ListN.{length, set}
 use lib.IntN.{ℤ}
-use Rattle.int32.specs.Integers.{word, value, sum}
+use Rattle.int32.specs.Integers.{word, value}
 use Rattle.rules.specs.Choose.{pick}
+use Rattle.rules.specs.Operation.{operation}
+use Rattle.rules.specs.Numbers.{operator-by}
 use Rattle.shadow.specs.Tables.{lower}
-use Rattle.tables.specs.Layout.{met-at, writers-at, flags-at, lowest-at, highest-at, wrote-at, exposed-at, sum-at, touched-at, pairs-word, cells-word, entry-word, met-word, writers-word, flags-word, lowest-word, highest-word, private-word, wrote-word, exposed-word, sum-word, touched-word}
+use Rattle.tables.specs.Layout.{met-at, writers-at, flags-at, lowest-at, highest-at, wrote-at, exposed-at, partial-at, touched-at, pairs-word, cells-word, entry-word, met-word, writers-word, flags-word, lowest-word, highest-word, class-word, private-word, wrote-word, exposed-word, partial-word, touched-word}
 
 -- a row and an own part after it lie in the words
 pub record Placed (W : List ℕ) (row own : ℕ) : Type 0 where
@@ -78,8 +80,8 @@ unfoldable pub updated : List ℕ → ℕ → ℕ → ℤ → List ℕ
 updated W row own v =
     set
     (set W (flags-at row) (flags-word W row / 4 * 4 + 2 + flags-word W row % 2))
-    (sum-at own)
-    (word (sum v (value (sum-word W own))))
+    (partial-at own)
+    (word (operation (operator-by (class-word W row)) .join v (value (partial-word W own))))
 
 -- what group g reads that has the cell for itself
 abbrev pub own-seen : List ℕ → ℕ → ℕ → ℕ → ℤ

@@ -15,7 +15,7 @@ use tables::HIGHEST;
 use tables::LOWEST;
 use tables::MET;
 use tables::PAIRS;
-use tables::SUM;
+use tables::PARTIAL;
 use tables::TOUCHED;
 use tables::WRITERS;
 use tables::WROTE;
@@ -136,15 +136,16 @@ fn mark_own(w: &mut [u32], own: usize, group: Group, value: i32)
     w[own + WROTE] = g;
 }
 
-// An iteration adds to the cell, whose counts are done.
+// An iteration updates the cell, whose counts are done.
 fn mark_updated(w: &mut [u32], row: usize, own: usize, value: i32)
     requires { ⌜ Placed (now w) row own ⌝ }
     ensures { λ _. ⌜ now (w .exit) ≡ updated (now (w .entry)) row own value ⌝ }
 {
     let flags = w[row + FLAGS];
-    let sum = int32::add(value, int32::of_word(w[own + SUM]));
+    let operator = rules::operator_of(flags / 4);
+    let partial = rules::combine(operator, value, int32::of_word(w[own + PARTIAL]));
     w[row + FLAGS] = with_update(flags);
-    w[own + SUM] = int32::to_word(sum);
+    w[own + PARTIAL] = int32::to_word(partial);
 }
 
 // An iteration of a group writes the cell.
@@ -164,7 +165,7 @@ pub fn note_write(
     mark_own(w, own, group, value);
 }
 
-// An iteration adds to the cell.
+// An iteration updates the cell.
 pub fn note_update(w: &mut [u32], row: usize, own: usize, iteration: Iteration, value: i32)
     requires { ⌜ (Ready (now w) row own) × (iteration .0 < 4294967295) ⌝ }
     ensures { λ _. ⌜ now (w .exit) ≡ updated (counted (now (w .entry)) row own (iteration .0)) row own value ⌝ }

@@ -135,6 +135,21 @@ pub fn multiply(place: usize, depth: usize, pending: &mut [i32; 32]) -> Performe
     go_on(place, n)
 }
 
+// The larger of two values.
+pub fn maximum(place: usize, depth: usize, pending: &mut [i32; 32]) -> Performed
+    requires { ⌜ Holding (now pending) depth ⌝ }
+    ensures { λ r. ⌜ ((v : ℤ) → Performs (does Instr.maximum place depth (now (pending .entry)) v) place (now (pending .exit)) r) ⌝ }
+{
+    if depth < 2 {
+        return stop(place, depth, Move::End);
+    }
+    let d = depth - 2;
+    let x = pending[d];
+    let y = pending[d + 1];
+    let n = put(pending, d, int32::maximum(x, y));
+    go_on(place, n)
+}
+
 // The negation of a value.
 pub fn negate(place: usize, depth: usize, pending: &mut [i32; 32]) -> Performed
     requires { ⌜ Holding (now pending) depth ⌝ }

@@ -7,13 +7,13 @@ use native.Mathlib.Omega.{arith}
 use lib.ListN.{getD}
 use lib.IntN.{ℤ}
 use Rattle.int32.specs.Integers.{value}
-use Rattle.rules.specs.Loop.{Loop, Partition}
+use Rattle.rules.specs.Loop.{Loop, joining, Partition}
 use Rattle.rules.specs.Log.{written}
 use Rattle.rules.specs.Merge.{block, total}
 use Rattle.rules.specs.Steps.{State, Stopped}
 use Rattle.shadow.proofs.Shows.{Shows, tables-right}
 use Rattle.shadow.specs.Tables.{table}
-use Rattle.tables.specs.Layout.{row-at, own-at, sum-word}
+use Rattle.tables.specs.Layout.{row-at, own-at, partial-word}
 use Rattle.findings.specs.Findings.{private-of}
 use Rattle.findings.proofs.Logged.{logged-pairs, logged-cells, logged-marks, logged-obstacle}
 use Rattle.trial.specs.declared.Worker.{Worker}
@@ -57,8 +57,8 @@ module _ (code : List ℕ) (g : Setting) (l : Loop) (M : List ℤ) (W : List ℕ
         cells = h .cells;
         private = λ c q b d. subst (λ (k : ℕ). private-of W (own-at (row-at k c) q) ≡ written c (block δ q (s .log))) e
             (let w = rows c b .own q (omega (arith, d, e)) in rw (w .wrote, w .value) (shows .block-last c q));
-        sums = λ c q b d. subst (λ (k : ℕ). value (sum-word W (own-at (row-at k c) q)) ≡ total l c (block δ q (s .log))) e
-            (rows c b .own q (omega (arith, d, e)) .sum ∙ shows .sums c q);
+        partials = λ c q b d. subst (λ (k : ℕ). value (partial-word W (own-at (row-at k c) q)) ≡ total (joining l c) c (block δ q (s .log))) e
+            (rows c b .own q (omega (arith, d, e)) .partial ∙ shows .partials c q);
         marked = λ c b. rw e at (logged-marks l δ (s .log) W (h .words) shows c b);
         cell-records = standing-record (g .processors) l δ M W s h;
         records = r .crew;

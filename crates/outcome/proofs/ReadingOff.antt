@@ -99,7 +99,7 @@ module _ (k : ℕ) (l : Loop) (δ : Partition) (M : List ℤ) (W : List ℕ) (s 
       let lt : c < l .size = omega (arith, standing-size k l δ M W s h) in
       ap (findings.merged W (row-at k c) k) (ap (λ (m : List ℤ). cellOf m c) (h .cells) ∙ cell-listed (l .size) (s .cells) c lt)
       ∙ ap (λ (q : ℕ). findings.merged W (row-at q c) q (s .cells c)) (sym (h .suits .processors))
-      ∙ logged-merged l δ (h .suits .plus) (h .suits .nought) (h .suits .proper) s W (h .words) shows c lt
+      ∙ logged-merged l δ s W (h .words) shows c lt
 
   pub standing-kept : Kept k l δ M W
   standing-kept = record { suits = h .suits; size = standing-size k l δ M W s h; log = s .log; words = h .words }

@@ -6,6 +6,8 @@ use Prim.Native.Nat.{ℕ, zero, suc, _+_, _*_, _≤_, min, max}
 use lib.Dec.{leb, eqb}
 use lib.ListN.{length, drop}
 use lib.Seq.{sets}
+use Rattle.syntax.specs.declared.Function.{Function}
+use Rattle.syntax.specs.declared.Function.the-variants.{Rdiv, Max}
 use Rattle.syntax.specs.Bytes.{letter, digit, same, sign}
 use Rattle.syntax.specs.Grammar.{number, Lead, bare, plus, minus}
 use Rattle.syntax.specs.Known.{Entry, find}
@@ -20,7 +22,7 @@ use Rattle.parts.specs.declared.Joint.{Joint}
 use Rattle.parts.specs.declared.Joint.the-variants.{Neither, First, Second}
 use Rattle.parts.specs.declared.Joined.{Joined}
 use Rattle.parts.specs.declared.Beginning.{Beginning}
-use Rattle.parts.specs.declared.Beginning.the-variants.{Nothing, Literal, Bracket, Quotient, Name, Element}
+use Rattle.parts.specs.declared.Beginning.the-variants.{Nothing, Literal, Bracket, Call, Name, Element}
 use Rattle.parts.specs.declared.Begun.{Begun}
 use Rattle.parts.specs.declared.Words.{Words}
 
@@ -84,18 +86,22 @@ abbrev pub begins : List ℕ → Beginning
 begins u =
     cond (isDigits peek-in skip-in u) Literal
     (cond (sees peek-in skip-in "(" u) Bracket
-    (cond (says peek-in skip-in "rdiv" u)
-    (cond (sees peek-in skip-in "(" (skip-in u)) Quotient Nothing)
-    (cond (eqb (kind (peek-in u)) 1) (cond (sees peek-in skip-in "(" (skip-in u)) Element Name) Nothing)))
+    (cond (says peek-in skip-in "rdiv" u) (cond (sees peek-in skip-in "(" (skip-in u)) (Call Rdiv) Nothing)
+    (cond (says peek-in skip-in "max" u) (cond (sees peek-in skip-in "(" (skip-in u)) (Call Max) Nothing)
+    (cond (eqb (kind (peek-in u)) 1) (cond (sees peek-in skip-in "(" (skip-in u)) Element Name) Nothing))))
 
 -- with how many tokens
 abbrev pub begun : Beginning → ℕ
 begun Nothing = 0
 begun Literal = 1
 begun Bracket = 1
-begun Quotient = 2
+begun (Call f) = 2
 begun Name = 1
 begun Element = 2
+
+-- a function at a place, with its bracket, which ends at `past`, or without
+abbrev pub calledAt : Function → Bool → ℕ → ℕ → Begun
+calledAt f b past at = cond b (record { beginning = Call f; next = past }) (record { beginning = Nothing; next = at })
 
 pub record Begins (s : List ℕ) (at : ℕ) (r : Begun) : Type 0 where
   pub beginning : r .beginning ≡ begins (drop at s)

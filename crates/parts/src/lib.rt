@@ -7,19 +7,21 @@ ghost use lib.Dec.{leb};
 ghost use lib.ListN.{length, set};
 ghost use Rattle.syntax.specs.Bytes.{same};
 ghost use Rattle.code.specs.Instr.{add, subtract, multiply, divide, operation as operationOf, words};
-ghost use Rattle.code.specs.Compile.{codeLead};
+ghost use Rattle.code.specs.Compile.{codeLead, calls};
 ghost use Rattle.lexer.specs.Lex.{part};
-ghost use Rattle.parts.specs.Parts.{kindAt, textAt, Sign, leadBy, chosen, Joins, Begins, Inside, Sealed, Ranks, Ranked, Worded, spanOf, Room, Emits, Fetches, Pushes, Loads};
+ghost use Rattle.parts.specs.Parts.{kindAt, textAt, Sign, leadBy, chosen, Joins, calledAt, Begins, Inside, Sealed, Ranks, Ranked, Worded, spanOf, Room, Emits, Fetches, Pushes, Loads};
 ghost use Rattle.names.specs.Table.{nameWords};
 use code::ADD;
 use code::DIVIDE;
 use code::LINE;
 use code::LOAD;
 use code::LOAD_AT;
+use code::MAXIMUM;
 use code::MULTIPLY;
 use code::NEGATE;
 use code::PUSH;
 use code::PUSH_V;
+use code::ROUND;
 use code::SUBTRACT;
 use lexer::Kind;
 use lexer::Tok;
@@ -31,6 +33,7 @@ use names::Table;
 use names::VARIABLE;
 use names::find;
 use names::is_named;
+use syntax::Function;
 
 // What a reader answers: the next place of the line and of the code, and the highest rank so far (0 in order, 1 over a limit, 2 a wrong name).
 pub enum Got {
@@ -51,12 +54,12 @@ pub struct Joined {
     pub next: usize,
 }
 
-// How a factor begins: with a literal, a bracket, rdiv and a bracket, a name, a name and a bracket, or none of these.
+// How a factor begins: with a literal, a bracket, a function and a bracket, a name, a name and a bracket, or none of these.
 pub enum Beginning {
     Nothing,
     Literal,
     Bracket,
-    Quotient,
+    Call { function: Function },
     Name,
     Element,
 }
@@ -165,6 +168,22 @@ pub fn join(s: &[u8], at: usize, a: u8, b: u8) -> Joined
     }
 }
 
+// A function with its bracket, or without.
+fn called(function: Function, bracketed: bool, past: usize, at: usize) -> Begun
+    ensures { λ r. ⌜ r ≡ calledAt function bracketed past at ⌝ }
+{
+    if bracketed {
+        return Begun {
+            beginning: Beginning::Call { function },
+            next: past,
+        };
+    }
+    Begun {
+        beginning: Beginning::Nothing,
+        next: at,
+    }
+}
+
 // How the factor at a place begins.
 pub fn begin(s: &[u8], at: usize) -> Begun
     requires { ⌜ at ≤ length (now s) ⌝ }
@@ -189,16 +208,10 @@ pub fn begin(s: &[u8], at: usize) -> Begun
     let past = u.stop;
     let open = is_sign(s, u, b'(');
     if reads(s, t, b"rdiv") {
-        if open {
-            return Begun {
-                beginning: Beginning::Quotient,
-                next: past,
-            };
-        }
-        return Begun {
-            beginning: Beginning::Nothing,
-            next: at,
-        };
+        return called(Function::Rdiv, open, past, at);
+    }
+    if reads(s, t, b"max") {
+        return called(Function::Max, open, past, at);
     }
     if same_kind(k, Kind::Name) {
         if open {
@@ -304,6 +317,17 @@ pub fn factor_operation(sign: Joint, line: u32) -> u32
         Joint::First => MULTIPLY,
         Joint::Second => over,
         Joint::Neither => over,
+    }
+}
+
+// The operation of a function.
+pub fn call_operation(function: Function, line: u32) -> u32
+    requires { ⌜ line ≤ 2049 ⌝ }
+    ensures { λ r. ⌜ r ≡ operationOf (calls line function) ⌝ }
+{
+    match function {
+        Function::Rdiv => ROUND + LINE * line,
+        Function::Max => MAXIMUM,
     }
 }
 

@@ -5,7 +5,6 @@ use Prim.Native.Nat.{ℕ, suc, _*_, _/_, min, _≤_, _<_}
 use native.Mathlib.Nat.{mul-zero, zero-div, mul-le-mul-left, le-div-iff-mul-le, div-mul-le-self, le-trans, mul-div-cancel}
 use native.Mathlib.Decide.{decLe}
 use native.Mathlib.Omega.{arith}
-use lib.IntN.{ℤ}
 use Rattle.rules.specs.declared.Grouping.{Grouping}
 use Rattle.rules.specs.declared.Grouping.the-variants.{Iterations, Blocks}
 use Rattle.rules.specs.Loop.{Loop, bound}
@@ -76,9 +75,7 @@ grouped-below Iterations i p b x y = x
 grouped-below Blocks i p b x y = y
 
 -- a loop is proper over either
-module _ (l : Loop) (k : ℕ) (some : 0 < k) (sums : (i : ℕ) → Sums (l .class) (l .body i)) (sized : (i : ℕ) → Sized (l .size) (l .body i))
-    (assoc : (x y z : ℤ) → l .plus (l .plus x y) z ≡ l .plus x (l .plus y z)) (comm : (x y : ℤ) → l .plus x y ≡ l .plus y x)
-    (neutral : (x y : ℤ) → l .plus (l .plus x y) (l .zero) ≡ l .plus x y) (zeros : l .plus (l .zero) (l .zero) ≡ l .zero) where
+module _ (l : Loop) (k : ℕ) (some : 0 < k) (sums : (i : ℕ) → Sums (l .class) (l .body i)) (sized : (i : ℕ) → Sized (l .size) (l .body i)) where
   pub singles-proper : Proper l (singles (l .iterations) k)
   unfolding singles
   singles-proper = record {
@@ -91,10 +88,6 @@ module _ (l : Loop) (k : ℕ) (some : 0 < k) (sums : (i : ℕ) → Sums (l .clas
     share-last = cut-last (l .iterations) k some;
     sums = sums;
     sized = sized;
-    plus-assoc = assoc;
-    plus-comm = comm;
-    plus-zero = neutral;
-    zero-zero = zeros;
   }
 
   pub blocks-proper : Proper l (blocks (l .iterations) k)
@@ -109,10 +102,6 @@ module _ (l : Loop) (k : ℕ) (some : 0 < k) (sums : (i : ℕ) → Sums (l .clas
     share-last = λ p b. omega arith;
     sums = sums;
     sized = sized;
-    plus-assoc = assoc;
-    plus-comm = comm;
-    plus-zero = neutral;
-    zero-zero = zeros;
   }
 
   pub tested-proper : (γ : Grouping) → Proper l (tested γ (l .iterations) k)

@@ -75,8 +75,8 @@ module _ (γ : ℕ → ℕ) (g : Log) (grows : (a b : ℕ) → each a g ≢ [] �
       let a = has-each γ c i g w in
       let b = exposed-each γ c j g o in
       (a .0, b .0, grows (a .0) (b .0) (has-some (a .2)) (λ e. exposed-nil (subst (Exposed c) e (b .2))) (omega (arith, a .1, b .1)), a .2, b .2)
-  at-each reduction c (inl o) = inl (stale c o)
-  at-each reduction c (inr (i, j, u, o)) = let a = has-each γ c i g u in let b = ordinary-each γ c j g o in inr (a .0, b .0, a .2, b .2)
+  at-each (reduction q) c (inl o) = inl (stale c o)
+  at-each (reduction q) c (inr (i, j, u, o)) = let a = has-each γ c i g u in let b = ordinary-each γ c j g o in inr (a .0, b .0, a .2, b .2)
 
 pub passes-coarser : (l : Loop) (δ : Partition) → Proper l δ → SerialPasses l (λ i. i) → SerialPasses l (δ .group)
 passes-coarser l δ h s = record { faultless = s .faultless; free = λ (c, o). s .free (c, at-each (δ .group) (serial l .log) grows (l .class c) c o) }

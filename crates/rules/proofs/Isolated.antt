@@ -1,9 +1,9 @@
 -- A group of iterations run by itself: it reads what it wrote, else the cell at entry. No schedule and no other group enters here.
-use mathlib.Core.Path.{_≡_, subst}
+use mathlib.Core.Path.{subst}
 use mathlib.Core.Logic.{inl, inr}
 use mathlib.Core.List.{[], _∷_}
 use Prim.Native.Nat.{ℕ}
-use Rattle.rules.specs.Loop.{reduction, Loop, Partition}
+use Rattle.rules.specs.Loop.{Reduces, Loop, Partition}
 use Rattle.rules.specs.Steps.{latest}
 use Rattle.rules.proofs.Job.{Job, reading, writing, updating, failing, idle, job}
 use Rattle.rules.proofs.ProperLaws.{Sums-job}
@@ -37,12 +37,12 @@ abbrev pub alone : Loop → Partition → ℕ → Log × End
 alone l δ g = finish l (job l δ g) []
 
 -- only reduction cells are updated in what a group logs by itself
-pub finish-sums : (l : Loop) (a : Job) (g : Log) → Sums-job (l .class) a → ((c : ℕ) → Has updates c g → l .class c ≡ reduction) → (c : ℕ)
-    → Has updates c (finish l a g .0) → l .class c ≡ reduction
+pub finish-sums : (l : Loop) (a : Job) (g : Log) → Sums-job (l .class) a → ((c : ℕ) → Has updates c g → Reduces (l .class c)) → (c : ℕ)
+    → Has updates c (finish l a g .0) → Reduces (l .class c)
 unfolding finish
 finish-sums l (reading i c k) g s h = finish-sums l (k (latest l c g)) (access reads i c (latest l c g) ∷ g) (s (latest l c g)) (λ d x. h d (not-read x))
 finish-sums l (writing i c v a) g s h = finish-sums l a (access writes i c v ∷ g) s (λ d x. h d (not-written x))
 finish-sums l (updating i c v a) g s h = finish-sums l a (access updates i c v ∷ g) (s .1)
-    (λ d x. elim (has-cases x) [ inl y ↦ subst (λ (e : ℕ). l .class e ≡ reduction) (y .1) (s .0) | inr y ↦ h d y ])
+    (λ d x. elim (has-cases x) [ inl y ↦ subst (λ (e : ℕ). Reduces (l .class e)) (y .1) (s .0) | inr y ↦ h d y ])
 finish-sums l (failing i n m) g s h = h
 finish-sums l idle g s h = h

@@ -17,6 +17,7 @@ pub mod SerialRun
 pub mod Order
 -- the cells and counts of a trial that passed, and Run's answer.
 pub mod TouchLaws
+pub mod OperationLaws
 pub mod SumLaws
 pub mod MergeRun
 pub mod Passed
@@ -26,4 +27,5 @@ pub mod CoarserRun
 -- Laws for callers.
 pub mod BlocksLaws
 pub mod CellsLaws
+pub mod NumberLaws
 pub mod Likewise

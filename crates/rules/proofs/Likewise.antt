@@ -7,7 +7,7 @@ use Prim.Native.Nat.{ℕ, zero, suc}
 use lib.Dec.{eqb}
 use lib.IntN.{ℤ}
 use Rattle.rules.specs.Choose.{pick, put}
-use Rattle.rules.specs.Loop.{Act, read, write, update, fault, done, Loop}
+use Rattle.rules.specs.Loop.{Act, read, write, update, fault, done, Loop, joining}
 use Rattle.rules.specs.Log.{Kind, reads, writes, updates, access, Log, only, each}
 use Rattle.rules.specs.Serial.{failed, Result, along, from, serial}
 use Rattle.rules.specs.Merge.{touches, count}
@@ -157,9 +157,9 @@ module _ (l l′ : Loop) where
       go (fails n₁ t f) = subst₂ Likewise (sym (f .stops l i g K next)) (sym (f .stops l′ i g′ K′ next′))
           (record { cells = refl; traced = f .quiet i g ∙ e ∙ sym (f .quiet i g′); outcome = refl })
 
-  -- an update of the cell that W comes to by what E comes to, and that cell read, E added to it, and W worked out again for the write
+  -- an update of the cell that W comes to by what E comes to, and that cell read, E joined to it, and W worked out again for the write
   pub like-update : (W : (ℕ → Act) → Act) (E : (ℤ → Act) → Act) → ((m : ℕ → ℤ) → Comes m W) → ((m : ℕ → ℤ) → Comes m E) → (a b : Act) → Like l l′ a b
-      → Like l l′ (W (λ c. E (λ y. update c y a))) (W (λ c. read c (λ x. E (λ y. W (λ d. write d (l .plus x y) b)))))
+      → Like l l′ (W (λ c. E (λ y. update c y a))) (W (λ c. read c (λ x. E (λ y. W (λ d. write d (joining l c .join x y) b)))))
   unfolding Like along trace
   like-update W E w v a b h m i g g′ e next next′ n = go (w m) (v m)
     where
@@ -167,7 +167,7 @@ module _ (l l′ : Loop) where
       K c = E (λ y. update c y a)
 
       K′ : ℕ → Act
-      K′ c = read c (λ x. E (λ y. W (λ d. write d (l .plus x y) b)))
+      K′ c = read c (λ x. E (λ y. W (λ d. write d (joining l c .join x y) b)))
 
       go : Comes m W → Comes m E → Likewise (along l i (W K) m g next) (along l′ i (W K′) m g′ next′)
       go (fails n₁ t f) q = subst₂ Likewise (sym (f .stops l i g K next)) (sym (f .stops l′ i g′ K′ next′))
@@ -179,7 +179,7 @@ module _ (l l′ : Loop) where
       go (gives c f) (gives y q) = subst₂ Likewise
           (sym (f .goes l i g K next ∙ q .goes l i (f .log i g) _ next))
           (sym (f .goes l′ i g′ K′ next′ ∙ q .goes l′ i (access reads i c (m c) ∷ f .log i g′) _ next′ ∙ f .goes l′ i _ _ next′))
-          (h (put m c (l .plus (m c) y)) i _ _
+          (h (put m c (joining l c .join (m c) y)) i _ _
           (ap (λ (ps : List (ℕ × ℕ)). (i, c) ∷ ps) (q .quiet i _ ∙ f .quiet i g ∙ e ∙ sym (f .quiet i g′) ∙ sym (q .quiet i _) ∙ sym (f .quiet i _)))
           next next′ n)
 

@@ -8,14 +8,15 @@ use native.Mathlib.Decide.{ℕ-discrete}
 use native.Mathlib.Omega.{arith}
 use lib.IntN.{ℤ}
 use Rattle.rules.specs.ChooseLaws.{pick-same, pick-other}
-use Rattle.rules.specs.Loop.{Loop, Partition}
+use Rattle.rules.specs.Operation.{Operation, Lawful}
+use Rattle.rules.specs.Loop.{Loop, operator, joining}
 use Rattle.rules.specs.Log.{reads, writes, updates, Access, access, iteration, Log, only, written, Has, newest, older, a-write}
 use Rattle.rules.specs.LogLaws.{only-same, only-other, written-newest, written-some, written-only-leaving, Writing, writing, leaving, writing?, has-nil, has-cases, not-read, not-written, has-more, extends-only}
 use Rattle.rules.specs.Obstacles.{Clash}
 use Rattle.rules.proofs.ObstacleLaws.{clash-more}
 use Rattle.rules.specs.Steps.{latest}
 use Rattle.rules.proofs.SerialRun.{Upto, Sorted, sorted-nil, sorted-cons, replay, replay-latest}
-use Rattle.rules.specs.Proper.{Proper}
+use Rattle.rules.proofs.OperationLaws.{lawful}
 use Rattle.rules.specs.Merge.{highest, add, total}
 use Rattle.rules.specs.Decide.{has?}
 use Rattle.rules.proofs.SumLaws.{Within, within-tail, within-newest}
@@ -95,44 +96,51 @@ module _ (γ : ℕ → ℕ) where
           k
       go e (leaving x) m k = climbs-leave x k
 
-module _ (l : Loop) (δ : Partition) (h : Proper l δ) (c : ℕ) where
-  -- a cell without updates has the sum zero
-  pub total-none : (g : Log) → ¬ Has updates c g → total l c g ≡ l .zero
+module _ (l : Loop) (c : ℕ) where
+  -- what updates of c do
+  abbrev o : Operation
+  o = joining l c
+
+  w : Lawful o
+  w = lawful (operator (l .class c))
+
+  -- a cell without updates has the result that it begins with
+  pub total-none : (g : Log) → ¬ Has updates c g → total o c g ≡ o .start
   unfolding total add
   total-none [] n = refl
   total-none (access reads i d v ∷ g) n = total-none g (λ x. n (older x))
   total-none (access writes i d v ∷ g) n = total-none g (λ x. n (older x))
   total-none (access updates i d v ∷ g) n =
-      pick-other (λ (p : d ≡ c). n (rw p newest)) (l .plus v (total l c g)) (total l c g) ∙ total-none g (λ x. n (older x))
+      pick-other (λ (p : d ≡ c). n (rw p newest)) (o .join v (total o c g)) (total o c g) ∙ total-none g (λ x. n (older x))
 
-  -- a cell with updates and no writes holds its entry and its sum
-  replay-sum : (g : Log) → ¬ Has writes c g → Has updates c g → replay l c g ≡ l .plus (l .entry c) (total l c g)
+  -- a cell with updates and no writes holds its entry and the result of its updates
+  replay-join : (g : Log) → ¬ Has writes c g → Has updates c g → replay l c g ≡ o .join (l .entry c) (total o c g)
   unfolding total add replay written
-  replay-sum [] n u = absurd (has-nil u)
-  replay-sum (access reads i d v ∷ g) n u = replay-sum g (λ x. n (older x)) (not-read u)
-  replay-sum (access writes i d v ∷ g) n u = pick-other (λ (p : d ≡ c). n (rw p newest)) v (replay l c g) ∙ replay-sum g (λ x. n (older x)) (not-written u)
-  replay-sum (access updates i d v ∷ g) n u = elim (ℕ-discrete d c) [
-    | yes p ↦ rw (pick-same p (l .plus (replay l c g) v) (replay l c g), pick-same p (l .plus v (total l c g)) (total l c g)) (elim (has? updates c g) [
-      | yes w ↦
-          ap (λ (x : ℤ). l .plus x v) (replay-sum g (λ x. n (older x)) w) ∙ h .plus-assoc (l .entry c) (total l c g) v
-          ∙ ap (l .plus (l .entry c)) (h .plus-comm (total l c g) v)
-      | no w ↦
-          ap (λ (x : ℤ). l .plus x v) (unmet w) ∙ sym (h .plus-zero (l .entry c) v) ∙ h .plus-assoc (l .entry c) v (l .zero)
-          ∙ ap (λ (x : ℤ). l .plus (l .entry c) (l .plus v x)) (sym (total-none g w))
+  replay-join [] n u = absurd (has-nil u)
+  replay-join (access reads i d v ∷ g) n u = replay-join g (λ x. n (older x)) (not-read u)
+  replay-join (access writes i d v ∷ g) n u = pick-other (λ (p : d ≡ c). n (rw p newest)) v (replay l c g) ∙ replay-join g (λ x. n (older x)) (not-written u)
+  replay-join (access updates i d v ∷ g) n u = elim (ℕ-discrete d c) [
+    | yes p ↦ rw (pick-same p (o .join (replay l c g) v) (replay l c g), pick-same p (o .join v (total o c g)) (total o c g)) (elim (has? updates c g) [
+      | yes y ↦
+          ap (λ (x : ℤ). o .join x v) (replay-join g (λ x. n (older x)) y) ∙ w .assoc (l .entry c) (total o c g) v
+          ∙ ap (o .join (l .entry c)) (w .comm (total o c g) v)
+      | no y ↦
+          ap (λ (x : ℤ). o .join x v) (unmet y) ∙ sym (w .neutral (l .entry c) v) ∙ w .assoc (l .entry c) v (o .start)
+          ∙ ap (λ (x : ℤ). o .join (l .entry c) (o .join v x)) (sym (total-none g y))
     ])
-    | no p ↦ rw (pick-other p (l .plus (replay l c g) v) (replay l c g), pick-other p (l .plus v (total l c g)) (total l c g))
-        (replay-sum g (λ x. n (older x)) (elim (has-cases u) [ inl x ↦ absurd (p (x .1)) | inr x ↦ x ]))
+    | no p ↦ rw (pick-other p (o .join (replay l c g) v) (replay l c g), pick-other p (o .join v (total o c g)) (total o c g))
+        (replay-join g (λ x. n (older x)) (elim (has-cases u) [ inl x ↦ absurd (p (x .1)) | inr x ↦ x ]))
   ]
     where
       unmet : ¬ Has updates c g → replay l c g ≡ l .entry c
-      unmet w = elim (replay-latest l c g) [
-        | inr x ↦ absurd (w x)
-        | inl q ↦ q ∙ ap (λ (o : Option ℤ). Option·getD o (l .entry c)) (unwritten c g (λ x. n (older x)))
+      unmet y = elim (replay-latest l c g) [
+        | inr x ↦ absurd (y x)
+        | inl q ↦ q ∙ ap (λ (s : Option ℤ). Option·getD s (l .entry c)) (unwritten c g (λ x. n (older x)))
       ]
 
   -- a cell that is updated and not written
-  pub replay-updated : (g : Log) → ¬ Has writes c g → Has updates c g → replay l c g ≡ l .plus (latest l c g) (total l c g)
-  replay-updated g n u = replay-sum g n u ∙ ap (λ (o : Option ℤ). l .plus (Option·getD o (l .entry c)) (total l c g)) (sym (unwritten c g n))
+  pub replay-updated : (g : Log) → ¬ Has writes c g → Has updates c g → replay l c g ≡ o .join (latest l c g) (total o c g)
+  replay-updated g n u = replay-join g n u ∙ ap (λ (s : Option ℤ). o .join (Option·getD s (l .entry c)) (total o c g)) (sym (unwritten c g n))
 
   pub replay-plain : (g : Log) → ¬ Has updates c g → replay l c g ≡ latest l c g
   replay-plain g n = elim (replay-latest l c g) [ inl q ↦ q | inr u ↦ absurd (n u) ]

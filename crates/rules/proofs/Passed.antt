@@ -1,13 +1,13 @@
 -- A trial that passed shares its accesses, its cells and its counts with the serial run.
 use mathlib.Core.Path.{_≡_, refl, sym, _∙_, ap, fun-ext}
-use mathlib.Core.Logic.{inr}
 use mathlib.Core.List.{List, []}
 use mathlib.Core.Bool.{Bool, true, false, cond}
 use mathlib.Core.Option.{Option, Option·getD}
 use Prim.Native.Nat.{ℕ, suc}
 use native.Mathlib.Omega.{arith}
 use lib.IntN.{ℤ}
-use Rattle.rules.specs.Loop.{Class, shared, lastprivate, copied, reduction, Loop, Partition}
+use Rattle.rules.specs.Operation.{Operation, Lawful, operation}
+use Rattle.rules.specs.Loop.{Class, shared, lastprivate, copied, reduction, Reduces, operator, Loop, joining, Partition}
 use Rattle.rules.specs.Log.{Log, writes, updates, Has, a-write, each}
 use Rattle.rules.specs.LogLaws.{has-only}
 use Rattle.rules.proofs.Job.{Job, span-none}
@@ -19,7 +19,9 @@ use Rattle.rules.specs.Serial.{serial}
 use Rattle.rules.proofs.TrialRun.{trial-holds}
 use Rattle.rules.proofs.SerialRun.{Ends, serial-ends, updated-is-reduction, replay}
 use Rattle.rules.specs.Merge.{highest, updated, total, gathered, last-value, merged-as, merged, pairs, written-cells}
-use Rattle.rules.proofs.SumLaws.{Within, sum-same, total-iterations, total-gathered}
+use Rattle.rules.proofs.OperationLaws.{lawful}
+use Rattle.rules.proofs.ObstacleLaws.{obstacle-of-mixed}
+use Rattle.rules.proofs.SumLaws.{Within, join-same, total-iterations, total-gathered}
 use Rattle.rules.proofs.MergeRun.{highest-written, sorted-climbs, free-climbs, replay-updated, replay-plain}
 use Rattle.rules.proofs.TouchLaws.{updated-has, has-updated, same-updated, same-pairs, same-written-cells}
 use Rattle.rules.specs.Answer.{TrialPasses}
@@ -54,13 +56,16 @@ module _ (l : Loop) (δ : Partition) (h : Proper l δ) (ps : List ℕ) (t : Tria
     unfolding value
     serial-last = ap value (sym (highest-written (λ j. j) c (l .iterations) (sorted-climbs (λ j. j) c in-order) within))
 
-    same-sum : gathered l δ c (trial l δ ps .log) ≡ total l c (serial l .log)
-    same-sum = sym (total-gathered l δ h c (trial l δ ps .log) within-trial) ∙ total-iterations l δ h c (trial l δ ps .log) within-trial
-        ∙ sum-same l δ h (l .iterations) (λ i. total l c (each i (trial l δ ps .log))) (λ i. total l c (each i (serial l .log)))
-        (λ i b. ap (total l c) (same i))
-        ∙ sym (total-iterations l δ h c (serial l .log) within)
+    -- for any lawful operation
+    same-result : (o : Operation) → Lawful o → gathered o δ c (trial l δ ps .log) ≡ total o c (serial l .log)
+    same-result o w =
+        sym (total-gathered l δ h o w c (trial l δ ps .log) within-trial)
+        ∙ total-iterations o w (l .iterations) c (trial l δ ps .log) within-trial
+        ∙ join-same o (l .iterations) (λ i. total o c (each i (trial l δ ps .log))) (λ i. total o c (each i (serial l .log)))
+        (λ i b. ap (total o c) (same i))
+        ∙ sym (total-iterations o w (l .iterations) c (serial l .log) within)
 
-    serial-updated : Has updates c (serial l .log) → l .class c ≡ reduction
+    serial-updated : Has updates c (serial l .log) → Reduces (l .class c)
     serial-updated u =
         let r = has-only (δ .group) u in
         updated-is-reduction l δ h (serial l .log) work (agree-of-clean l δ (serial l .log) work clean status) c (r .0) (r .1)
@@ -69,10 +74,10 @@ module _ (l : Loop) (δ : Partition) (h : Proper l δ) (ps : List ℕ) (t : Tria
     not-mixed (w, u) =
         let a = has-only (δ .group) w in
         let b = has-only (δ .group) u in
-        passes l δ h ps .0 t .free (c, rw (serial-updated u) (inr (b .0, a .0, b .1, a-write (a .1))))
+        passes l δ h ps .0 t .free (c, obstacle-of-mixed (l .class c) (serial-updated u) (b .0, a .0, b .1, a-write (a .1)))
 
-    plain : ¬ (l .class c ≡ reduction) → replay l c (serial l .log) ≡ latest l c (serial l .log)
-    plain n = replay-plain l δ h c (serial l .log) (λ u. n (serial-updated u))
+    plain : ¬ Reduces (l .class c) → replay l c (serial l .log) ≡ latest l c (serial l .log)
+    plain n = replay-plain l c (serial l .log) (λ u. n (serial-updated u))
 
     -- by groups, the last value written to a shared cell is the same in both
     same-latest : l .class c ≡ shared → latest l c (trial l δ ps .log) ≡ latest l c (serial l .log)
@@ -85,21 +90,22 @@ module _ (l : Loop) (δ : Partition) (h : Proper l δ) (ps : List ℕ) (t : Tria
         ∙ sym (ap value (highest-written (δ .group) c (δ .groups) (sorted-climbs (δ .group) c sorted) groups-within))
 
     merged-is : (k : Class) → l .class c ≡ k → merged-as l δ k (trial l δ ps) c ≡ replay l c (serial l .log)
-    merged-is shared e =
-        trial-holds l δ h ps .memory c e ∙ same-latest e ∙ sym (plain (λ (r : l .class c ≡ reduction). let z : _≡_ {A = ℕ} 0 1 = cc in omega arith))
-    merged-is lastprivate e = same-last ∙ serial-last ∙ sym (plain (λ (r : l .class c ≡ reduction). let z : _≡_ {A = ℕ} 0 1 = cc in omega arith))
-    merged-is copied e = same-last ∙ serial-last ∙ sym (plain (λ (r : l .class c ≡ reduction). let z : _≡_ {A = ℕ} 0 1 = cc in omega arith))
-    merged-is reduction e = rw (same-updated (trial l δ ps .log) (serial l .log) same c) (go (updated c (serial l .log)) refl)
+    merged-is shared e = trial-holds l δ h ps .memory c e ∙ same-latest e ∙ sym (plain (λ r. rw e at r))
+    merged-is lastprivate e = same-last ∙ serial-last ∙ sym (plain (λ r. rw e at r))
+    merged-is copied e = same-last ∙ serial-last ∙ sym (plain (λ r. rw e at r))
+    merged-is (reduction o) e = rw (same-updated (trial l δ ps .log) (serial l .log) same c) (go (updated c (serial l .log)) refl)
       where
         go : (b : Bool) → updated c (serial l .log) ≡ b
-            → cond b (l .plus (last-value l c (trial l δ ps .log)) (gathered l δ c (trial l δ ps .log))) (last-value l c (trial l δ ps .log))
+            → cond b (operation o .join (last-value l c (trial l δ ps .log)) (gathered (operation o) δ c (trial l δ ps .log)))
+            (last-value l c (trial l δ ps .log))
             ≡ replay l c (serial l .log)
         go true q =
             let u = updated-has c (serial l .log) q in
-            cc (same-last, serial-last, same-sum, replay-updated l δ h c (serial l .log) (λ w. not-mixed (w, u)) u)
+            let z : joining l c ≡ operation o = ap (λ (k : Class). operation (operator k)) e in
+            cc (same-last, serial-last, same-result (operation o) (lawful o), replay-updated l c (serial l .log) (λ w. not-mixed (w, u)) u)
         go false q =
             same-last ∙ serial-last
-            ∙ sym (replay-plain l δ h c (serial l .log) (λ u. let p = has-updated u in let z : _≡_ {A = ℕ} 0 1 = cc in omega arith))
+            ∙ sym (replay-plain l c (serial l .log) (λ u. let p = has-updated u in let z : _≡_ {A = ℕ} 0 1 = cc in omega arith))
 
     pub same-cell : merged l δ (trial l δ ps) c ≡ serial l .cells c
     unfolding merged

@@ -1,15 +1,14 @@
 -- What `Proper` says of an iteration holds of a group of them.
-use mathlib.Core.Path.{_≡_}
 use Prim.Native.Nat.{ℕ, zero, suc}
 use lib.IntN.{ℤ}
-use Rattle.rules.specs.Loop.{Act, read, write, update, fault, done, Class, reduction, Loop, Partition}
+use Rattle.rules.specs.Loop.{Act, read, write, update, fault, done, Class, Reduces, Loop, Partition}
 use Rattle.rules.proofs.Job.{Job, reading, writing, updating, failing, idle, before, chain}
 use Rattle.rules.specs.Proper.{Sums, Proper}
 
 abbrev pub Sums-job : (ℕ → Class) → Job → Type 0
 Sums-job k (reading i c a) = (x : ℤ) → Sums-job k (a x)
 Sums-job k (writing i c v a) = Sums-job k a
-Sums-job k (updating i c v a) = (k c ≡ reduction) × Sums-job k a
+Sums-job k (updating i c v a) = Reduces (k c) × Sums-job k a
 Sums-job k (failing i n m) = Unit {0}
 Sums-job k idle = Unit {0}
 

@@ -9,11 +9,11 @@ use native.Mathlib.Omega.{arith}
 use lib.IntN.{ℤ}
 use Rattle.rules.specs.Choose.{pick, put}
 use Rattle.rules.specs.ChooseLaws.{pick-same, pick-other, put-same, put-other}
-use Rattle.rules.specs.Loop.{Act, read, write, update, fault, done, Class, shared, lastprivate, copied, reduction, Loop, Partition}
+use Rattle.rules.specs.Loop.{Act, read, write, update, fault, done, Class, shared, lastprivate, copied, reduction, Reduces, Loop, joining, Partition}
 use Rattle.rules.specs.Log.{reads, writes, updates, Access, access, iteration, Log, only, each, written, Has, newest, older, first, Ordinary, a-read}
 use Rattle.rules.specs.LogLaws.{only-same, only-other, only-nil, written-newest, written-none, written-only-leaving, some-or-none, Writing, writing, leaving, writing?, has-only, has-nil, has-more, extends-only, own-or-other}
 use Rattle.rules.specs.Obstacles.{ObstacleAt, Late}
-use Rattle.rules.proofs.ObstacleLaws.{obstructed-more, stale-of-late}
+use Rattle.rules.proofs.ObstacleLaws.{obstructed-more, stale-of-late, obstacle-of-mixed}
 use Rattle.rules.specs.Steps.{latest, opening}
 use Rattle.rules.proofs.Isolated.{finish, finish-sums}
 use Rattle.rules.proofs.Runs.{Moved, Agree, Status, Allowed, inside-extends, step-read, step-write, step-update}
@@ -60,7 +60,7 @@ module _ (l : Loop) where
   replay c [] = l .entry c
   replay c (access reads i d v ∷ g) = replay c g
   replay c (access writes i d v ∷ g) = pick d c v (replay c g)
-  replay c (access updates i d v ∷ g) = pick d c (l .plus (replay c g) v) (replay c g)
+  replay c (access updates i d v ∷ g) = pick d c (joining l c .join (replay c g) v) (replay c g)
 
   -- a cell that was not updated holds the last value written
   pub replay-latest : (c : ℕ) (g : Log) → (replay c g ≡ latest l c g) ⊎ Has updates c g
@@ -73,12 +73,12 @@ module _ (l : Loop) where
   ]
   replay-latest c (access updates i d v ∷ g) = elim (ℕ-discrete d c) [
     | yes p ↦ inr (rw p newest)
-    | no p ↦ elim (replay-latest c g) [ inl h ↦ inl (rw (pick-other p (l .plus (replay c g) v) (replay c g)) h) | inr h ↦ inr (older h) ]
+    | no p ↦ elim (replay-latest c g) [ inl h ↦ inl (rw (pick-other p (joining l c .join (replay c g) v) (replay c g)) h) | inr h ↦ inr (older h) ]
   ]
 
 module _ (l : Loop) (δ : Partition) where
   -- only reduction cells are updated in a run that agrees with the groups by themselves
-  pub updated-is-reduction : Proper l δ → (g : Log) (w : ℕ → Job) → Agree l δ g w → (c j : ℕ) → Has updates c (only (δ .group) j g) → l .class c ≡ reduction
+  pub updated-is-reduction : Proper l δ → (g : Log) (w : ℕ → Job) → Agree l δ g w → (c j : ℕ) → Has updates c (only (δ .group) j g) → Reduces (l .class c)
   updated-is-reduction h g w ag c j x = finish-sums l (job l δ j) [] (sums-chain l δ h _ (δ .cut j)) (λ d y. absurd (has-nil y)) c
       (has-more (inside-extends l δ g w ag j) x)
 
@@ -105,8 +105,8 @@ module _ (l : Loop) (δ : Partition) where
         mixed : (j : ℕ) × Has updates c (only γ j g) → Allowed l δ g i c (replay l c g)
         mixed (j, x) = inr (λ y. (
           c,
-          subst (λ (k : Class). ObstacleAt k (log′ y) c) (sym (updated-is-reduction h g w ag c j x))
-              (inr (j, γ i, has-more (extends-only γ j (access reads i c y) g) x, read-there y)),
+          obstacle-of-mixed (l .class c) (updated-is-reduction h g w ag c j x)
+              (j, γ i, has-more (extends-only γ j (access reads i c y) g) x, read-there y),
         ))
 
         -- a group that wrote c is a lower one
@@ -138,7 +138,7 @@ module _ (l : Loop) (δ : Partition) where
           | inl r ↦ inl r
           | inr f ↦ inr (λ y. (c, subst (λ (k : Class). ObstacleAt k (log′ y) c) (sym e) (f y)))
         ]
-        foreign q o reduction e = elim (late q o (written c (only γ (γ i) g)) refl) [
+        foreign q o (reduction p) e = elim (late q o (written c (only γ (γ i) g)) refl) [
           | inl r ↦ inl r
           | inr f ↦ inr (λ y. (c, subst (λ (k : Class). ObstacleAt k (log′ y) c) (sym e) (inl (stale-of-late (f y)))))
         ]
@@ -220,14 +220,14 @@ module _ (l : Loop) (δ : Partition) where
       in-order = sorted-cons (d .future) (d .in-order);
       future = future-cons i g (d .future) (access writes i c v) refl;
     }) f
-    along-ends i lt (update c v a) m g next d f = along-ends i lt a (put m c (l .plus (m c) v)) (access updates i c v ∷ g) next (record {
+    along-ends i lt (update c v a) m g next d f = along-ends i lt a (put m c (joining l c .join (m c) v)) (access updates i c v ∷ g) next (record {
       status = step-update l δ g (left l δ (record { at = i; act = update c v a })) (left l δ (record { at = i; act = a })) i c v
           (before i a (after i lt)) (here i lt (update c v a)) (goes i lt (update c v a) a) (d .status);
       memory = λ e. elim (ℕ-discrete c e) [
         | yes p ↦
-            put-same p m (l .plus (m c) v) ∙ ap (λ (x : ℤ). l .plus x v) (ap m p ∙ d .memory e)
-            ∙ sym (pick-same p (l .plus (replay l e g) v) (replay l e g))
-        | no p ↦ put-other p m (l .plus (m c) v) ∙ d .memory e ∙ sym (pick-other p (l .plus (replay l e g) v) (replay l e g))
+            put-same p m (joining l c .join (m c) v) ∙ ap (λ (x : ℕ). joining l x .join (m x) v) p
+            ∙ ap (λ (x : ℤ). joining l e .join x v) (d .memory e) ∙ sym (pick-same p (joining l e .join (replay l e g) v) (replay l e g))
+        | no p ↦ put-other p m (joining l c .join (m c) v) ∙ d .memory e ∙ sym (pick-other p (joining l e .join (replay l e g) v) (replay l e g))
       ];
       sorted = sorted-cons (behind i lt g (d .upto)) (d .sorted);
       upto = upto-cons i lt g (d .upto) (access updates i c v) refl;

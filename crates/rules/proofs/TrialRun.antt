@@ -43,7 +43,7 @@ module _ (l : Loop) (δ : Partition) where
       → Allowed l δ (s .log) i c (given l δ k s i c)
   allowed s i c m lastprivate e = inl refl
   allowed s i c m copied e = inl refl
-  allowed s i c m reduction e = inl refl
+  allowed s i c m (reduction o) e = inl refl
   allowed s i c m shared e = go (own-or-other γ c (γ i) (s .log))
     where
       γ : ℕ → ℕ
@@ -74,7 +74,7 @@ module _ (l : Loop) (δ : Partition) where
       h d f
       ∙ sym (ap (λ (o : Option ℤ). Option·getD o (l .entry d))
       (pick-other (λ (p : c ≡ d). let z : _≡_ {A = ℕ} 0 1 = cc (ap (l .class) p) in omega arith) (some v) (written d g)))
-  stored-latest m g i c v h reduction e d f =
+  stored-latest m g i c v h (reduction q) e d f =
       h d f
       ∙ sym (ap (λ (o : Option ℤ). Option·getD o (l .entry d))
       (pick-other (λ (p : c ≡ d). let z : _≡_ {A = ℕ} 0 1 = cc (ap (l .class) p) in omega arith) (some v) (written d g)))

@@ -1,4 +1,5 @@
 -- What a loop run is. To be believed, in this order:
+pub mod Operation
 pub mod Loop
 pub mod Blocks
 pub mod Log

@@ -9,7 +9,7 @@ use Rattle.rules.specs.Choose.{pick}
 pub data Kind : Type 0 where
   reads writes updates : Kind
 
--- "Each is listed with its kind, iteration and cell", and here with the value read, written or added
+-- "Each is listed with its kind, iteration and cell", and here with the value read or written, or the remainder of an update
 pub data Access : Type 0 where
   access : Kind → ℕ → ℕ → ℤ → Access
 

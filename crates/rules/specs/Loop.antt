@@ -4,8 +4,11 @@
 -- `Cells` goes from what the code holds, a list, to a function and back.
 use Prim.Native.Nat.{ℕ}
 use lib.IntN.{ℤ}
+use Rattle.rules.specs.declared.Operator.{Operator}
+use Rattle.rules.specs.declared.Operator.the-variants.{Sum}
+use Rattle.rules.specs.Operation.{Operation, operation}
 
--- What an iteration still does. A read goes on by the value that it gets; an update has the amount that it adds; a fault its number and line.
+-- What an iteration still does. A read goes on by the value that it gets; an update has its remainder; a fault its number and line.
 pub data Act : Type 0 where
   read : ℕ → (ℤ → Act) → Act
   write : ℕ → ℤ → Act → Act
@@ -14,9 +17,24 @@ pub data Act : Type 0 where
   done : Act
 
 -- what a cell is by the clauses of its name; "a name in no clause is shared". Document 02, Point 5: "A name may stand in `firstprivate` and
--- `lastprivate` together": its cells are `copied`
+-- `lastprivate` together": its cells are `copied`. Point 6: "Add `reduction(*:list)` and `reduction(max:list)`"
 pub data Class : Type 0 where
-  shared lastprivate copied reduction : Class
+  shared lastprivate copied : Class
+  reduction : Operator → Class
+
+-- the cells of this class may be updated
+abbrev pub Reduces : Class → Type 0
+Reduces shared = ⊥
+Reduces lastprivate = ⊥
+Reduces copied = ⊥
+Reduces (reduction o) = Unit {0}
+
+-- Point 6: "Each name has the update of its own clause only". The other classes have no updates (`Proper`), and theirs stands for nothing
+abbrev pub operator : Class → Operator
+operator shared = Sum
+operator lastprivate = Sum
+operator copied = Sum
+operator (reduction o) = o
 
 pub record Loop : Type 0 where
   pub size : ℕ  -- "N is the number of cells"
@@ -24,8 +42,10 @@ pub record Loop : Type 0 where
   pub body : ℕ → Act  -- what the iteration of an index does
   pub class : ℕ → Class
   pub entry : ℕ → ℤ  -- the cells at entry
-  pub plus : ℤ → ℤ → ℤ  -- how an update adds
-  pub zero : ℤ  -- where a sum begins
+
+-- what updates of cell c do
+abbrev pub joining : Loop → ℕ → Operation
+joining l c = operation (operator (l .class c))
 
 -- Neighbouring iterations form groups: group g has those from `cut g` up to below `cut (suc g)`. Processor p has the groups from
 -- `share p` up to below `share (suc p)`. What an iteration wrote itself, marks and obstacles go by groups. In document 01 each

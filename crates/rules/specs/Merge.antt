@@ -5,6 +5,7 @@ use mathlib.Core.Bool.{Bool, true, false, cond}
 use Prim.Native.Nat.{ℕ, zero, suc, _+_}
 use lib.IntN.{ℤ}
 use Rattle.rules.specs.Choose.{pick, below}
+use Rattle.rules.specs.Operation.{Operation, operation}
 use Rattle.rules.specs.Loop.{Class, shared, lastprivate, copied, reduction, Loop, Partition, bound}
 use Rattle.rules.specs.Log.{reads, writes, updates, Access, access, iteration, Log, each, written}
 use Rattle.rules.specs.Steps.{State}
@@ -24,7 +25,7 @@ highest f c (suc n) = or-else (written c (f n)) (highest f c n)
 abbrev pub last-value : Loop → ℕ → Log → ℤ
 last-value l c g = Option·getD (highest (λ i. each i g) c (l .iterations)) (l .entry c)
 
--- ---- partial sums
+-- ---- partial results
 
 -- an access updates c
 unfoldable pub updated : ℕ → Log → Bool
@@ -33,39 +34,41 @@ updated c (access reads i d v ∷ g) = updated c g
 updated c (access writes i d v ∷ g) = updated c g
 updated c (access updates i d v ∷ g) = pick d c true (updated c g)
 
-module _ (l : Loop) where
-  -- an access adds to the sum for c
+module _ (o : Operation) where
+  -- a partial result for c with one access more
   unfoldable pub add : ℕ → Access → ℤ → ℤ
   add c (access reads i d v) x = x
   add c (access writes i d v) x = x
-  add c (access updates i d v) x = pick d c (l .plus v x) x
+  add c (access updates i d v) x = pick d c (o .join v x) x
 
-  -- the sum of what is added to c
+  -- the partial result of the updates of c
   unfoldable pub total : ℕ → Log → ℤ
-  total c [] = l .zero
+  total c [] = o .start
   total c (e ∷ g) = add c e (total c g)
 
-  unfoldable pub sum-of : ℕ → (ℕ → ℤ) → ℤ
-  sum-of zero f = l .zero
-  sum-of (suc k) f = l .plus (sum-of k f) (f k)
+  -- the results of k processors, taken together
+  unfoldable pub join-all : ℕ → (ℕ → ℤ) → ℤ
+  join-all zero f = o .start
+  join-all (suc k) f = o .join (join-all k f) (f k)
 
 -- the accesses of processor p
 unfoldable pub block : Partition → ℕ → Log → Log
 block δ p [] = []
 block δ p (e ∷ g) = below (iteration e) (bound δ p) (block δ p g) (below (iteration e) (bound δ (suc p)) (e ∷ block δ p g) (block δ p g))
 
--- "Updates gather in a sum per processor": the sums for c, taken together
-unfoldable pub gathered : Loop → Partition → ℕ → Log → ℤ
-gathered l δ c g = sum-of l (δ .processors) (λ p. total l c (block δ p g))
+-- "Updates gather in a sum per processor", by document 02, Point 6, in a partial result: those for c, taken together
+unfoldable pub gathered : Operation → Partition → ℕ → Log → ℤ
+gathered o δ c g = join-all o (δ .processors) (λ p. total o c (block δ p g))
 
 -- ---- the cells
 
--- "updates are added"
+-- "updates are added"; Point 6: by the operation of the cell
 abbrev pub merged-as : Loop → Partition → Class → State → ℕ → ℤ
 merged-as l δ shared s c = s .cells c
 merged-as l δ lastprivate s c = last-value l c (s .log)
 merged-as l δ copied s c = last-value l c (s .log)
-merged-as l δ reduction s c = cond (updated c (s .log)) (l .plus (last-value l c (s .log)) (gathered l δ c (s .log))) (last-value l c (s .log))
+merged-as l δ (reduction o) s c =
+    cond (updated c (s .log)) (operation o .join (last-value l c (s .log)) (gathered (operation o) δ c (s .log))) (last-value l c (s .log))
 
 unfoldable pub merged : Loop → Partition → State → ℕ → ℤ
 merged l δ s c = merged-as l δ (l .class c) s c

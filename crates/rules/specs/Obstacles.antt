@@ -31,7 +31,7 @@ abbrev pub ObstacleAt : Class → (ℕ → Log) → ℕ → Type 0
 ObstacleAt shared f c = Clash f c
 ObstacleAt lastprivate f c = Stale f c
 ObstacleAt copied f c = Late f c
-ObstacleAt reduction f c = Stale f c ⊎ Mixed f c
+ObstacleAt (reduction o) f c = Stale f c ⊎ Mixed f c
 
 -- some cell has an obstacle
 abbrev pub Obstacle : Loop → (ℕ → Log) → Type 0
@@ -74,7 +74,7 @@ module _ (γ : ℕ → ℕ) (g : Log) (c : ℕ) where
   obstacle-at? shared = clash?
   obstacle-at? lastprivate = stale?
   obstacle-at? copied = late?
-  obstacle-at? reduction = either? stale? mixed?
+  obstacle-at? (reduction o) = either? stale? mixed?
 
 abbrev pub cell : Access → ℕ
 cell (access k i c v) = c
@@ -89,8 +89,8 @@ module _ (l : Loop) (γ : ℕ → ℕ) (g : Log) where
   at-below shared c (i, j, n, w, o) = has-over (has-all γ i g w)
   at-below lastprivate c (i, j, n, w, o) = has-over (has-all γ i g w)
   at-below copied c (i, j, n, w, o) = has-over (has-all γ i g w)
-  at-below reduction c (inl (i, j, n, w, o)) = has-over (has-all γ i g w)
-  at-below reduction c (inr (i, j, u, o)) = has-over (has-all γ i g u)
+  at-below (reduction q) c (inl (i, j, n, w, o)) = has-over (has-all γ i g w)
+  at-below (reduction q) c (inr (i, j, u, o)) = has-over (has-all γ i g u)
 
   unfoldable pub obstructed? : Dec (Obstructed l γ g)
   obstructed? = change (λ (c, b, o). (c, o)) (λ (c, o). (c, at-below (l .class c) c o, o))

@@ -2,13 +2,13 @@
 use mathlib.Core.Path.{_≡_}
 use Prim.Native.Nat.{ℕ, suc, _≤_, _<_}
 use lib.IntN.{ℤ}
-use Rattle.rules.specs.Loop.{Act, read, write, update, fault, done, Class, reduction, Loop, Partition}
+use Rattle.rules.specs.Loop.{Act, read, write, update, fault, done, Class, Reduces, Loop, Partition}
 
 -- only reduction cells are updated
 abbrev pub Sums : (ℕ → Class) → Act → Type 0
 Sums k (read c a) = (x : ℤ) → Sums k (a x)
 Sums k (write c v a) = Sums k a
-Sums k (update c v a) = (k c ≡ reduction) × Sums k a
+Sums k (update c v a) = Reduces (k c) × Sums k a
 Sums k (fault n t) = Unit {0}
 Sums k done = Unit {0}
 
@@ -34,8 +34,3 @@ pub record Proper (l : Loop) (δ : Partition) : Type 0 where
   pub sums : (i : ℕ) → Sums (l .class) (l .body i)
   -- "A subscript is tested against its array ... as soon as it is worked out", so before the access
   pub sized : (i : ℕ) → Sized (l .size) (l .body i)
-  -- a wrapped sum may be taken in any order. `zero` need be neutral only for sums: a wrapped sum brings any number into range
-  pub plus-assoc : (x y z : ℤ) → l .plus (l .plus x y) z ≡ l .plus x (l .plus y z)
-  pub plus-comm : (x y : ℤ) → l .plus x y ≡ l .plus y x
-  pub plus-zero : (x y : ℤ) → l .plus (l .plus x y) (l .zero) ≡ l .plus x y
-  pub zero-zero : l .plus (l .zero) (l .zero) ≡ l .zero

@@ -5,7 +5,7 @@ use Prim.Native.Nat.{ℕ, zero, suc}
 use native.Mathlib.Omega.{arith}
 use lib.IntN.{ℤ}
 use Rattle.rules.specs.Choose.{put}
-use Rattle.rules.specs.Loop.{Act, read, write, update, fault, done, Loop}
+use Rattle.rules.specs.Loop.{Act, read, write, update, fault, done, Loop, joining}
 use Rattle.rules.specs.Log.{reads, writes, updates, access, Log}
 
 -- a fault with its number, its line and its iteration
@@ -21,11 +21,11 @@ pub record Result : Type 0 where
 module _ (l : Loop) where
   -- iteration i goes on with a over the cells m; after it comes `next`.
   -- "A read gives the cell as it now stands, whatever its clause; a write stores in place; an update adds its remainder to the cell";
-  -- "the first fault ends the run"
+  -- document 02, Point 6: or multiplies the cell by it, or leaves the larger of the two. "The first fault ends the run"
   unfoldable pub along : ℕ → Act → (ℕ → ℤ) → Log → ((ℕ → ℤ) → Log → Result) → Result
   along i (read c k) m g next = along i (k (m c)) m (access reads i c (m c) ∷ g) next
   along i (write c v a) m g next = along i a (put m c v) (access writes i c v ∷ g) next
-  along i (update c v a) m g next = along i a (put m c (l .plus (m c) v)) (access updates i c v ∷ g) next
+  along i (update c v a) m g next = along i a (put m c (joining l c .join (m c) v)) (access updates i c v ∷ g) next
   along i (fault n t) m g next = record { cells = m; log = g; outcome = failed n t i }
   along i done m g next = next m g
 

@@ -33,7 +33,7 @@ abbrev pub stored : Class → (ℕ → ℤ) → ℕ → ℤ → ℕ → ℤ
 stored shared m c v = put m c v
 stored lastprivate m c v = m
 stored copied m c v = m
-stored reduction m c v = m
+stored (reduction o) m c v = m
 
 -- processor p makes the access e, which leaves a of its iteration and the shared cells m
 abbrev pub moved : ℕ → Access → Act → (ℕ → ℤ) → State → State
@@ -46,7 +46,7 @@ module _ (l : Loop) (δ : Partition) where
   given shared s i c = s .cells c
   given lastprivate s i c = latest l c (only (δ .group) (δ .group i) (s .log))
   given copied s i c = latest l c (only (δ .group) (δ .group i) (s .log))
-  given reduction s i c = latest l c (only (δ .group) (δ .group i) (s .log))
+  given (reduction o) s i c = latest l c (only (δ .group) (δ .group i) (s .log))
 
   -- processor p "goes on up to and including its next cell access, or ends its iteration if none is left"; "a fault stops its processor for good"
   unfoldable pub go-on : ℕ → Act → State → State

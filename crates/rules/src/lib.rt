@@ -3,7 +3,8 @@
 ghost use mathlib.Core.Path.{_≡_};
 ghost use Prim.Native.Nat.{_≤_, _<_};
 ghost use Rattle.rules.specs.Blocks.{blockStart};
-ghost use Rattle.rules.specs.Numbers.{grouped};
+ghost use Rattle.rules.specs.Numbers.{grouped, operator-by};
+ghost use Rattle.rules.specs.Operation.{operation};
 
 // The index of an iteration, from 0. It is never used for a processor's number.
 pub struct Iteration(pub u32);
@@ -18,6 +19,13 @@ pub struct Processor(pub u32);
 pub enum Grouping {
     Iterations,
     Blocks,
+}
+
+// The operator of a reduction (document 02, Point 6): what an update does to its cell, and partial results to one another.
+pub enum Operator {
+    Sum,
+    Product,
+    Maximum,
 }
 
 // The group of an iteration of a processor.
@@ -35,9 +43,48 @@ pub const SHARED: u32 = 0;
 
 pub const LASTPRIVATE: u32 = 1;
 
-pub const REDUCTION: u32 = 2;
+pub const SUM: u32 = 2;
 
 pub const COPIED: u32 = 3;
+
+pub const PRODUCT: u32 = 4;
+
+pub const MAXIMUM: u32 = 5;
+
+// The operator of a class.
+pub fn operator_of(class: u32) -> Operator
+    ensures { λ r. ⌜ r ≡ operator-by class ⌝ }
+{
+    if class == PRODUCT {
+        return Operator::Product;
+    }
+    if class == MAXIMUM {
+        return Operator::Maximum;
+    }
+    Operator::Sum
+}
+
+// Two numbers brought together by an operator.
+pub fn combine(o: Operator, x: i32, y: i32) -> i32
+    ensures { λ r. ⌜ r ≡ operation o .join x y ⌝ }
+{
+    match o {
+        Operator::Sum => int32::add(x, y),
+        Operator::Product => int32::multiply(x, y),
+        Operator::Maximum => int32::maximum(x, y),
+    }
+}
+
+// The number that a partial result begins with.
+pub fn neutral(o: Operator) -> i32
+    ensures { λ r. ⌜ r ≡ operation o .start ⌝ }
+{
+    match o {
+        Operator::Sum => 0,
+        Operator::Product => 1,
+        Operator::Maximum => -2147483648,
+    }
+}
 
 // A processor's place among the records.
 pub fn index_of(p: Processor) -> usize

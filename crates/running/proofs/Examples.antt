@@ -1,4 +1,4 @@
--- The examples of document 01, and of document 02, Points 1 to 3, as rows of one table: what the definitions give, and what the documents say. Loops are given by
+-- The examples of document 01, and of document 02, Points 1 to 3, 5 and 6, as rows of one table: what the definitions give, and what the documents say. Loops are given by
 -- their texts.
 use mathlib.Core.Path.{_≡_, refl}
 use mathlib.Core.List.{List, [], _∷_, _++_, map}
@@ -7,7 +7,7 @@ use Prim.Native.String.{String}
 use native.Mathlib.Decide.{ℕ-discrete, decLt}
 use lib.IntN.{ℤ, pos, negℤ}
 use lib.ListN.{length, replicate}
-use Rattle.int32.specs.Integers.{word, value, wrap, sum, difference, negation, product, quotient, rdiv, bySigns, evenOf, nearer, nearest, related}
+use Rattle.int32.specs.Integers.{word, value, wrap, sum, difference, negation, product, greater, larger, quotient, rdiv, bySigns, evenOf, nearer, nearest, related}
 use Rattle.rules.specs.Choose.{pick, below, put}
 use Rattle.rules.specs.Cells.{cellOf, listed}
 use Rattle.rules.specs.Owner.{owner}
@@ -18,7 +18,7 @@ use Rattle.rules.specs.Marks.{mark1?, mark2?, mark4?, weight, marks}
 use Rattle.rules.specs.Obstacles.{clash?, stale?, late?, mixed?, obstacle-at?, obstructed?}
 use Rattle.rules.specs.Steps.{go-on, step, steps, through, through-all, run-out, run-on, trial, is-fault?, stopped?, faulty?}
 use Rattle.rules.specs.Serial.{along, from, serial, finished?}
-use Rattle.rules.specs.Merge.{highest, updated, add, total, sum-of, block, gathered, merged, touches, count, pairs, written-cells}
+use Rattle.rules.specs.Merge.{highest, updated, add, total, join-all, block, gathered, merged, touches, count, pairs, written-cells}
 use Rattle.rules.specs.Answer.{viewed, look, trial-passes?, serial-passes?, again, run-by, run, settled-by, settled}
 use Rattle.syntax.specs.Bytes.{bytes, lines, token-size, tokens-after, trimmed}
 use Rattle.syntax.specs.Grammar.{number-from, show, showTerms, showTerm, showFactors, showFactor, showRef}
@@ -26,11 +26,11 @@ use Rattle.syntax.specs.Known.{find, then-do, values, class-in, after}
 use Rattle.syntax.specs.Conditions.{mentions, inTerms, inTerm, inFactors, inFactor, inRef, inLine, names, limits, stands}
 use Rattle.syntax.specs.Reader.{readExpr, readTerms, readTerm, readFactors, readFactor, readRef, readMore, readDeclare, readGive, readClauses, readDirective, readLoop, readAssign, readWhen, readEnd, readStart, readLine, parse}
 use Rattle.syntax.specs.Text.{Verdict, refused, good, judged, judge-line, judge, read, loaded}
-use Rattle.syntax.specs.Meaning.{no-zeros, alike, summand, is-update, remainder, located, divides, eval, evalTerms, evalTerm, evalFactors, evalFactor, place, assigned, exec, class-of, loopOf, partitionOf}
+use Rattle.syntax.specs.Meaning.{no-zeros, alike, summand, multiplicand, alone, rival, is-update, remainder, located, divides, called, eval, evalTerms, evalTerm, evalFactors, evalFactor, place, assigned, exec, class-of, loopOf, partitionOf}
 use Rattle.answers.specs.declared.Checked.{Checked}
 use Rattle.answers.specs.declared.Checked.the-variants.{Sizes, Refused}
 use Rattle.answers.specs.declared.Ran.{Ran}
-use Rattle.answers.specs.declared.Ran.the-variants.{Passed, Rerun, Refused as Unfit}
+use Rattle.answers.specs.declared.Ran.the-variants.{Passed, Rerun, Faulted, Refused as Unfit}
 use Rattle.answers.specs.Answers.{checkOf, cellsLoaded, viewShown, answered, runOf, cellsRun}
 use Rattle.int32.specs.Integers as integers
 use Rattle.rules.specs.Merge as merge
@@ -125,6 +125,13 @@ abbrev wording-first : List ℕ
 wording-first =
     dealing "integer firstprivate" "firstprivate(firstprivate) lastprivate(firstprivate) num_threads(2)" "do i = 1, 1" ("firstprivate = i" ∷ [])
 
+-- Document 02, Point 6: loops of these names, bounds and statements over two processors, where x is a product's, and a maximum's
+abbrev weighing : String → String → List String → List ℕ
+weighing names bounds body = dealing names "num_threads(2) reduction(*:x)" bounds body
+
+abbrev peaking : String → String → List String → List ℕ
+peaking names bounds body = dealing names "num_threads(2) reduction(max:x)" bounds body
+
 -- a text, and blanks up to n bytes
 abbrev up-to : ℕ → List ℕ → List ℕ
 up-to n t = t ++ replicate (n - length t) 32
@@ -182,6 +189,23 @@ stepped t n ps = by-steps (read t) (lent t n) ps
 -- Run of a statement or two over these bounds, on s alone
 abbrev net : String → List String → ℤ → Shown
 net bounds body z = ran-on (netting "integer s" bounds body) (z ∷ []) []
+
+-- Run of a statement, twice, over a product's x and a, b, c; over a maximum's x and a; once over x and a(2), all shared
+abbrev weighed : String → List ℤ → Shown
+weighed statement m = ran-on (weighing "integer x, a, b, c" "do i = 1, 2" (statement ∷ [])) m (1 ∷ [])
+
+abbrev peaked : String → List ℤ → Shown
+peaked statement m = ran-on (peaking "integer x, a" "do i = 1, 2" (statement ∷ [])) m (1 ∷ [])
+
+abbrev larger-of : String → List ℕ
+larger-of statement = dealing "integer x, a(2)" "num_threads(2)" "do i = 1, 1" (statement ∷ [])
+
+abbrev compared : String → Shown
+compared statement = ran-on (larger-of statement) (pos 0 ∷ pos 0 ∷ pos 0 ∷ []) []
+
+-- cells of x, a, b and c
+abbrev four : ℕ → ℕ → ℕ → ℕ → List ℤ
+four x a b c = pos x ∷ pos a ∷ pos b ∷ pos c ∷ []
 
 -- cells before the recurrence, and after it
 abbrev fives : List ℤ
@@ -307,6 +331,67 @@ rows =
     ∷ row (checked (read-first "num_threads(9) lastprivate(z) firstprivate(z)")) (checks (Refused 4 2))
     ∷ row (checked (read-first "num_threads(2) lastprivate(z) firstprivate()")) (checks (Refused 2 2))
     ∷ row (checked wording-first) (checks (Sizes 1 2))
+    -- document 02, Point 6: products and maxima, under one order of steps and by the step rule
+    ∷ row (ran-on (weighing "integer x" "do i = 1, 5" ("x = x * i" ∷ [])) (pos 3 ∷ []) (1 ∷ 0 ∷ [])) (ends (Passed 5 1) (pos 360 ∷ []))
+    ∷ row (by-steps (read (weighing "integer x" "do i = 1, 5" ("x = x * i" ∷ []))) (pos 3 ∷ []) (1 ∷ 0 ∷ [])) (ends (Passed 5 1) (pos 360 ∷ []))
+    ∷ row (ran-on (weighing "integer x" "do i = 1, 2" ("x = x * 50000" ∷ [])) (pos 3 ∷ []) []) (ends (Passed 2 1) (minus 1089934592 ∷ []))
+    ∷ row (ran-on (peaking "integer x, a(3)" "do i = 1, 3" ("x = max(x, a(i))" ∷ [])) (minus 9 ∷ minus 7 ∷ minus 3 ∷ minus 5 ∷ []) (1 ∷ []))
+    (ends (Passed 3 1) (minus 3 ∷ minus 7 ∷ minus 3 ∷ minus 5 ∷ []))
+    ∷ row (by-steps (read (peaking "integer x, a(3)" "do i = 1, 3" ("x = max(x, a(i))" ∷ []))) (minus 9 ∷ minus 7 ∷ minus 3 ∷ minus 5 ∷ []) (1 ∷ []))
+    (ends (Passed 3 1) (minus 3 ∷ minus 7 ∷ minus 3 ∷ minus 5 ∷ []))
+    ∷ row (ran-on (peaking "integer x, a" "do i = 1, 1" ("x = max(x, a)" ∷ [])) (minus 9 ∷ minus 12 ∷ []) []) (ends (Passed 1 1) (minus 9 ∷ minus 12 ∷ []))
+    ∷ row (peaked "x = max(x, a)" (pos 100 ∷ pos 7 ∷ [])) (ends (Passed 2 1) (pos 100 ∷ pos 7 ∷ []))
+    ∷ row (peaked "x = max(x, -a)" (minus 9 ∷ pos 7 ∷ [])) (ends (Passed 2 1) (minus 7 ∷ pos 7 ∷ []))
+    -- the remainder of a product: brackets may hold any sign
+    ∷ row (weighed "x = x * (a + b) * c" (four 2 1 2 5)) (ends (Passed 2 1) (four 450 1 2 5))
+    ∷ row (weighed "x = x * rdiv(a - b, c / c) * max(a, b + 1)" (four 2 5 3 1)) (ends (Passed 2 1) (four 200 5 3 1))
+    ∷ row (weighed "x = x * a / b" (four 4 3 2 0)) (ends (Rerun 2 1) (four 9 3 2 0))
+    ∷ row (weighed "x = x * a + b" (four 4 3 2 0)) (ends (Rerun 2 1) (four 44 3 2 0))
+    ∷ row (weighed "x = a * x" (four 4 3 0 0)) (ends (Rerun 2 1) (four 36 3 0 0))
+    ∷ row (weighed "x = (x) * a" (four 4 3 0 0)) (ends (Rerun 2 1) (four 36 3 0 0))
+    ∷ row (weighed "x = -x * a" (four 4 3 0 0)) (ends (Rerun 2 1) (four 36 3 0 0))
+    ∷ row (checked (weighing "integer x" "do i = 1, 2" ("x = x * -1" ∷ []))) (checks (Refused 2 4))
+    -- what is no maximum update
+    ∷ row (peaked "x = max(a, x)" (pos 4 ∷ pos 9 ∷ [])) (ends (Rerun 2 1) (pos 9 ∷ pos 9 ∷ []))
+    ∷ row (peaked "x = max((x), a)" (pos 4 ∷ pos 9 ∷ [])) (ends (Rerun 2 1) (pos 9 ∷ pos 9 ∷ []))
+    ∷ row (peaked "x = max(x, a) + 0" (pos 4 ∷ pos 9 ∷ [])) (ends (Rerun 2 1) (pos 9 ∷ pos 9 ∷ []))
+    ∷ row (peaked "x = (max(x, a))" (pos 4 ∷ pos 9 ∷ [])) (ends (Rerun 2 1) (pos 9 ∷ pos 9 ∷ []))
+    -- each name has the update of its own clause only
+    ∷ row (weighed "x = x + a" (four 4 3 0 0)) (ends (Rerun 2 1) (four 10 3 0 0))
+    ∷ row (weighed "x = max(x, a)" (four 4 3 0 0)) (ends (Rerun 2 1) (four 4 3 0 0))
+    ∷ row (peaked "x = x - a" (pos 4 ∷ pos 9 ∷ [])) (ends (Rerun 2 1) (minus 14 ∷ pos 9 ∷ []))
+    ∷ row (peaked "x = x * a" (pos 4 ∷ pos 9 ∷ [])) (ends (Rerun 2 1) (pos 324 ∷ pos 9 ∷ []))
+    ∷ row (net "do i = 1, 2" ("s = s * 2" ∷ []) (pos 5)) (ends (Rerun 2 1) (pos 20 ∷ []))
+    ∷ row (net "do i = 1, 2" ("s = max(s, 9)" ∷ []) (pos 5)) (ends (Rerun 2 1) (pos 9 ∷ []))
+    -- an update beside an ordinary access; its mark
+    ∷ row (ran-on (weighing "integer x, t" "do i = 1, 1" ("x = x * 2" ∷ "t = x" ∷ [])) (pos 5 ∷ pos 0 ∷ []) []) (ends (Rerun 2 2) (pos 10 ∷ pos 10 ∷ []))
+    ∷ row (looked-on (weighing "integer x" "do i = 1, 5" ("x = x * i" ∷ [])) (pos 3 ∷ []) (0 ∷ [])) (views (3 ∷ 8 ∷ []))
+    -- the subscript comes first, and x itself is not read; the arguments of max from the left
+    ∷ row (ran-on (dealing "integer a(2)" "num_threads(2) reduction(max:a)" "do i = 1, 1" ("a(9) = max(a(9), 1/0)" ∷ [])) (pos 0 ∷ pos 0 ∷ []) [])
+    (ends (Faulted 9 4 (pos 1)) (pos 0 ∷ pos 0 ∷ []))
+    ∷ row (compared "x = max(a(9), 1/0)") (ends (Faulted 9 4 (pos 1)) (pos 0 ∷ pos 0 ∷ pos 0 ∷ []))
+    ∷ row (compared "x = max(1/0, a(9))") (ends (Faulted 10 4 (pos 1)) (pos 0 ∷ pos 0 ∷ pos 0 ∷ []))
+    ∷ row (compared "x = 3 * max(2, 5) + max(-4, -1)") (ends (Passed 1 1) (pos 14 ∷ pos 0 ∷ pos 0 ∷ []))
+    -- max has two arguments, and its bracket counts
+    ∷ row (checked (larger-of "x = max(1)")) (checks (Refused 2 4))
+    ∷ row (checked (larger-of "x = max(1, 2, 3)")) (checks (Refused 2 4))
+    ∷ row (checked (larger-of "x = max 1, 2")) (checks (Refused 2 4))
+    ∷ row (checked (larger-of "x = max(2, (((((((1))))))))")) (checks (Sizes 3 2))
+    ∷ row (checked (larger-of "x = max(2, ((((((((1)))))))))")) (checks (Refused 4 4))
+    ∷ row (checked (peaking "integer x, a" "do i = 1, 1" ("x = max(x, ((((((((1)))))))))" ∷ []))) (checks (Refused 4 4))
+    -- the clauses: in any case, in one directive; a name in two or twice in one, another operator; `max` is no name
+    ∷ row (checked (read-first "REDUCTION ( Max : z ) num_threads(2) reduction(*:y)")) (checks (Sizes 2 2))
+    ∷ row (checked (read-first "num_threads(2) reduction(*:z) reduction(max:z)")) (checks (Refused 3 2))
+    ∷ row (checked (read-first "num_threads(2) reduction(max:z) reduction(max:z)")) (checks (Refused 3 2))
+    ∷ row (checked (read-first "num_threads(2) reduction(*:z, z)")) (checks (Refused 3 2))
+    ∷ row (checked (read-first "num_threads(2) reduction(*:z) lastprivate(z)")) (checks (Refused 3 2))
+    ∷ row (checked (read-first "num_threads(2) reduction(-:z)")) (checks (Refused 2 2))
+    ∷ row (checked (read-first "num_threads(2) reduction(min:z)")) (checks (Refused 2 2))
+    ∷ row (checked (read-first "num_threads(2) reduction(max:max)")) (checks (Refused 2 2))
+    ∷ row (checked (dealing "integer max" "num_threads(2)" "do i = 1, 2" [])) (checks (Refused 2 1))
+    ∷ row (checked (dealing "integer x" "num_threads(2)" "do max = 1, 2" [])) (checks (Refused 2 3))
+    ∷ row (checked (larger-of "max = 1")) (checks (Refused 2 4))
+    ∷ row (checked (larger-of "x = max")) (checks (Refused 2 4))
     ∷ row (checked []) (checks (Refused 2 1))
     ∷ row (checked (up-to 2048 rising)) (checks (Sizes 3 2))
     ∷ row (checked (up-to 2049 rising)) (checks (Refused 1 0))
@@ -315,17 +400,17 @@ rows =
 -- every row gives what the documents say
 pub examples : map (λ (r : Row). r .got) rows ≡ map (λ (r : Row). r .want) rows
 unfolding rows rising writing writing-last adding idle reading aiming scattering
-    word value wrap sum difference negation product quotient rdiv bySigns evenOf nearer nearest integers.same related
+    word value wrap sum difference negation product greater larger quotient rdiv bySigns evenOf nearer nearest integers.same related
     blockStart singles blocks tested owner cellOf listed pick below put only written
     change either? both? not? find? kind? has? exposed? ordinary? over one? two? mark1? mark2? mark4? weight marks clash? stale? late? mixed? obstacle-at? obstructed?
-    go-on step steps through through-all run-out run-on trial is-fault? stopped? faulty? along from serial finished? highest updated add total sum-of
+    go-on step steps through through-all run-out run-on trial is-fault? stopped? faulty? along from serial finished? highest updated add total join-all
     block gathered merged touches count merge.sum pairs written-cells
     viewed look trial-passes? serial-passes? again run-by run settled-by settled ℕ-discrete decLt
     lines bytes′.run token-size tokens-after trimmed number-from show showTerms showTerm showFactors showFactor showRef
     find then-do values class-in after mentions inTerms inTerm inFactors inFactor inRef inLine names limits stands
     readExpr readTerms readTerm readFactors readFactor readRef readMore readDeclare readGive readClauses readDirective readLoop readAssign readWhen
     readEnd readStart readLine parse
-    judged judge-line judge read loaded no-zeros alike summand is-update remainder located divides eval evalTerms evalTerm evalFactors evalFactor
+    judged judge-line judge read loaded no-zeros alike summand multiplicand alone rival is-update remainder located divides called eval evalTerms evalTerm evalFactors evalFactor
     place assigned exec class-of loopOf partitionOf
     checkOf cellsLoaded viewShown runOf cellsRun
 examples = refl

@@ -13,14 +13,15 @@ use Rattle.rules.specs.declared.Grouping.{Grouping}
 use Rattle.rules.specs.declared.Grouping.the-variants.{Iterations, Blocks}
 use Rattle.rules.specs.Answer.{Answer, passed, rerun, faulted, Ending, wordless, AlikeButForTheWord, settled}
 use Rattle.rules.specs.Blocks.{singles, tested}
-use Rattle.rules.specs.Loop.{shared, lastprivate, copied, reduction}
+use Rattle.rules.specs.Loop.{lastprivate, copied, reduction}
 use Rattle.rules.specs.Numbers.{grouped}
 use Rattle.rules.proofs.AnswerRun.{settled-alike}
 use Rattle.rules.proofs.CoarserRun.{has-passed, settled-coarser}
 use Rattle.syntax.specs.Bytes.{any, same}
 use Rattle.syntax.specs.declared.ClauseKind.{ClauseKind}
+use Rattle.syntax.specs.declared.ClauseKind.the-variants.{Shared, Lastprivate, Firstprivate, Reduction}
 use Rattle.syntax.specs.Grammar.{number, Clause, clause, threads, static}
-use Rattle.syntax.specs.Known.{State, nothing, threads-in, processors-by, statics-in, grouping-by, names-in, in-lastprivate, in-firstprivate, in-reduction, class-in}
+use Rattle.syntax.specs.Known.{State, nothing, threads-in, processors-by, statics-in, grouping-by, names-in, in-lastprivate, in-firstprivate, reduced-in, class-in}
 use Rattle.syntax.specs.Follows.{Program, InOrder, Follows, learnt}
 use Rattle.syntax.specs.Text.{Verdict, good, read}
 use Rattle.syntax.specs.Meaning.{loopOf, partitionOf}
@@ -155,11 +156,20 @@ same-names d f (clause k y ys ∷ cs) = ap (λ (l : List (List ℕ)). cond (f k)
 same-names d f (threads p ∷ cs) = same-names d f cs
 same-names d f (static ∷ cs) = same-names d f cs
 
--- the class goes by the names in clauses of each kind
-by-names : (cs ds : List Clause) → ((f : ClauseKind → Bool) → names-in f cs ≡ names-in f ds) → (x : List ℕ) → class-in cs x ≡ class-in ds x
+same-reduced : (d : List ℕ) (x : List ℕ) (cs : List Clause) → reduced-in (rethreaded d cs) x ≡ reduced-in cs x
+same-reduced d x [] = refl
+same-reduced d x (clause Shared y ys ∷ cs) = same-reduced d x cs
+same-reduced d x (clause Lastprivate y ys ∷ cs) = same-reduced d x cs
+same-reduced d x (clause Firstprivate y ys ∷ cs) = same-reduced d x cs
+same-reduced d x (clause (Reduction o) y ys ∷ cs) = ap (cond (any (same x) (y ∷ ys)) (reduction o)) (same-reduced d x cs)
+same-reduced d x (threads p ∷ cs) = same-reduced d x cs
+same-reduced d x (static ∷ cs) = same-reduced d x cs
+
+-- the class goes by the names in clauses of each kind, and by what the reduction clauses say
+by-names : (cs ds : List Clause) → ((f : ClauseKind → Bool) → names-in f cs ≡ names-in f ds) → ((x : List ℕ) → reduced-in cs x ≡ reduced-in ds x)
+    → (x : List ℕ) → class-in cs x ≡ class-in ds x
 unfolding class-in
-by-names cs ds h x = λ i. cond (any (same x) (h in-firstprivate i)) copied
-    (cond (any (same x) (h in-lastprivate i)) lastprivate (cond (any (same x) (h in-reduction i)) reduction shared))
+by-names cs ds h r x = λ i. cond (any (same x) (h in-firstprivate i)) copied (cond (any (same x) (h in-lastprivate i)) lastprivate (r x i))
 
 same-statics : (d : List ℕ) (cs : List Clause) → statics-in (rethreaded d cs) ≡ statics-in cs
 same-statics d [] = refl
@@ -174,7 +184,11 @@ other-processors d (threads p ∷ cs) h = refl
 other-processors d (static ∷ cs) h = other-processors d cs h
 
 rethreads : (d : List ℕ) → Redirects (rethreaded d) (λ _. number d) (λ γ. γ)
-rethreads d = record { classes = λ cs. by-names (rethreaded d cs) cs (λ f. same-names d f cs); processors = other-processors d; grouping = λ cs. ap grouping-by (same-statics d cs) }
+rethreads d = record {
+  classes = λ cs. by-names (rethreaded d cs) cs (λ f. same-names d f cs) (λ x. same-reduced d x cs);
+  processors = other-processors d;
+  grouping = λ cs. ap grouping-by (same-statics d cs);
+}
 
 -- what each then makes known, and that Run takes it
 module _ {f : List Clause → List Clause} {P : ℕ → ℕ} {G : Grouping → Grouping} (r : Redirects f P G) (text′ : List ℕ) (p : Program)
@@ -209,6 +223,15 @@ alike-but-for-the-word text text′ p d f f′ M w w′ ps ps′ z z′ =
 -- ---- texts alike in all but the clause
 
 -- the directive without it gives the same classes and the same P
+unscheduled-reduced : (x : List ℕ) (cs : List Clause) → reduced-in (unscheduled cs) x ≡ reduced-in cs x
+unscheduled-reduced x [] = refl
+unscheduled-reduced x (clause Shared y ys ∷ cs) = unscheduled-reduced x cs
+unscheduled-reduced x (clause Lastprivate y ys ∷ cs) = unscheduled-reduced x cs
+unscheduled-reduced x (clause Firstprivate y ys ∷ cs) = unscheduled-reduced x cs
+unscheduled-reduced x (clause (Reduction o) y ys ∷ cs) = ap (cond (any (same x) (y ∷ ys)) (reduction o)) (unscheduled-reduced x cs)
+unscheduled-reduced x (threads p ∷ cs) = unscheduled-reduced x cs
+unscheduled-reduced x (static ∷ cs) = unscheduled-reduced x cs
+
 unscheduled-names : (f : ClauseKind → Bool) (cs : List Clause) → names-in f (unscheduled cs) ≡ names-in f cs
 unscheduled-names f [] = refl
 unscheduled-names f (clause k y ys ∷ cs) = ap (λ (l : List (List ℕ)). cond (f k) (y ∷ (ys ++ l)) l) (unscheduled-names f cs)
@@ -229,7 +252,7 @@ unscheduled-none (static ∷ cs) = unscheduled-none cs
 
 unschedules : Redirects unscheduled (λ p. p) (λ _. Iterations)
 unschedules = record {
-  classes = λ cs. by-names (unscheduled cs) cs (λ f. unscheduled-names f cs);
+  classes = λ cs. by-names (unscheduled cs) cs (λ f. unscheduled-names f cs) (λ x. unscheduled-reduced x cs);
   processors = λ cs h. ap processors-by (unscheduled-threads cs);
   grouping = λ cs. ap grouping-by (unscheduled-none cs);
 }

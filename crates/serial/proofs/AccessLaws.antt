@@ -1,5 +1,5 @@
 -- The accesses of the serial run, noted for one processor.
-use mathlib.Core.Path.{_≡_, sym, _∙_, ap}
+use mathlib.Core.Path.{_≡_, _∙_, ap}
 use mathlib.Core.List.{List, _∷_}
 use Prim.Native.Nat.{ℕ, _≤_, _<_}
 use native.Mathlib.Omega.{arith}
@@ -7,11 +7,11 @@ use lib.ListN.{length, set}
 use lib.IntN.{ℤ}
 use mir.Syntax.{w32}
 use mir.Val.{SFits}
-use Rattle.int32.specs.Integers.{sum}
 use Rattle.rules.specs.Choose.{put}
 use Rattle.rules.specs.Cells.{cellOf, listed}
 use Rattle.rules.proofs.CellsLaws.{listed-length, cell-listed}
-use Rattle.rules.specs.Loop.{Loop, Partition}
+use Rattle.rules.specs.Operation.{operation}
+use Rattle.rules.specs.Loop.{Loop, joining, Partition}
 use Rattle.rules.specs.Blocks.{singles}
 use Rattle.rules.specs.Log.{Kind, reads, writes, updates, access, Log}
 use Rattle.rules.specs.LogLaws.{only-other}
@@ -19,9 +19,10 @@ use Rattle.rules.proofs.Progress.{bound-first, bound-last}
 use Rattle.rules.proofs.TrialRun.{home}
 use Rattle.shadow.specs.Orderly.{turn-cons, inside-cons, worker}
 use Rattle.tables.specs.Logged.{Logged}
+use Rattle.tables.proofs.Logged.{logged-operator}
 use Rattle.noting.proofs.Logging.{logged-read, logged-write, logged-update, logged-ready}
 use Rattle.stepping.specs.declared.Role.{Role}
-use Rattle.stepping.specs.Access.{Accessible, seen-by, stored-by, added-by, seen, read-words, stored, written-words, added, updated-words}
+use Rattle.stepping.specs.Access.{Accessible, seen-by, stored-by, joined-by, seen, read-words, stored, written-words, joined, updated-words}
 use Rattle.serial.specs.Serving.{by-one}
 use Rattle.trial.proofs.AccessLaws.{listed-set}
 use Rattle.serial.proofs.Serving.{alone, Serially, Serves}
@@ -82,23 +83,24 @@ module _ (l : Loop) (i c : ℕ) (M : List ℤ) (W : List ℕ) (m : ℕ → ℤ) 
 
   pub serves-read : (y : ℤ) → Serially l i M (read-words x i W c) m (access reads i c y ∷ g)
   unfolding singles
-  serves-read y = more reads y M _ m (s .stands .cells) (logged-read l δ (s .stands .suits .plus) g W (s .stands .words) 0 i c mine (s .inside) low y)
+  serves-read y = more reads y M _ m (s .stands .cells) (logged-read l δ g W (s .stands .words) 0 i c mine (s .inside) low y)
 
   -- "a write stores in place"
   pub serves-write : (y : ℤ) → SFits w32 y → Serially l i (stored x M W c y) (written-words x i W c y) (put m c y) (access writes i c y ∷ g)
   unfolding singles stored-by
   serves-write y f = more writes y (set M c y) _ (put m c y)
       (ap (λ (n : List ℤ). set n c y) (s .stands .cells) ∙ listed-set (l .size) m c y (s .inside))
-      (logged-write l δ (s .stands .suits .plus) g W (s .stands .words) 0 i c mine (s .inside) low y f)
+      (logged-write l δ g W (s .stands .words) 0 i c mine (s .inside) low y f)
 
-  -- "an update adds its remainder to the cell"
-  pub serves-update : (y : ℤ) → Serially l i (added x M c y) (updated-words x i W c y) (put m c (l .plus (m c) y)) (access updates i c y ∷ g)
-  unfolding singles added-by
+  -- "an update adds its remainder to the cell"; document 02, Point 6: or joins it otherwise, by its class
+  pub serves-update : (y : ℤ) → Serially l i (joined x M W c y) (updated-words x i W c y) (put m c (joining l c .join (m c) y)) (access updates i c y ∷ g)
+  unfolding singles joined-by
   serves-update y =
-      let e : sum (cellOf M c) y ≡ l .plus (m c) y = ap (λ (n : ℤ). sum n y) stands-as ∙ sym (ap (λ (f : ℤ → ℤ → ℤ). f (m c) y) (s .stands .suits .plus)) in
-      more updates y (set M c (sum (cellOf M c) y)) _ (put m c (l .plus (m c) y))
-      (ap (λ (n : ℤ). set M c n) e ∙ ap (λ (n : List ℤ). set n c (l .plus (m c) y)) (s .stands .cells) ∙ listed-set (l .size) m c (l .plus (m c) y) (s .inside))
-      (logged-update l δ (s .stands .suits .plus) g W (s .stands .words) 0 i c mine (s .inside) low y)
+      let o = logged-operator l δ g W (s .stands .words) c (s .inside) in
+      let z : ℤ = joining l c .join (m c) y in
+      more updates y _ _ (put m c z)
+      ((λ n. set (s .stands .cells n) c (operation (o n) .join (stands-as n) y)) ∙ listed-set (l .size) m c z (s .inside))
+      (logged-update l δ g W (s .stands .words) 0 i c mine (s .inside) low y)
 
 -- the next iteration
 pub serially-next : (l : Loop) (i j : ℕ) (M : List ℤ) (W : List ℕ) (m : ℕ → ℤ) (g : Log) → i ≤ j → Serially l i M W m g → Serially l j M W m g

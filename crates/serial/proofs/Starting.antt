@@ -20,10 +20,8 @@ unfolding singles
 suits-one k l δ h =
     let p = h .proper in
     record {
-      proper = singles-proper l 1 (omega arith) (p .sums) (p .sized) (p .plus-assoc) (p .plus-comm) (p .plus-zero) (p .zero-zero);
+      proper = singles-proper l 1 (omega arith) (p .sums) (p .sized);
       processors = refl;
-      plus = h .plus;
-      nought = h .nought;
       cells-most = h .cells-most;
       iterations-most = h .iterations-most;
       groups-most = h .iterations-most;

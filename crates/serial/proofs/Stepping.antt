@@ -11,7 +11,7 @@ use lib.IntN.{ℤ}
 use Rattle.rules.specs.Choose.{put}
 use Rattle.rules.specs.ChooseLaws.{pick-same, pick-other, below-yes, below-no}
 use Rattle.rules.proofs.CellsLaws.{listed-length}
-use Rattle.rules.specs.Loop.{Act, Loop}
+use Rattle.rules.specs.Loop.{Act, Loop, joining}
 use Rattle.rules.specs.Log.{reads, writes, updates, access, Log, only}
 use Rattle.rules.specs.Proper.{Sized}
 use Rattle.rules.specs.Serial.{finished, failed, Result, along, from, serial}
@@ -136,7 +136,7 @@ module _ (code : List ℕ) (v : ℤ) (l : Loop) (z : Scene) (m : ℕ → ℤ) (g
         (goes _ e) (u .1)
     by (happening.updates c y f e h w r) =
         let u = sized _ e in
-        moved (put m c (l .plus (m c) y)) (access updates (at z) c y ∷ g) r
+        moved (put m c (joining l c .join (m c) y)) (access updates (at z) c y ∷ g) r
         (rw (h, w) (serves-update l (at z) c (z .cells) (z .words) m g (serves c (u .0)) v y)) (goes _ e) (u .1)
     by (happening.faults n d y e h w i f k r) = (
       m,

@@ -55,8 +55,6 @@ module _ (text : List ℕ) (s : State) (e : read text ≡ good s) (M : List ℤ)
   suits = record {
     proper = accepted-proper text s M e;
     processors = tested-processors (s .grouping) (s .count) (s .processors);
-    plus = refl;
-    nought = refl;
     cells-most = sane .table .few-cells;
     iterations-most = sane .loop (omega (arith, late text s e)) .few-iterations;
     groups-most = tested-groups (s .grouping) (s .count) (s .processors) 65535 (sane .loop (omega (arith, late text s e)) .few-iterations)

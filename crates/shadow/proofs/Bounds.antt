@@ -6,7 +6,7 @@ use Prim.Native.Nat.{ℕ, zero, suc, _≤_, _<_, _+_, _*_}
 use native.Mathlib.Nat.{suc-mul}
 use native.Mathlib.Decide.{decLt}
 use native.Mathlib.Omega.{arith}
-use Rattle.rules.specs.Loop.{Loop, Partition}
+use Rattle.rules.specs.Loop.{Loop, joining, Partition}
 use Rattle.rules.specs.Log.{Log, each, writes, Has, Exposed}
 use Rattle.rules.specs.Proper.{Proper}
 use Rattle.rules.specs.Merge.{touches, count, sum, pairs, written-cells}
@@ -62,14 +62,14 @@ tables-bounded l δ h g x a =
     let t = ascending-groups l δ h x a in
     let u = within-groups l δ h x in
     let w = tables-right l δ h g x a in
-    let j : (c : ℕ) → Judged (δ .group) (whose δ) (δ .groups) c g (table l δ g .rows c) = λ c. judged (δ .group) (whose δ) (l .plus) (l .zero) c
+    let j : (c : ℕ) → Judged (δ .group) (whose δ) (δ .groups) c g (table l δ g .rows c) = λ c. judged (δ .group) (whose δ) (joining l) c
     (δ .groups) g t u in
     record {
       met = λ c. size-most (j c .met);
       writers = λ c. size-part (λ i y. inl y) (j c .writers) (j c .met);
-      wrote = λ c. stamp-most (whose δ) (δ .groups) (j c .wrote) (low (δ .group) (whose δ) (l .plus) (l .zero) (δ .groups) c g t u (Has writes c) has-nil);
-      exposed = λ c. stamp-most (whose δ) (δ .groups) (j c .exposed) (low (δ .group) (whose δ) (l .plus) (l .zero) (δ .groups) c g t u (Exposed c) exposed-nil);
-      touched = λ c. stamp-most (worker l δ) (l .iterations) (touched-right (δ .group) (whose δ) (l .plus) (l .zero) c g a) (touched-low c);
+      wrote = λ c. stamp-most (whose δ) (δ .groups) (j c .wrote) (low (δ .group) (whose δ) (joining l) (δ .groups) c g t u (Has writes c) has-nil);
+      exposed = λ c. stamp-most (whose δ) (δ .groups) (j c .exposed) (low (δ .group) (whose δ) (joining l) (δ .groups) c g t u (Exposed c) exposed-nil);
+      touched = λ c. stamp-most (worker l δ) (l .iterations) (touched-right (δ .group) (whose δ) (joining l) c g a) (touched-low c);
       pair-count = omega (
         arith,
         w .pair-count,
@@ -82,5 +82,5 @@ tables-bounded l δ h g x a =
     touched-low : (c i : ℕ) → touches c (each i g) ≡ true → i < l .iterations
     touched-low c i q = elim (decLt i (l .iterations)) [
       | yes y ↦ y
-      | no y ↦ absurd (touches-nil (δ .group) (whose δ) (l .plus) (l .zero) c (each i g) (within-iterations l δ h x i (omega arith)) q)
+      | no y ↦ absurd (touches-nil (δ .group) (whose δ) (joining l) c (each i g) (within-iterations l δ h x i (omega arith)) q)
     ]

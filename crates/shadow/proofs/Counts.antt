@@ -9,7 +9,7 @@ use native.Mathlib.Omega.{arith}
 use lib.IntN.{ℤ}
 use Rattle.rules.specs.Choose.{pick}
 use Rattle.rules.specs.ChooseLaws.{pick-same, pick-other}
-use Rattle.rules.specs.Loop.{Loop}
+use Rattle.rules.specs.Loop.{Loop, joining}
 use Rattle.rules.specs.Log.{Kind, reads, writes, updates, access, Log, each, only, Has}
 use Rattle.rules.specs.LogLaws.{only-same, only-other, has-only, has-all}
 use Rattle.rules.specs.Merge.{touches, count, sum, pairs, written-cells}
@@ -116,21 +116,21 @@ module _ (L : Loop) (γ π : ℕ → ℕ) where
       (λ j m. ap (count (L .size)) (fun-ext (λ d. each-else l k i c v j d (inl m))))
 
   abbrev all : Log → Tables
-  all l = tables γ π (L .plus) (L .zero) l
+  all l = tables γ π (joining L) l
 
   -- an access that counts
   paired-right : (l : Log) (k : Kind) (i c : ℕ) (v : ℤ) → Counts k → i < L .iterations → c < L .size → InTurn (λ i. i) proc (access k i c v ∷ l)
       → all l .pairs ≡ pairs L l
       → pick (all l .rows c .own (proc i) .touched) (suc i) (all l .pairs) (suc (all l .pairs)) ≡ pairs L (access k i c v ∷ l)
   paired-right l k i c v f a b t h =
-      let s = touched-right γ π (L .plus) (L .zero) c l (turn-tail (λ i. i) proc t) in
+      let s = touched-right γ π (joining L) c l (turn-tail (λ i. i) proc t) in
       elim (ℕ-discrete (all l .rows c .own (proc i) .touched) (suc i)) [
         | yes p ↦
             pick-same p (all l .pairs) (suc (all l .pairs)) ∙ h
             ∙ sym (pairs-same l (access k i c v ∷ l) (each-again l k i c v f (s .down (proc i) i p .1)))
         | no p ↦ pick-other p (all l .pairs) (suc (all l .pairs)) ∙ ap suc h ∙ sym (pairs-more l k i c v f a b (not-true (touches c (each i l))
             (λ q. p (stamp-has proc s
-            (latest-tops (λ i. i) proc (λ m. touches c m ≡ true) (touches-nil γ π (L .plus) (L .zero) c [] refl) i l
+            (latest-tops (λ i. i) proc (λ m. touches c m ≡ true) (touches-nil γ π (joining L) c [] refl) i l
             (turn-newest (λ i. i) proc t))
             q))))
       ]
@@ -156,10 +156,10 @@ module _ (L : Loop) (γ π : ℕ → ℕ) where
     celled-right l k i c v f b t u m h = go (all l .rows c .updated) refl
       where
         m1 : (0 < all l .rows c .writers) ↔ ((g : ℕ) × Has writes c (only γ g l))
-        m1 = mark1-right γ π (L .plus) (L .zero) n c l t u
+        m1 = mark1-right γ π (joining L) n c l t u
 
         m8 : (all l .rows c .updated ≡ true) ↔ Has updates c l
-        m8 = mark8-right γ π (L .plus) (L .zero) n c l t u
+        m8 = mark8-right γ π (joining L) n c l t u
 
         go : (x : Bool) → all l .rows c .updated ≡ x → cond x m (pick (all l .rows c .writers) 0 (suc m) m) ≡ written-cells L (access k i c v ∷ l)
         go true q = h ∙ sym (again l k i c v f (touches-update (m8 .0 q)))

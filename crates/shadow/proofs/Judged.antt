@@ -9,6 +9,7 @@ use native.Mathlib.Omega.{arith}
 use lib.IntN.{ℤ}
 use Rattle.rules.specs.Choose.{pick, put}
 use Rattle.rules.specs.ChooseLaws.{pick-same, pick-other}
+use Rattle.rules.specs.Operation.{Operation}
 use Rattle.rules.specs.Log.{Kind, reads, writes, updates, Access, access, Log, only, Has, newest, older, Exposed, first, earlier}
 use Rattle.rules.specs.LogLaws.{has-nil, exposed-nil}
 use Rattle.rules.specs.Marks.{Mark4}
@@ -88,7 +89,7 @@ module _ (γ π : ℕ → ℕ) (n c : ℕ) (e : Access) (l : Log) (w : Same (W �
     crossed = mark4-same (j .crossed);
   }
 
-module _ (γ π : ℕ → ℕ) (plus : ℤ → ℤ → ℤ) (n c : ℕ) (l : Log) (i : ℕ) (v : ℤ) (r : Row) (low : γ i < n) (late : Latest γ π (γ i) l)
+module _ (γ π : ℕ → ℕ) (op : Operation) (n c : ℕ) (l : Log) (i : ℕ) (v : ℤ) (r : Row) (low : γ i < n) (late : Latest γ π (γ i) l)
     (j : Judged γ π n c l r) where
   abbrev g : ℕ
   g = γ i
@@ -128,7 +129,7 @@ module _ (γ π : ℕ → ℕ) (plus : ℤ → ℤ → ℤ) (n c : ℕ) (l : Log
   read-keeps-E : W γ c l g → Same (E γ c l) (E γ c (access reads i c v ∷ l))
   read-keeps-E w = same-of γ (access reads i c v) l (Exposed c) (exposed-leaves c (only γ (γ i) l) (λ x. x .1 .1 w))
 
-  read-exposed : Stamp π (E γ c (access reads i c v ∷ l)) (λ p. put (r .own) (π g) (kept plus reads g i v o) p .exposed)
+  read-exposed : Stamp π (E γ c (access reads i c v ∷ l)) (λ p. put (r .own) (π g) (kept op reads g i v o) p .exposed)
   read-exposed = elim (ℕ-discrete (o .wrote) (suc g)) [
     | yes p ↦ stamp-keep π (λ (a : Own). a .exposed) (r .own) (read-keeps-E (wrote-yes p)) (pick-same p (o .exposed) (suc g)) (j .exposed)
     | no p ↦ stamp-put π (λ (a : Own). a .exposed) (r .own) (read-adds-E (wrote-no p)) (latest-tops γ π (Exposed c) exposed-nil g l late)
@@ -156,7 +157,7 @@ module _ (γ π : ℕ → ℕ) (plus : ℤ → ℤ → ℤ) (n c : ℕ) (l : Log
     | no p ↦ rw (pick-other p (r .highest) (max (suc g) (r .highest))) (highest-add (read-adds-E (wrote-no p)) (j .recorded .highest))
   ]
 
-  judged-read : Judged γ π n c (access reads i c v ∷ l) (noted plus reads (π (γ i)) (γ i) i v r)
+  judged-read : Judged γ π n c (access reads i c v ∷ l) (noted op reads (π (γ i)) (γ i) i v r)
   judged-read = record {
     wrote = stamp-keep π (λ (a : Own). a .wrote) (r .own) read-keeps-W refl (j .wrote);
     exposed = read-exposed;
@@ -194,7 +195,7 @@ module _ (γ π : ℕ → ℕ) (plus : ℤ → ℤ → ℤ) (n c : ℕ) (l : Log
     )
   ]
 
-  judged-write : Judged γ π n c (access writes i c v ∷ l) (noted plus writes (π (γ i)) (γ i) i v r)
+  judged-write : Judged γ π n c (access writes i c v ∷ l) (noted op writes (π (γ i)) (γ i) i v r)
   judged-write = record {
     wrote = stamp-put π (λ (a : Own). a .wrote) (r .own) write-adds-W (latest-tops γ π (Has writes c) has-nil g l late) refl (j .wrote);
     exposed = stamp-keep π (λ (a : Own). a .exposed) (r .own) write-keeps-E refl (j .exposed);
@@ -211,7 +212,7 @@ module _ (γ π : ℕ → ℕ) (plus : ℤ → ℤ → ℤ) (n c : ℕ) (l : Log
   update-keeps-E : Same (E γ c l) (E γ c (access updates i c v ∷ l))
   update-keeps-E = same-of γ (access updates i c v) l (Exposed c) (exposed-leaves c (only γ (γ i) l) (λ x. apart-ur (x .0)))
 
-  judged-update : Judged γ π n c (access updates i c v ∷ l) (noted plus updates (π (γ i)) (γ i) i v r)
+  judged-update : Judged γ π n c (access updates i c v ∷ l) (noted op updates (π (γ i)) (γ i) i v r)
   judged-update = record {
     wrote = stamp-keep π (λ (a : Own). a .wrote) (r .own) update-keeps-W refl (j .wrote);
     exposed = stamp-keep π (λ (a : Own). a .exposed) (r .own) update-keeps-E refl (j .exposed);
@@ -221,7 +222,7 @@ module _ (γ π : ℕ → ℕ) (plus : ℤ → ℤ → ℤ) (n c : ℕ) (l : Log
     crossed = mark4-same γ π n c (access updates i c v) l update-keeps-W update-keeps-E (j .crossed);
   }
 
-  pub judged-noted : (k : Kind) → Judged γ π n c (access k i c v ∷ l) (noted plus k (π (γ i)) (γ i) i v r)
+  pub judged-noted : (k : Kind) → Judged γ π n c (access k i c v ∷ l) (noted op k (π (γ i)) (γ i) i v r)
   judged-noted reads = judged-read
   judged-noted writes = judged-write
   judged-noted updates = judged-update

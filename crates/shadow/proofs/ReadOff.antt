@@ -6,9 +6,9 @@ use mathlib.Core.Bool.{Bool, true, false, cond}
 use Prim.Native.Nat.{ℕ, _<_}
 use native.Mathlib.Decide.{ℕ-discrete, decLt}
 use native.Mathlib.Omega.{arith}
-use lib.IntN.{ℤ}
 use Rattle.rules.specs.Choose.{below}
 use Rattle.rules.specs.ChooseLaws.{below-yes, below-no}
+use Rattle.rules.specs.Operation.{Operation}
 use Rattle.rules.specs.Loop.{Class, shared, lastprivate, copied, reduction}
 use Rattle.rules.specs.Log.{reads, writes, updates, Log, only, Has, newest, older, Exposed, first, earlier, Ordinary, a-read, a-write}
 use Rattle.rules.specs.LogLaws.{has-nil, has-only, has-all, exposed-nil}
@@ -52,12 +52,12 @@ weight-cond (yes x) b w f = rw (f .1 x)
 weight-cond (no n) true w f = absurd (n (f .0 refl))
 weight-cond (no n) false w f = refl
 
-module _ (γ π : ℕ → ℕ) (plus : ℤ → ℤ → ℤ) (nought : ℤ) (n c : ℕ) (l : Log) (t : InTurn γ π l) (u : Within γ n l) where
+module _ (γ π : ℕ → ℕ) (ops : ℕ → Operation) (n c : ℕ) (l : Log) (t : InTurn γ π l) (u : Within γ n l) where
   abbrev r : Row
-  r = row γ π plus nought c l
+  r = row γ π ops c l
 
   j : Judged γ π n c l r
-  j = judged γ π plus nought c n l t u
+  j = judged γ π ops c n l t u
 
   pub low : (Q : Log → Type 0) → ¬ Q [] → (g : ℕ) → Q (only γ g l) → g < n
   low Q z g x = elim (decLt g n) [ yes y ↦ y | no y ↦ absurd (z (subst Q (u g (omega arith)) x)) ]
@@ -78,7 +78,7 @@ module _ (γ π : ℕ → ℕ) (plus : ℤ → ℤ → ℤ) (nought : ℤ) (n c 
   mark4-right = j .crossed
 
   pub mark8-right : (r .updated ≡ true) ↔ Has updates c l
-  mark8-right = updated-right γ π plus nought c l
+  mark8-right = updated-right γ π ops c l
 
   -- the marks
   pub marks-right : shown r ≡ marks γ c l
@@ -149,7 +149,7 @@ module _ (γ π : ℕ → ℕ) (plus : ℤ → ℤ → ℤ) (nought : ℤ) (n c 
   obstacle-right shared = clash-right
   obstacle-right lastprivate = stale-right
   obstacle-right copied = late-right
-  obstacle-right reduction = (
+  obstacle-right (reduction o) = (
     λ x. elim x [ inl y ↦ inl (stale-right .0 y) | inr y ↦ inr (mixed-right .0 y) ],
     λ x. elim x [ inl y ↦ inl (stale-right .1 y) | inr y ↦ inr (mixed-right .1 y) ],
   )

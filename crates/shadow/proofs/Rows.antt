@@ -1,4 +1,4 @@
--- What the tables of a log hold of a cell: groups that wrote it or read it exposed, private values, sums, and the iterations that wrote or updated it.
+-- What the tables of a log hold of a cell: groups that wrote it or read it exposed, private values, partial results, and iterations that wrote or updated it.
 use mathlib.Core.Path.{_≡_, refl, sym, _∙_, ap, subst}
 use mathlib.Core.Logic.{_≢_, inl, inr, _↔_}
 use mathlib.Core.List.{[], _∷_}
@@ -10,7 +10,7 @@ use native.Mathlib.Omega.{arith}
 use lib.IntN.{ℤ}
 use Rattle.rules.specs.ChooseLaws.{pick-same, pick-other, put-same, put-other}
 use Rattle.rules.specs.Choose.{put}
-use Rattle.rules.specs.Loop.{Loop}
+use Rattle.rules.specs.Operation.{Operation}
 use Rattle.rules.specs.Log.{Kind, reads, writes, updates, Access, access, iteration, Log, only, each, written, Has, newest, Exposed}
 use Rattle.rules.specs.LogLaws.{only-same, only-other, written-newest, written-only-leaving, has-nil, exposed-nil}
 use Rattle.rules.specs.Merge.{touches, add, total}
@@ -28,27 +28,27 @@ module _ (γ π : ℕ → ℕ) where
   pub turn-tail : {e : Access} {l : Log} → InTurn γ π (e ∷ l) → InTurn γ π l
   turn-tail (turn-cons h t) = t
 
-module _ (γ π : ℕ → ℕ) (plus : ℤ → ℤ → ℤ) (nought : ℤ) (c : ℕ) where
+module _ (γ π : ℕ → ℕ) (ops : ℕ → Operation) (c : ℕ) where
   abbrev pub row : Log → Row
-  row l = tables γ π plus nought l .rows c
+  row l = tables γ π ops l .rows c
 
   abbrev pub after : Kind → ℕ → ℤ → Row → Row
-  after k i v r = noted plus k (π (γ i)) (γ i) i v r
+  after k i v r = noted (ops c) k (π (γ i)) (γ i) i v r
 
   pub row-here : (k : Kind) (i : ℕ) (v : ℤ) (l : Log) → row (access k i c v ∷ l) ≡ after k i v (row l)
   unfolding tables note
-  row-here k i v l = put-same refl (tables γ π plus nought l .rows) (after k i v (row l))
+  row-here k i v l = put-same refl (tables γ π ops l .rows) (after k i v (row l))
 
   pub row-else : (k : Kind) (i d : ℕ) (v : ℤ) (l : Log) → d ≢ c → row (access k i d v ∷ l) ≡ row l
   unfolding tables note
-  row-else k i d v l n = put-other n (tables γ π plus nought l .rows) _
+  row-else k i d v l n = put-other n (tables γ π ops l .rows) _
 
-  row-start : row [] ≡ blank γ π plus nought
+  row-start : row [] ≡ blank γ π ops c
   unfolding tables
   row-start = refl
 
   -- by induction: an access of c, and one of another cell
-  module _ (P : Log → Row → Type 0) (start : P [] (blank γ π plus nought))
+  module _ (P : Log → Row → Type 0) (start : P [] (blank γ π ops c))
       (here : (k : Kind) (i : ℕ) (v : ℤ) (l : Log) → P l (row l) → P (access k i c v ∷ l) (after k i v (row l)))
       (else : (k : Kind) (i d : ℕ) (v : ℤ) (l : Log) → d ≢ c → P l (row l) → P (access k i d v ∷ l) (row l)) where
     pub row-ind : (l : Log) → P l (row l)
@@ -85,7 +85,7 @@ module _ (γ π : ℕ → ℕ) (plus : ℤ → ℤ → ℤ) (nought : ℤ) (c : 
           recorded = record { lowest = lowest-none (λ g x. has-nil x); highest = highest-none (λ g x. exposed-nil x) };
           crossed = (λ (q : false ≡ true). absurd (let z : _≡_ {A = ℕ} 0 1 = cc in omega arith), λ (g, x, y). absurd (has-nil y));
         })
-        (λ k i v l h t u. judged-noted γ π plus n c l i v (row l) (within-newest γ n (access k i c v) l u) (turn-newest γ π t)
+        (λ k i v l h t u. judged-noted γ π (ops c) n c l i v (row l) (within-newest γ n (access k i c v) l u) (turn-newest γ π t)
         (h (turn-tail γ π t) (within-tail γ n (access k i c v) l u)) k)
         (λ k i d v l m h t u. judged-same γ π n c (access k i d v) l
         (same-of γ (access k i d v) l (Has writes c) (has-leaves c writes (only γ (γ i) l) (λ x. m (x .1))))
@@ -115,10 +115,10 @@ module _ (γ π : ℕ → ℕ) (plus : ℤ → ℤ → ℤ) (nought : ℤ) (c : 
             ∙ ap some (sym (put-keeps (λ (s : Own). s .value) (row l .own) (π (γ i)) o b p))
 
         here : (k : Kind) (i : ℕ) (v : ℤ) (l : Log) → Valued l (row l) → Judged γ π n c l (row l) → Valued (access k i c v ∷ l) (after k i v (row l))
-        here reads i v l h j p g q = leaves reads i v l (λ a. refl) (kept plus reads (γ i) i v (row l .own (π (γ i)))) refl refl h p g q
-        here updates i v l h j p g q = leaves updates i v l (λ a. refl) (kept plus updates (γ i) i v (row l .own (π (γ i)))) refl refl h p g q
+        here reads i v l h j p g q = leaves reads i v l (λ a. refl) (kept (ops c) reads (γ i) i v (row l .own (π (γ i)))) refl refl h p g q
+        here updates i v l h j p g q = leaves updates i v l (λ a. refl) (kept (ops c) updates (γ i) i v (row l .own (π (γ i)))) refl refl h p g q
         here writes i v l h j p g q =
-            let o = kept plus writes (γ i) i v (row l .own (π (γ i))) in
+            let o = kept (ops c) writes (γ i) i v (row l .own (π (γ i))) in
             elim (ℕ-discrete (π (γ i)) p) [
               | yes e ↦
                   let s = put-same e (row l .own) o in
@@ -158,50 +158,50 @@ module _ (γ π : ℕ → ℕ) (plus : ℤ → ℤ → ℤ) (nought : ℤ) (c : 
           (adds-of (λ i. i) (access updates i c v) l (λ a. touches c a ≡ true) (λ x. pick-same refl true _) (pick-same refl true _))
           (latest-tops (λ i. i) (λ i. π (γ i)) (λ a. touches c a ≡ true) (touches-nil [] refl) i l t) refl h
 
--- the partial sums: what the processor's accesses add
-module _ (γ π : ℕ → ℕ) (L : Loop) (c : ℕ) where
+-- the partial results: what the processor's accesses add up to
+module _ (γ π : ℕ → ℕ) (ops : ℕ → Operation) (c : ℕ) where
   abbrev proc : ℕ → ℕ
   proc i = π (γ i)
 
-  abbrev Summed : Log → Row → Type 0
-  Summed l r = (p : ℕ) → r .own p .sum ≡ total L c (only proc p l)
+  abbrev Joined : Log → Row → Type 0
+  Joined l r = (p : ℕ) → r .own p .partial ≡ total (ops c) c (only proc p l)
 
-  pub summed : (l : Log) → Summed l (row γ π (L .plus) (L .zero) c l)
+  pub joined : (l : Log) → Joined l (row γ π ops c l)
   unfolding only total add
-  summed = row-ind γ π (L .plus) (L .zero) c Summed (λ p. refl) here else
+  joined = row-ind γ π ops c Joined (λ p. refl) here else
     where
       at : Log → Row
-      at l = row γ π (L .plus) (L .zero) c l
+      at l = row γ π ops c l
 
       -- an access that adds nothing to c
-      leaves : (e : Access) (l : Log) → ((x : ℤ) → add L c e x ≡ x) → (p : ℕ) → total L c (only proc p (e ∷ l)) ≡ total L c (only proc p l)
+      leaves : (e : Access) (l : Log) → ((x : ℤ) → add (ops c) c e x ≡ x) → (p : ℕ) → total (ops c) c (only proc p (e ∷ l)) ≡ total (ops c) c (only proc p l)
       leaves e l f p = elim (ℕ-discrete (proc (iteration e)) p) [
-        | yes q ↦ ap (total L c) (only-same proc e q l) ∙ f (total L c (only proc p l))
-        | no m ↦ ap (total L c) (only-other proc e m l)
+        | yes q ↦ ap (total (ops c) c) (only-same proc e q l) ∙ f (total (ops c) c (only proc p l))
+        | no m ↦ ap (total (ops c) c) (only-other proc e m l)
       ]
 
-      keeps : (e : Access) (l : Log) → ((x : ℤ) → add L c e x ≡ x) → (q : ℕ) (o : Own) → o .sum ≡ at l .own q .sum → Summed l (at l) → (p : ℕ)
-          → put (at l .own) q o p .sum ≡ total L c (only proc p (e ∷ l))
-      keeps e l f q o a h p = put-keeps (λ (s : Own). s .sum) (at l .own) q o a p ∙ h p ∙ sym (leaves e l f p)
+      keeps : (e : Access) (l : Log) → ((x : ℤ) → add (ops c) c e x ≡ x) → (q : ℕ) (o : Own) → o .partial ≡ at l .own q .partial → Joined l (at l) → (p : ℕ)
+          → put (at l .own) q o p .partial ≡ total (ops c) c (only proc p (e ∷ l))
+      keeps e l f q o a h p = put-keeps (λ (s : Own). s .partial) (at l .own) q o a p ∙ h p ∙ sym (leaves e l f p)
 
-      here : (k : Kind) (i : ℕ) (v : ℤ) (l : Log) → Summed l (at l) → Summed (access k i c v ∷ l) (after γ π (L .plus) (L .zero) c k i v (at l))
-      here reads i v l h p = keeps (access reads i c v) l (λ x. refl) (proc i) (kept (L .plus) reads (γ i) i v (at l .own (proc i))) refl h p
-      here writes i v l h p = keeps (access writes i c v) l (λ x. refl) (proc i) (kept (L .plus) writes (γ i) i v (at l .own (proc i))) refl h p
+      here : (k : Kind) (i : ℕ) (v : ℤ) (l : Log) → Joined l (at l) → Joined (access k i c v ∷ l) (after γ π ops c k i v (at l))
+      here reads i v l h p = keeps (access reads i c v) l (λ x. refl) (proc i) (kept (ops c) reads (γ i) i v (at l .own (proc i))) refl h p
+      here writes i v l h p = keeps (access writes i c v) l (λ x. refl) (proc i) (kept (ops c) writes (γ i) i v (at l .own (proc i))) refl h p
       here updates i v l h p =
-          let o = kept (L .plus) updates (γ i) i v (at l .own (proc i)) in
+          let o = kept (ops c) updates (γ i) i v (at l .own (proc i)) in
           elim (ℕ-discrete (proc i) p) [
             | yes q ↦
-                ap (λ (s : Own). s .sum) (put-same q (at l .own) o) ∙ ap (L .plus v) (h (proc i))
-                ∙ ap (λ (j : ℕ). L .plus v (total L c (only proc j l))) q
-                ∙ sym (pick-same refl (L .plus v (total L c (only proc p l))) (total L c (only proc p l)))
-                ∙ ap (total L c) (sym (only-same proc (access updates i c v) q l))
-            | no m ↦ ap (λ (s : Own). s .sum) (put-other m (at l .own) o) ∙ h p ∙ ap (total L c) (sym (only-other proc (access updates i c v) m l))
+                ap (λ (s : Own). s .partial) (put-same q (at l .own) o) ∙ ap (ops c .join v) (h (proc i))
+                ∙ ap (λ (j : ℕ). ops c .join v (total (ops c) c (only proc j l))) q
+                ∙ sym (pick-same refl (ops c .join v (total (ops c) c (only proc p l))) (total (ops c) c (only proc p l)))
+                ∙ ap (total (ops c) c) (sym (only-same proc (access updates i c v) q l))
+            | no m ↦ ap (λ (s : Own). s .partial) (put-other m (at l .own) o) ∙ h p ∙ ap (total (ops c) c) (sym (only-other proc (access updates i c v) m l))
           ]
 
-      else : (k : Kind) (i d : ℕ) (v : ℤ) (l : Log) → d ≢ c → Summed l (at l) → Summed (access k i d v ∷ l) (at l)
+      else : (k : Kind) (i d : ℕ) (v : ℤ) (l : Log) → d ≢ c → Joined l (at l) → Joined (access k i d v ∷ l) (at l)
       else k i d v l m h p = h p ∙ sym (leaves (access k i d v) l (go k) p)
         where
-          go : (k : Kind) (x : ℤ) → add L c (access k i d v) x ≡ x
+          go : (k : Kind) (x : ℤ) → add (ops c) c (access k i d v) x ≡ x
           go reads x = refl
           go writes x = refl
-          go updates x = pick-other m (L .plus v x) x
+          go updates x = pick-other m (ops c .join v x) x

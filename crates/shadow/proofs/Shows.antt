@@ -10,7 +10,8 @@ use native.Mathlib.Omega.{arith}
 use lib.IntN.{ℤ}
 use Rattle.rules.specs.Choose.{below}
 use Rattle.rules.specs.ChooseLaws.{below-yes, below-no}
-use Rattle.rules.specs.Loop.{Class, shared, lastprivate, copied, reduction, Loop, bound, Partition}
+use Rattle.rules.specs.Operation.{operation}
+use Rattle.rules.specs.Loop.{Class, shared, lastprivate, copied, reduction, operator, Loop, joining, bound, Partition}
 use Rattle.rules.specs.Log.{Kind, access, Log, only, each, written, Has, newest, older}
 use Rattle.rules.specs.LogLaws.{only-same, only-other, only-nil, has-all}
 use Rattle.rules.specs.Obstacles.{ObstacleAt, Obstructed}
@@ -19,16 +20,16 @@ use Rattle.rules.proofs.Progress.{owner-from, owner-to, bounds-grow, group-hold
 use Rattle.rules.specs.Owner.{owner, whose}
 use Rattle.rules.specs.Steps.{State}
 use Rattle.rules.proofs.TrialRun.{home}
-use Rattle.rules.specs.Merge.{highest, updated, block, total, sum-of, gathered, merged-as, merged, pairs, written-cells}
+use Rattle.rules.specs.Merge.{highest, updated, block, total, join-all, gathered, merged-as, merged, pairs, written-cells}
 use Rattle.rules.proofs.TouchLaws.{updated-has, has-updated, both-ways}
-use Rattle.rules.proofs.SumLaws.{Within, sum-same}
+use Rattle.rules.proofs.SumLaws.{Within, join-same}
 use Rattle.rules.specs.Marks.{marks}
 use Rattle.rules.specs.Record.{Recorded}
 use Rattle.shadow.specs.Tables.{Row, Tables, table, shown, Blocked, chosen, own-value, last-own}
 use Rattle.shadow.proofs.Sets.{Stamp}
 use Rattle.shadow.proofs.Judged.{W}
 use Rattle.shadow.specs.Orderly.{Latest, InTurn, turn-nil, turn-cons, Inside, inside-nil, inside-cons, worker, Ascending}
-use Rattle.shadow.proofs.Rows.{judged, valued, summed}
+use Rattle.shadow.proofs.Rows.{judged, valued, joined}
 use Rattle.shadow.proofs.ReadOff.{marks-right, obstacle-right, mark8-right}
 use Rattle.shadow.proofs.Counts.{pairs-right, cells-right}
 use Rattle.shadow.proofs.Merging.{own-right, last-right, chosen-right}
@@ -131,8 +132,8 @@ pub record Shows (l : Loop) (δ : Partition) (g : Log) (t : Tables) : Type 0 whe
   pub own : (c i : ℕ) → Latest (δ .group) (whose δ) i g → own-value i (t .rows c .own (whose δ i)) ≡ written c (only (δ .group) i g)
   -- the value of the highest iteration that wrote
   pub last : (c : ℕ) → chosen (t .rows c .own) (δ .processors) ≡ highest (λ i. each i g) c (l .iterations)
-  -- the sum that each processor gathered
-  pub sums : (c p : ℕ) → t .rows c .own p .sum ≡ total l c (block δ p g)
+  -- each processor's partial result
+  pub partials : (c p : ℕ) → t .rows c .own p .partial ≡ total (joining l c) c (block δ p g)
   -- whether there was an update
   pub update : (c : ℕ) → t .rows c .updated ≡ updated c g
   -- both write counts
@@ -144,18 +145,18 @@ tables-right l δ h g x a =
     let t = ascending-groups l δ h x a in
     let u = within-groups l δ h x in
     record {
-      marked = λ c. marks-right (δ .group) (whose δ) (l .plus) (l .zero) (δ .groups) c g t u;
-      recorded = λ c. judged (δ .group) (whose δ) (l .plus) (l .zero) c (δ .groups) g t u .recorded;
-      obstacle = λ k c. obstacle-right (δ .group) (whose δ) (l .plus) (l .zero) (δ .groups) c g t u k;
-      wrote = λ c. judged (δ .group) (whose δ) (l .plus) (l .zero) c (δ .groups) g t u .wrote;
-      private = λ c p i. valued (δ .group) (whose δ) (l .plus) (l .zero) c (δ .groups) g t u p i;
-      block-last = λ c p. last-right (δ .group) (whose δ) (l .plus) (l .zero) c g p ∙ ap (written c) (sym (block-is l δ h p x));
-      own = λ c i late. own-right (δ .group) (whose δ) (l .plus) (l .zero) c (δ .groups) g t u i late;
-      last = λ c. chosen-right (worker l δ) (l .plus) (l .zero) c (l .iterations) g (worker-grows l δ h) a (within-iterations l δ h x) (δ .group)
+      marked = λ c. marks-right (δ .group) (whose δ) (joining l) (δ .groups) c g t u;
+      recorded = λ c. judged (δ .group) (whose δ) (joining l) c (δ .groups) g t u .recorded;
+      obstacle = λ k c. obstacle-right (δ .group) (whose δ) (joining l) (δ .groups) c g t u k;
+      wrote = λ c. judged (δ .group) (whose δ) (joining l) c (δ .groups) g t u .wrote;
+      private = λ c p i. valued (δ .group) (whose δ) (joining l) c (δ .groups) g t u p i;
+      block-last = λ c p. last-right (δ .group) (whose δ) (joining l) c g p ∙ ap (written c) (sym (block-is l δ h p x));
+      own = λ c i late. own-right (δ .group) (whose δ) (joining l) c (δ .groups) g t u i late;
+      last = λ c. chosen-right (worker l δ) (joining l) c (l .iterations) g (worker-grows l δ h) a (within-iterations l δ h x) (δ .group)
           (whose δ) (λ i. refl) (δ .processors) (worker-below l δ h);
-      sums = λ c p. summed (δ .group) (whose δ) l c g p ∙ ap (total l c) (sym (block-is l δ h p x));
+      partials = λ c p. joined (δ .group) (whose δ) (joining l) c g p ∙ ap (total (joining l c) c) (sym (block-is l δ h p x));
       update = λ c.
-          let m = mark8-right (δ .group) (whose δ) (l .plus) (l .zero) (δ .groups) c g t u in
+          let m = mark8-right (δ .group) (whose δ) (joining l) (δ .groups) c g t u in
           both-ways (table l δ g .rows c .updated) (updated c g) (λ q. has-updated (m .0 q)) (λ q. m .1 (updated-has c g q));
       pair-count = pairs-right l (δ .group) (whose δ) g x a;
       cell-count = cells-right l (δ .group) (whose δ) (δ .groups) g x t u;
@@ -166,23 +167,24 @@ abbrev pub merged-off : Loop → Partition → Class → (ℕ → ℤ) → ℕ �
 merged-off l δ shared m c r = m c
 merged-off l δ lastprivate m c r = Option·getD (chosen (r .own) (δ .processors)) (l .entry c)
 merged-off l δ copied m c r = Option·getD (chosen (r .own) (δ .processors)) (l .entry c)
-merged-off l δ reduction m c r = cond (r .updated)
-    (l .plus (Option·getD (chosen (r .own) (δ .processors)) (l .entry c)) (sum-of l (δ .processors) (λ p. r .own p .sum)))
+merged-off l δ (reduction o) m c r = cond (r .updated)
+    (operation o .join (Option·getD (chosen (r .own) (δ .processors)) (l .entry c)) (join-all (operation o) (δ .processors) (λ p. r .own p .partial)))
     (Option·getD (chosen (r .own) (δ .processors)) (l .entry c))
 
-pub merged-right : (l : Loop) (δ : Partition) → Proper l δ → (s : State) (t : Tables) → Shows l δ (s .log) t → (c : ℕ)
+pub merged-right : (l : Loop) (δ : Partition) (s : State) (t : Tables) → Shows l δ (s .log) t → (c : ℕ)
     → merged-off l δ (l .class c) (s .cells) c (t .rows c) ≡ merged l δ s c
 unfolding merged gathered
-merged-right l δ h s t w c = go (l .class c)
+merged-right l δ s t w c = go (l .class c) refl
   where
-    go : (k : Class) → merged-off l δ k (s .cells) c (t .rows c) ≡ merged-as l δ k s c
-    go shared = refl
-    go lastprivate = ap (λ (o : Option ℤ). Option·getD o (l .entry c)) (w .last c)
-    go copied = ap (λ (o : Option ℤ). Option·getD o (l .entry c)) (w .last c)
-    go reduction = cc (
+    go : (k : Class) → l .class c ≡ k → merged-off l δ k (s .cells) c (t .rows c) ≡ merged-as l δ k s c
+    go shared e = refl
+    go lastprivate e = ap (λ (o : Option ℤ). Option·getD o (l .entry c)) (w .last c)
+    go copied e = ap (λ (o : Option ℤ). Option·getD o (l .entry c)) (w .last c)
+    go (reduction o) e = cc (
       w .last c,
       w .update c,
-      sum-same l δ h (δ .processors) (λ p. t .rows c .own p .sum) (λ p. total l c (block δ p (s .log))) (λ p b. w .sums c p),
+      join-same (operation o) (δ .processors) (λ p. t .rows c .own p .partial) (λ p. total (operation o) c (block δ p (s .log)))
+          (λ p b. w .partials c p ∙ ap (λ (k : Class). total (operation (operator k)) c (block δ p (s .log))) e),
     )
 
 -- the accessed cells are those below the size
@@ -202,5 +204,5 @@ obstructed-right l δ g t x w = (λ (c, o). (c, low (l .class c) c o, w .obstacl
     low shared c (i, j, n, y, o) = at i y
     low lastprivate c (i, j, n, y, o) = at i y
     low copied c (i, j, n, y, o) = at i y
-    low reduction c (inl (i, j, n, y, o)) = at i y
-    low reduction c (inr (i, j, y, o)) = at i y
+    low (reduction q) c (inl (i, j, n, y, o)) = at i y
+    low (reduction q) c (inr (i, j, y, o)) = at i y

@@ -1,13 +1,14 @@
--- The shadow tables: what is kept of a log so that marks, obstacles, private values, sums and write counts can be read off in a few steps.
+-- The shadow tables: what is kept of a log so that marks, obstacles, private values, partial results and write counts can be read off in a few steps.
 use mathlib.Core.List.{[], _∷_}
 use mathlib.Core.Bool.{Bool, true, false, cond}
 use mathlib.Core.Logic.{_⊎_}
 use mathlib.Core.Path.{_≡_}
 use mathlib.Core.Option.{Option, none, some}
 use Prim.Native.Nat.{ℕ, zero, suc, min, max, _+_, _<_}
-use lib.IntN.{ℤ}
+use lib.IntN.{ℤ, pos}
 use Rattle.rules.specs.Choose.{pick, put, below}
-use Rattle.rules.specs.Loop.{Class, shared, lastprivate, copied, reduction, Loop, Partition}
+use Rattle.rules.specs.Operation.{Operation}
+use Rattle.rules.specs.Loop.{Class, shared, lastprivate, copied, reduction, Loop, joining, Partition}
 use Rattle.rules.specs.Owner.{whose}
 use Rattle.rules.specs.Log.{Kind, reads, writes, updates, Access, access, Log}
 
@@ -16,7 +17,7 @@ pub record Own : Type 0 where
   pub value : ℤ  -- the last private value
   pub wrote : ℕ  -- 1 + the group of the last ordinary write, 0 if none
   pub exposed : ℕ  -- 1 + the group of the last exposed read, 0 if none
-  pub sum : ℤ  -- what was added
+  pub partial : ℤ  -- the partial result of its updates
   pub touched : ℕ  -- 1 + the iteration of the last write or update, 0 if none
 
 -- of a cell
@@ -43,12 +44,19 @@ newcomer g o m = pick (o .wrote) (suc g) m (pick (o .exposed) (suc g) m (suc m))
 abbrev pub lower : ℕ → ℕ → ℕ
 lower s w = pick w 0 s (min s w)
 
-module _ (plus : ℤ → ℤ → ℤ) where
+-- o is what updates of the cell do
+module _ (o : Operation) where
   -- an access by iteration i of group g, with the value v: what its processor keeps of the cell
   abbrev pub kept : Kind → ℕ → ℕ → ℤ → Own → Own
-  kept reads g i v o = record { value = o .value; wrote = o .wrote; exposed = pick (o .wrote) (suc g) (o .exposed) (suc g); sum = o .sum; touched = o .touched }
-  kept writes g i v o = record { value = v; wrote = suc g; exposed = o .exposed; sum = o .sum; touched = suc i }
-  kept updates g i v o = record { value = o .value; wrote = o .wrote; exposed = o .exposed; sum = plus v (o .sum); touched = suc i }
+  kept reads g i v w = record {
+    value = w .value;
+    wrote = w .wrote;
+    exposed = pick (w .wrote) (suc g) (w .exposed) (suc g);
+    partial = w .partial;
+    touched = w .touched;
+  }
+  kept writes g i v w = record { value = v; wrote = suc g; exposed = w .exposed; partial = w .partial; touched = suc i }
+  kept updates g i v w = record { value = w .value; wrote = w .wrote; exposed = w .exposed; partial = o .join v (w .partial); touched = suc i }
 
   -- and what is kept of the cell; p is the processor
   abbrev pub noted : Kind → ℕ → ℕ → ℕ → ℤ → Row → Row
@@ -91,34 +99,35 @@ celled reads r m = m
 celled writes r m = cond (r .updated) m (pick (r .writers) 0 (suc m) m)
 celled updates r m = cond (r .updated) m (pick (r .writers) 0 (suc m) m)
 
--- γ takes an iteration to its group, π a group to its processor
-module _ (γ π : ℕ → ℕ) (plus : ℤ → ℤ → ℤ) (nought : ℤ) where
+-- γ takes an iteration to its group, π a group to its processor, ops a cell to what its updates do
+module _ (γ π : ℕ → ℕ) (ops : ℕ → Operation) where
   unfoldable pub note : Access → Tables → Tables
   note (access k i c v) t = record {
-    rows = put (t .rows) c (noted plus k (π (γ i)) (γ i) i v (t .rows c));
+    rows = put (t .rows) c (noted (ops c) k (π (γ i)) (γ i) i v (t .rows c));
     pairs = paired k i (t .rows c .own (π (γ i))) (t .pairs);
     cells = celled k (t .rows c) (t .cells);
   }
 
-  abbrev pub blank : Row
-  blank = record {
+  -- a cell before any access. Document 02, Point 6: "Partial results start at 1 and −2147483648"
+  abbrev pub blank : ℕ → Row
+  blank c = record {
     met = 0;
     writers = 0;
     lowest = 0;
     highest = 0;
     crossed = false;
     updated = false;
-    own = λ p. record { value = nought; wrote = 0; exposed = 0; sum = nought; touched = 0 };
+    own = λ p. record { value = pos 0; wrote = 0; exposed = 0; partial = ops c .start; touched = 0 };
   }
 
   -- the tables of a log
   unfoldable pub tables : Log → Tables
-  tables [] = record { rows = λ c. blank; pairs = 0; cells = 0 }
+  tables [] = record { rows = blank; pairs = 0; cells = 0 }
   tables (e ∷ l) = note e (tables l)
 
 -- of a loop's log
 abbrev pub table : Loop → Partition → Log → Tables
-table l δ g = tables (δ .group) (whose δ) (l .plus) (l .zero) g
+table l δ g = tables (δ .group) (whose δ) (joining l) g
 
 -- the private value of the highest of the processors below k that wrote
 unfoldable pub chosen : (ℕ → Own) → ℕ → Option ℤ
@@ -146,4 +155,4 @@ abbrev pub Blocked : Class → Row → Type 0
 Blocked shared r = (0 < r .writers) × (1 < r .met)
 Blocked lastprivate r = Stale-row r
 Blocked copied r = (0 < r .lowest) × (r .lowest < r .highest)
-Blocked reduction r = Stale-row r ⊎ ((0 < r .met) × (r .updated ≡ true))
+Blocked (reduction o) r = Stale-row r ⊎ ((0 < r .met) × (r .updated ≡ true))

@@ -68,6 +68,7 @@ perform-numbered (instr.load-at b n l) on past s v h p = with1-numbered s _ (λ 
 perform-numbered instr.add on past s v h p = with2-numbered s _ (λ x y t. h _)
 perform-numbered instr.subtract on past s v h p = with2-numbered s _ (λ x y t. h _)
 perform-numbered instr.multiply on past s v h p = with2-numbered s _ (λ x y t. h _)
+perform-numbered instr.maximum on past s v h p = with2-numbered s _ (λ x y t. h _)
 perform-numbered instr.negate on past s v h p = with1-numbered s _ (λ x t. h _)
 perform-numbered (instr.divide l) on past s v h p = with2-numbered s _ (λ x y t. divides-numbered l quotient x y _ (λ z. h _))
 perform-numbered (instr.round l) on past s v h p = with2-numbered s _ (λ x y t. divides-numbered l rdiv x y _ (λ z. h _))

@@ -18,7 +18,7 @@ use Rattle.operands.specs.Pending.{pendings, Holding}
 use Rattle.operands.specs.Performing.{left}
 use Rattle.operands.proofs.Pending.{pendings-push}
 use Rattle.stepping.specs.declared.Role.{Role}
-use Rattle.stepping.specs.Access.{Accessible, seen, read-words, stored, written-words, added, updated-words}
+use Rattle.stepping.specs.Access.{Accessible, seen, read-words, stored, written-words, joined, updated-words}
 use Rattle.stepping.specs.Step.{Scene, at, variable, moved, Comes, CanMove, Fitting, Goes}
 use Rattle.stepping.proofs.Faults.{resume-fault}
 
@@ -55,7 +55,7 @@ pub data Happens (x : Role) (code : List ℕ) (z z′ : Scene) : Type 0 where
       → z′ .words ≡ read-words x (at z) (z .words) c → Continues z z′ → Happens x code z z′
   writes : (c : ℕ) (v : ℤ) → SFits w32 v → rest x code z ≡ write c v (rest x code z′) → z′ .cells ≡ stored x (z .cells) (z .words) c v
       → z′ .words ≡ written-words x (at z) (z .words) c v → Continues z z′ → Happens x code z z′
-  updates : (c : ℕ) (v : ℤ) → SFits w32 v → rest x code z ≡ update c v (rest x code z′) → z′ .cells ≡ added x (z .cells) c v
+  updates : (c : ℕ) (v : ℤ) → SFits w32 v → rest x code z ≡ update c v (rest x code z′) → z′ .cells ≡ joined x (z .cells) (z .words) c v
       → z′ .words ≡ updated-words x (at z) (z .words) c v → Continues z z′ → Happens x code z z′
   faults : (n t : ℕ) → 0 < n → rest x code z ≡ fault n t → z′ .cells ≡ z .cells → z′ .words ≡ z .words → at z′ ≡ at z → z′ .point .fault ≡ n
       → z′ .point .line ≡ t → Holding (z′ .pending) (z′ .point .depth) → Happens x code z z′

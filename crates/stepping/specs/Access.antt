@@ -4,10 +4,10 @@ use mathlib.Core.List.{List}
 use Prim.Native.Nat.{ℕ, _≤_, _<_}
 use lib.ListN.{length, set}
 use lib.IntN.{ℤ}
-use Rattle.int32.specs.Integers.{sum}
 use Rattle.rules.specs.Choose.{pick}
 use Rattle.rules.specs.Cells.{cellOf}
-use Rattle.rules.specs.Numbers.{grouped}
+use Rattle.rules.specs.Operation.{operation}
+use Rattle.rules.specs.Numbers.{grouped, operator-by}
 use Rattle.tables.specs.Layout.{row-at, own-at, class-word}
 use Rattle.noting.specs.Changes.{Ready, read-noted, counted, written, updated, own-seen}
 use Rattle.stepping.specs.declared.Manner.{Manner}
@@ -43,10 +43,10 @@ unfoldable pub stored-by : Manner → ℕ → List ℤ → ℕ → ℤ → List 
 stored-by ByClass k M c v = pick k 0 (set M c v) M
 stored-by InPlace k M c v = set M c v
 
--- the cells after an update by v
-unfoldable pub added-by : Manner → List ℤ → ℕ → ℤ → List ℤ
-added-by ByClass M c v = M
-added-by InPlace M c v = set M c (sum (cellOf M c) v)
+-- the cells after an update by v of a cell of a class
+unfoldable pub joined-by : Manner → ℕ → List ℤ → ℕ → ℤ → List ℤ
+joined-by ByClass k M c v = M
+joined-by InPlace k M c v = set M c (operation (operator-by k) .join (cellOf M c) v)
 
 -- ---- iteration i accesses cell c
 
@@ -62,8 +62,8 @@ stored x M W c v = stored-by (x .manner) (class-word W (row-of x c)) M c v
 abbrev pub written-words : Role → ℕ → List ℕ → ℕ → ℤ → List ℕ
 written-words x i W c v = written (counted W (row-of x c) (own-of x c) i) (row-of x c) (own-of x c) (group-of x i) v
 
-abbrev pub added : Role → List ℤ → ℕ → ℤ → List ℤ
-added x M c v = added-by (x .manner) M c v
+abbrev pub joined : Role → List ℤ → List ℕ → ℕ → ℤ → List ℤ
+joined x M W c v = joined-by (x .manner) (class-word W (row-of x c)) M c v
 
 abbrev pub updated-words : Role → ℕ → List ℕ → ℕ → ℤ → List ℕ
 updated-words x i W c v = updated (counted W (row-of x c) (own-of x c) i) (row-of x c) (own-of x c) v
@@ -79,5 +79,5 @@ pub record Writes (x : Role) (i : ℕ) (M : List ℤ) (W : List ℕ) (c : ℕ) (
   pub words : W′ ≡ written-words x i W c v
 
 pub record Updates (x : Role) (i : ℕ) (M : List ℤ) (W : List ℕ) (c : ℕ) (v : ℤ) (M′ : List ℤ) (W′ : List ℕ) : Type 0 where
-  pub cells : M′ ≡ added x M c v
+  pub cells : M′ ≡ joined x M W c v
   pub words : W′ ≡ updated-words x i W c v

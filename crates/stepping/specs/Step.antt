@@ -14,7 +14,7 @@ use Rattle.operands.specs.Performing.{coming}
 use Rattle.machine.specs.Machine.{Advances}
 use Rattle.stepping.specs.declared.Point.{Point}
 use Rattle.stepping.specs.declared.Role.{Role}
-use Rattle.stepping.specs.Access.{Accessible, seen, read-words, stored, written-words, added, updated-words}
+use Rattle.stepping.specs.Access.{Accessible, seen, read-words, stored, written-words, joined, updated-words}
 
 -- a point where no fault stopped the processor
 abbrev pub unstopped : ℕ → ℕ → ℕ → Point
@@ -45,7 +45,7 @@ Comes x code z b r = Advances code (z .point .place) (z .point .depth) (z .pendi
 unfoldable pub moved : Role → ℕ → List ℤ → List ℕ → List ℤ → ℕ → ℕ → Move → Scene
 moved x i M W b place d (Read c) = scene M (read-words x i W c) (set b d (seen x i M W c)) (unstopped (d + 1) place i)
 moved x i M W b place d (Write c v) = scene (stored x M W c v) (written-words x i W c v) b (unstopped d place i)
-moved x i M W b place d (Update c v) = scene (added x M c v) (updated-words x i W c v) b (unstopped d place i)
+moved x i M W b place d (Update c v) = scene (joined x M W c v) (updated-words x i W c v) b (unstopped d place i)
 moved x i M W b place d (Fault n k) = scene M W b (record { depth = d; place = place; iteration = record { 0 = i }; fault = n; line = k })
 moved x i M W b place d End = scene M W b (unstopped 0 0 (i + 1))
 

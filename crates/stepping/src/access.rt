@@ -2,7 +2,7 @@
 ghost use mathlib.Core.Path.{_≡_};
 ghost use Prim.Native.Nat.{_+_, _<_, _≤_};
 ghost use lib.ListN.{length};
-ghost use Rattle.stepping.specs.Access.{seen-by, stored-by, added-by, Accessible, Reads, Writes, Updates};
+ghost use Rattle.stepping.specs.Access.{seen-by, stored-by, joined-by, Accessible, Reads, Writes, Updates};
 use crate::Manner;
 use crate::Role;
 use rules::Group;
@@ -88,14 +88,15 @@ pub fn write_cell(
     noting::note_write(w, row, own, group, i, value);
 }
 
-// A value is added to a cell in place. By its class the sum gathers in the tables alone.
-fn add(manner: Manner, cells: &mut [i32], cell: usize, value: i32)
+// A value is joined to a cell in place, as updates of its class are. By class, updates gather in the tables alone.
+fn join_in(manner: Manner, cells: &mut [i32], class: u32, cell: usize, value: i32)
     requires { ⌜ cell < length (now cells) ⌝ }
-    ensures { λ _. ⌜ now (cells .exit) ≡ added-by manner (now (cells .entry)) cell value ⌝ }
+    ensures { λ _. ⌜ now (cells .exit) ≡ joined-by manner class (now (cells .entry)) cell value ⌝ }
 {
     match manner {
         Manner::InPlace => {
-            cells[cell] = int32::add(cells[cell], value);
+            let operator = rules::operator_of(class);
+            cells[cell] = rules::combine(operator, cells[cell], value);
         }
         Manner::ByClass => {}
     }
@@ -117,6 +118,7 @@ pub fn update_cell(
     let manner = role.manner;
     let row = tables::row_of(cell, role.processors);
     let own = tables::own_of(row, p);
-    add(manner, cells, cell, value);
+    let class = tables::class_of(w, row);
+    join_in(manner, cells, class, cell, value);
     noting::note_update(w, row, own, i, value);
 }

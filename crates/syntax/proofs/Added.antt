@@ -1,40 +1,20 @@
--- Document 02, Point 1: "What is added is the remainder with the minus applied to its first term": the right side of an update comes to what its reference
--- reads plus what the remainder comes to.
-use mathlib.Core.Path.{_≡_, refl, sym, _∙_, ap, subst}
+-- Document 02, Point 1: "What is added is the remainder with the minus applied to its first term"; Point 6: products and maxima likewise. The right side of an
+-- update comes to what its reference reads, joined with what the remainder comes to.
+use mathlib.Core.Path.{_≡_, refl, _∙_, ap}
 use mathlib.Core.Bool.{Bool, true, false, cond}
 use mathlib.Core.List.{List}
-use mathlib.Core.Option.{none, some}
 use Prim.Native.Nat.{ℕ}
 use native.Mathlib.Omega.{arith}
 use lib.IntN.{ℤ}
-use Rattle.int32.specs.Integers.{sum, difference}
-use Rattle.int32.proofs.Laws.{sum-assoc, difference-sum, sum-difference}
+use Rattle.int32.specs.Integers.{sum, difference, product}
+use Rattle.int32.proofs.Laws.{sum-assoc, difference-sum, sum-difference, product-assoc}
+use Rattle.rules.specs.declared.Operator.{Operator}
+use Rattle.rules.specs.Operation.{operation}
 use Rattle.rules.specs.Loop.{Act}
-use Rattle.syntax.specs.Grammar.{Lead, bare, plus, minus, Expr, expr, Terms, no-terms, terms, Term, term, Factors, no-factors, factors, Factor, literal, cell, rdiv, brackets, Ref}
+use Rattle.syntax.specs.Grammar.{plus, minus, Expr, Terms, no-terms, terms, Factors, no-factors, factors, Ref, cell}
 use Rattle.syntax.specs.Known.{Entry}
-use Rattle.syntax.specs.Meaning.{lone, unled, followed, summand, remainder, led, eval, evalTerms, evalTerm, evalFactors, evalFactor}
-
--- ---- an expression that begins with a reference, followed by + or -
-
-lone-parts : (l : Lead) (x : Factor) (xs : Factors) (y : Ref) → unled l (lone x xs) ≡ some y → (l ≡ bare) × (term x xs ≡ term (cell y) no-factors)
-lone-parts bare (literal d) xs y h = absurd (let z : _≡_ {A = ℕ} 0 1 = cc in omega arith)
-lone-parts bare (cell q) no-factors y h = (refl, ap (λ (r : Ref). term (cell r) no-factors) (cc))
-lone-parts bare (cell q) (factors o x xs) y h = absurd (let z : _≡_ {A = ℕ} 0 1 = cc in omega arith)
-lone-parts bare (rdiv a b) xs y h = absurd (let z : _≡_ {A = ℕ} 0 1 = cc in omega arith)
-lone-parts bare (brackets e) xs y h = absurd (let z : _≡_ {A = ℕ} 0 1 = cc in omega arith)
-lone-parts plus x xs y h = absurd (let z : _≡_ {A = ℕ} 0 1 = cc in omega arith)
-lone-parts minus x xs y h = absurd (let z : _≡_ {A = ℕ} 0 1 = cc in omega arith)
-
-pub summand-parts : (l : Lead) (t : Term) (ts : Terms) (y : Ref) → summand (expr l t ts) ≡ some y
-    → (l ≡ bare) × (t ≡ term (cell y) no-factors) × (followed ts ≡ true)
-unfolding summand
-summand-parts l (term x xs) ts y h = go (followed ts) refl h
-  where
-    go : (b : Bool) → followed ts ≡ b → cond b (unled l (lone x xs)) none ≡ some y → (l ≡ bare) × (term x xs ≡ term (cell y) no-factors) × (followed ts ≡ true)
-    go true e h = let (p, q) = lone-parts l x xs y h in (p, q, e)
-    go false e h = absurd (let z : _≡_ {A = ℕ} 0 1 = cc in omega arith)
-
--- ---- what it comes to
+use Rattle.syntax.specs.Meaning.{times, led, called, eval, evalTerms, evalTerm, evalFactors, evalFactor}
+use Rattle.syntax.proofs.Forms.{Repeats, adds, multiplies, compares}
 
 module _ (t : List Entry) (v : List ℕ) (x : ℤ) (line : ℕ) where
   -- what comes first in a sum may be added last
@@ -52,16 +32,18 @@ module _ (t : List Entry) (v : List ℕ) (x : ℤ) (line : ℕ) where
   signed-last true as′ y z k = ap (λ (u : ℤ). evalTerms t v x line as′ u k) (difference-sum y z) ∙ terms-last as′ y _ k
   signed-last false as′ y z k = terms-last as′ y z k
 
-  begun : (y : Ref) (as′ : Terms) → followed as′ ≡ true → (k : ℤ → Act)
-      → eval t v x line (expr bare (term (cell y) no-factors) as′) k
-      ≡ evalFactor t v x line (cell y) (λ a. eval t v x line (remainder (expr bare (term (cell y) no-factors) as′)) (λ b. k (sum a b)))
-  unfolding eval evalTerms evalTerm evalFactors remainder
-  begun y no-terms f k = absurd (let z : _≡_ {A = ℕ} 0 1 = cc in omega arith)
-  begun y (terms minus? b bs) f k = ap (evalFactor t v x line (cell y)) (λ i a. evalTerm t v x line b (λ z. signed-last minus? bs a z k i))
+  -- what comes first in a product may be multiplied last
+  factors-last : (fs : Factors) → times fs ≡ true → (y z : ℤ) (k : ℤ → Act)
+      → evalFactors t v x line fs (product y z) k ≡ evalFactors t v x line fs z (λ w. k (product y w))
+  unfolding evalFactors
+  factors-last no-factors h y z k = refl
+  factors-last (factors true f fs) h y z k = absurd (let z : _≡_ {A = ℕ} 0 1 = cc in omega arith)
+  factors-last (factors false f fs) h y z k = ap (evalFactor t v x line f) (λ i w.
+      (ap (λ (u : ℤ). evalFactors t v x line fs u k) (product-assoc y z w) ∙ factors-last fs h y (product z w) k) i)
 
-  pub added : (e : Expr) (y : Ref) → summand e ≡ some y → (k : ℤ → Act)
-      → eval t v x line e k ≡ evalFactor t v x line (cell y) (λ a. eval t v x line (remainder e) (λ b. k (sum a b)))
-  added (expr l a as′) y h k =
-      let (p, q, f) = summand-parts l a as′ y h in
-      subst (λ (e : Expr). eval t v x line e k ≡ evalFactor t v x line (cell y) (λ a. eval t v x line (remainder e) (λ b. k (sum a b))))
-      (λ i. expr (sym p i) (sym q i) as′) (begun y as′ f k)
+  pub added : {o : Operator} {y : Ref} {m e : Expr} → Repeats o y m e → (k : ℤ → Act)
+      → eval t v x line e k ≡ evalFactor t v x line (cell y) (λ a. eval t v x line m (λ b. k (operation o .join a b)))
+  unfolding eval evalTerms evalTerm evalFactors evalFactor called
+  added (adds y minus? b bs) k = ap (evalFactor t v x line (cell y)) (λ i a. evalTerm t v x line b (λ z. signed-last minus? bs a z k i))
+  added (multiplies y f fs h) k = ap (evalFactor t v x line (cell y)) (λ i a. evalFactor t v x line f (λ z. factors-last fs h a z k i))
+  added (compares y b) k = refl

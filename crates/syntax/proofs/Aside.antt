@@ -11,17 +11,18 @@ use lib.ListN.{length}
 use borrow.Author.Tests.{eqb-true}
 use Rattle.int32.specs.Integers.{quotient, product, sum, difference}
 use Rattle.rules.specs.Loop.{Act, read}
+use Rattle.syntax.specs.declared.Function.{Function}
+use Rattle.syntax.specs.declared.Function.the-variants.{Rdiv, Max}
 use Rattle.syntax.specs.Bytes.{choose, Token, sign, equal}
-use Rattle.syntax.specs.Grammar.{number-from, number, Lead, bare, plus, minus, Expr, expr, Terms, no-terms, terms, Term, term, Factors, no-factors, factors, Factor, literal, cell, rdiv, brackets, Ref, single, element, showLead, show, showTerms, showTerm, showFactors, showFactor, showRef}
+use Rattle.syntax.specs.Grammar.{number-from, number, Lead, bare, plus, minus, Expr, expr, Terms, no-terms, terms, Term, term, Factors, no-factors, factors, Factor, literal, cell, call, brackets, Ref, single, element, showLead, showFunction, show, showTerms, showTerm, showFactors, showFactor, showRef}
 use Rattle.syntax.specs.Known.{Entry, find}
 use Rattle.syntax.specs.Conditions.{refName}
-use Rattle.syntax.specs.Meaning.{no-zeros, zeros-aside, alike, led, located, divides, isVariable, eval, evalTerms, evalTerm, evalFactors, evalFactor, place}
+use Rattle.syntax.specs.Meaning.{no-zeros, zeros-aside, alike, led, located, divides, called, isVariable, eval, evalTerms, evalTerm, evalFactors, evalFactor, place}
 use Rattle.syntax.specs.Reader.{done, readRef, first, rest}
 use Rattle.syntax.specs.Spelled.{Spells}
 use Rattle.syntax.proofs.Spelling.{both-true, is-true}
 use Rattle.syntax.proofs.CompleteExpr.{completes}
 use Rattle.syntax.proofs.Complete.{list-spells}
-use Rattle.int32.specs.Integers as integers
 
 -- ---- syntax without leading zeros
 
@@ -43,7 +44,7 @@ unfoldable mutual
   pub asideFactor : Factor → Factor
   asideFactor (literal d) = literal (no-zeros d)
   asideFactor (cell r) = cell (asideRef r)
-  asideFactor (rdiv a b) = rdiv (aside a) (aside b)
+  asideFactor (call f a b) = call f (aside a) (aside b)
   asideFactor (brackets e) = brackets (aside e)
 
   pub asideRef : Ref → Ref
@@ -59,6 +60,10 @@ name-aside (element x e) = refl
 signs-stay : (o : Bool) (a b : List ℕ) → map zeros-aside (cond o (sign a ∷ []) (sign b ∷ [])) ≡ cond o (sign a ∷ []) (sign b ∷ [])
 signs-stay true a b = refl
 signs-stay false a b = refl
+
+function-stays : (f : Function) → map zeros-aside (showFunction f) ≡ showFunction f
+function-stays Rdiv = refl
+function-stays Max = refl
 
 lead-stays : (l : Lead) → map zeros-aside (showLead l) ≡ showLead l
 lead-stays bare = refl
@@ -85,7 +90,7 @@ mutual
   show-aside-factor : (x : Factor) → showFactor (asideFactor x) ≡ map zeros-aside (showFactor x)
   show-aside-factor (literal d) = refl
   show-aside-factor (cell r) = show-aside-ref r
-  show-aside-factor (rdiv a b) = simp (map-append, show-aside a, show-aside b)
+  show-aside-factor (call f a b) = simp (map-append, function-stays f, show-aside a, show-aside b)
   show-aside-factor (brackets e) = simp (map-append, show-aside e)
 
   show-aside-ref : (r : Ref) → showRef (asideRef r) ≡ map zeros-aside (showRef r)
@@ -162,8 +167,8 @@ module _ (t u : List Entry) (v : List ℕ) (x : ℤ) (line : ℕ) (h : SameCells
     factor-aside : (f : Factor) (k : ℤ → Act) → evalFactor t v x line f k ≡ evalFactor u v x line (asideFactor f) k
     factor-aside (literal d) k = ap (λ (n : ℕ). k (pos n)) (sym (zeros-number d))
     factor-aside (cell r) k = (λ i. choose (variable-aside r i) (λ _. k x) (λ _. place-aside r (λ c. read c k) i))
-    factor-aside (rdiv a b) k =
-        eval-aside a _ ∙ ap (eval u v x line (aside a)) (λ i y. eval-aside b (λ z. divides line integers.rdiv y z k) i)
+    factor-aside (call f a b) k =
+        eval-aside a _ ∙ ap (eval u v x line (aside a)) (λ i y. eval-aside b (λ z. called line f y z k) i)
     factor-aside (brackets e) k = eval-aside e k
 
     pub place-aside : (r : Ref) (k : ℕ → Act) → place t v x line r k ≡ place u v x line (asideRef r) k

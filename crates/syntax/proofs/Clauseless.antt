@@ -1,31 +1,39 @@
 -- Document 02, Point 1: "Loops of this form may now pass; their cells are the serial run's as before". In the serial run an update does what its line says:
--- without its clauses, so that no line is an update, a text has the same serial cells, the same fault and the same write counts.
+-- without its clauses, so that no line is an update, a text has the same serial cells, the same fault and the same write counts. So it is with the products
+-- and maxima of Point 6.
 use mathlib.Core.Path.{_≡_, refl, sym, _∙_, ap, subst}
 use mathlib.Core.Bool.{Bool, true, false, cond, _&&_, _||_}
 use mathlib.Core.List.{List, [], _∷_, map}
 use mathlib.Core.Option.{Option, none, some}
-use Prim.Native.Nat.{ℕ, _+_, _-_, _≤_}
+use Prim.Native.Nat.{ℕ, _+_, _-_, _≤_, _<_}
 use native.Mathlib.Omega.{arith}
 use lib.Dec.{leb}
 use lib.IntN.{ℤ, pos, negsuc, _+ℤ_}
 use borrow.Author.Tests.{leb-true}
 use Rattle.int32.specs.declared.Relation.{Relation}
-use Rattle.int32.specs.Integers.{sum, product, quotient, related}
+use Rattle.int32.specs.Integers.{product, quotient, related}
 use Rattle.rules.specs.declared.Grouping.the-variants.{Iterations}
-use Rattle.rules.specs.Loop.{Act, read, write, update, done, shared, Loop}
+use Rattle.rules.specs.declared.Operator.{Operator}
+use Rattle.rules.specs.Operation.{operation}
+use Rattle.rules.specs.Loop.{Act, read, write, update, fault, done, Class, shared, operator, Loop}
 use Rattle.rules.specs.Serial.{serial}
 use Rattle.rules.specs.Merge.{pairs, written-cells}
 use Rattle.rules.proofs.Likewise.{Like, like-done, like-write, like-comes, like-update, like-serial, Comes, comes-value, comes-fault, comes-read, comes-then, traced-cells, traced-pairs}
+use Rattle.syntax.specs.declared.Function.{Function}
+use Rattle.syntax.specs.declared.Function.the-variants.{Rdiv, Max}
 use Rattle.syntax.specs.Bytes.{choose, same}
-use Rattle.syntax.specs.Grammar.{Expr, expr, Terms, no-terms, terms, Term, term, Factors, no-factors, factors, Factor, literal, cell, rdiv, brackets, Ref, single, element, showRef}
+use Rattle.syntax.specs.Grammar.{Expr, expr, Terms, no-terms, terms, Term, term, Factors, no-factors, factors, Factor, literal, cell, call, brackets, Ref, single, element, showRef}
 use Rattle.syntax.specs.Known.{Entry, named, known, find, cells, with-class, class-in, classify, State, Stmts, stop, set, if-then, if-else}
 use Rattle.syntax.specs.Conditions.{refName}
 use Rattle.syntax.specs.Text.{read as accepts, good}
-use Rattle.syntax.specs.Meaning.{alike, is-reduction, same-ref, summand, is-update, remainder, led, located, divides, isVariable, eval, evalTerms, evalTerm, evalFactors, evalFactor, place, assigned, exec, loopOf}
+use Rattle.syntax.specs.Meaning.{alike, is-reduction, same-ref, repeated, operator-at, is-update, remainder, led, located, divides, called, isVariable, eval, evalTerms, evalTerm, evalFactors, evalFactor, place, assigned, exec, class-of, loopOf}
 use Rattle.syntax.proofs.Spelling.{both-true, same-true}
 use Rattle.syntax.proofs.TestLaws.{choose-each}
 use Rattle.syntax.proofs.Sane.{accepted-sane, accepted-finished}
 use Rattle.syntax.proofs.TableLines.{classify-cells}
+use Rattle.syntax.specs.Sane.{SaneTable}
+use Rattle.syntax.proofs.ProperLoop.{update-reduces, Meant, meant, meant-first}
+use Rattle.syntax.proofs.Forms.{repeats-of}
 use Rattle.syntax.proofs.Added.{added}
 use Rattle.syntax.proofs.Aside.{asideRef, name-aside, alike-aside, SameCells, eval-aside, place-aside}
 use Rattle.int32.specs.Integers as integers
@@ -79,6 +87,11 @@ module _ (t : List Entry) (v : List ℕ) (x : ℤ) (line : ℕ) (m : ℕ → ℤ
   unfolding divides
   divides-comes f a b = either-comes (integers.same b (pos 0)) _ _ (comes-fault m 10 line) (comes-value m (f a b))
 
+  called-comes : (f : Function) (a b : ℤ) → Comes m (called line f a b)
+  unfolding called
+  called-comes Rdiv a b = divides-comes integers.rdiv a b
+  called-comes Max a b = comes-value m _
+
   mutual
     unfolding eval evalTerms evalTerm evalFactors evalFactor place
 
@@ -101,7 +114,7 @@ module _ (t : List Entry) (v : List ℕ) (x : ℤ) (line : ℕ) (m : ℕ → ℤ
     factor-comes : (f : Factor) → Comes m (evalFactor t v x line f)
     factor-comes (literal d) = comes-value m _
     factor-comes (cell r) = either-comes (isVariable t v x r) _ _ (comes-value m x) (comes-then (place-comes r) (λ c. comes-read m c))
-    factor-comes (rdiv a b) = comes-then (eval-comes a) (λ y. comes-then (eval-comes b) (λ z. divides-comes integers.rdiv y z))
+    factor-comes (call f a b) = comes-then (eval-comes a) (λ y. comes-then (eval-comes b) (λ z. called-comes f y z))
     factor-comes (brackets e) = eval-comes e
 
     place-comes : (r : Ref) → Comes m (place t v x line r)
@@ -125,6 +138,27 @@ module _ (t : List Entry) (v : List ℕ) (x : ℤ) (line : ℕ) where
   same-place : (r : Ref) (k : ℕ → Act) → place (unclaused t) v x line r k ≡ place t v x line r k
   same-place r k = alike-place r r refl k
 
+-- ---- what is done with the cell of a reference, by what is known of that cell
+
+module _ (t : List Entry) (v : List ℕ) (x : ℤ) (line : ℕ) (h : SaneTable t) (filled : 0 < cells t) where
+  located-same : (y : List ℕ) (i : ℤ) (k k′ : ℕ → Act) → ((c : ℕ) → Meant t y c → k c ≡ k′ c)
+      → located line (find y t .first) (find y t .size) i k ≡ located line (find y t .first) (find y t .size) i k′
+  unfolding located
+  located-same y (pos n) k k′ q = by-test (leb 1 n && leb n (find y t .size)) refl
+    where
+      by-test : (b : Bool) → leb 1 n && leb n (find y t .size) ≡ b
+          → choose b (λ _. k (find y t .first + (n - 1))) (λ _. fault 9 line) ≡ choose b (λ _. k′ (find y t .first + (n - 1))) (λ _. fault 9 line)
+      by-test true e =
+          let (a, b) = both-true (leb 1 n) (leb n (find y t .size)) e in
+          q _ (meant t h y _ (omega arith) (omega (arith, leb-true 1 n a, leb-true n (find y t .size) b)))
+      by-test false e = refl
+  located-same y (negsuc n) k k′ q = refl
+
+  place-same : (r : Ref) (k k′ : ℕ → Act) → ((c : ℕ) → Meant t (refName r) c → k c ≡ k′ c) → place t v x line r k ≡ place t v x line r k′
+  unfolding place
+  place-same (single y) k k′ q = q _ (meant-first t h filled y)
+  place-same (element y e) k k′ q = ap (eval t v x line e) (λ j i. located-same y i k k′ q j)
+
 -- ---- a reduction's name is not the loop's variable
 
 unknown-nowhere : (y : List ℕ) (t : List Entry) → known y t ≡ false → find y t .class ≡ shared
@@ -136,7 +170,7 @@ unknown-nowhere y (e ∷ t) h = go (named y e) (unknown-nowhere y t) h
     go true k h = absurd (let z : _≡_ {A = ℕ} 0 1 = cc in omega arith)
     go false k h = k h
 
-module _ (t : List Entry) (v : List ℕ) (undeclared : known v t ≡ false) where
+module _ (t : List Entry) (v : List ℕ) (sane : SaneTable t) (filled : 0 < cells t) (undeclared : known v t ≡ false) where
   not-variable : (x : ℤ) (q : Ref) → is-reduction (find (refName q) t .class) ≡ true → isVariable t v x q ≡ false
   not-variable x (element y e) h = refl
   not-variable x (single y) h = go (same y v) refl
@@ -150,10 +184,10 @@ module _ (t : List Entry) (v : List ℕ) (undeclared : known v t ≡ false) wher
 
   -- ---- statements
 
-  module _ (l l′ : Loop) (adds : l .plus ≡ sum) (x : ℤ) where
+  module _ (l l′ : Loop) (classes : l .class ≡ class-of t) (x : ℤ) where
     no-update : (r : Ref) (e : Expr) → is-update (unclaused t) r e ≡ false
     unfolding is-update
-    no-update r e = ap (λ (c : Entry). is-reduction (c .class) && same-ref r (summand e)) (find-unclaused (refName r) t)
+    no-update r e = ap (λ (c : Entry). is-reduction (c .class) && same-ref r (repeated (operator (c .class)) e)) (find-unclaused (refName r) t)
 
     -- as the line says: the right side, the left subscript, the write
     abbrev stored : ℕ → Ref → Expr → Act → Act
@@ -163,24 +197,24 @@ module _ (t : List Entry) (v : List ℕ) (undeclared : known v t ≡ false) wher
     unfolding assigned
     unclaused-stored line r e b =
         ap (λ (u : Bool). choose u
-        (λ _. place (unclaused t) v x line r (λ c. eval (unclaused t) v x line (remainder e) (λ y. update c y b)))
+        (λ _. place (unclaused t) v x line r (λ c. eval (unclaused t) v x line (remainder (operator-at (unclaused t) r) e) (λ y. update c y b)))
         (λ _. eval (unclaused t) v x line e (λ y. place (unclaused t) v x line r (λ c. write c y b))))
         (no-update r e)
         ∙ same-value t v x line e _ ∙ ap (eval t v x line e) (λ i y. same-place t v x line r (λ c. write c y b) i)
 
-    -- an update's line: its reference is read, what is added is added to it, and the sum is written
-    added-stored : (line : ℕ) (r q : Ref) (e : Expr) (b : Act) → summand e ≡ some q → alike (showRef r) (showRef q) ≡ true
+    -- an update's line: its reference is read, joined with what the remainder comes to, and the result is written
+    added-stored : (line : ℕ) (r q : Ref) (e : Expr) (b : Act) (o : Operator) → repeated o e ≡ some q → alike (showRef r) (showRef q) ≡ true
         → is-reduction (find (refName r) t .class) ≡ true
         → stored line r e b
-        ≡ place t v x line r (λ c. read c (λ a. eval t v x line (remainder e) (λ z. place t v x line r (λ d. write d (sum a z) b))))
+        ≡ place t v x line r (λ c. read c (λ a. eval t v x line (remainder o e) (λ z. place t v x line r (λ d. write d (operation o .join a z) b))))
     unfolding evalFactor
-    added-stored line r q e b hs ha hr =
+    added-stored line r q e b o hs ha hr =
         let k : ℤ → Act = λ y. place t v x line r (λ c. write c y b) in
         let p = alike-aside r q ha in
         let n = not-variable x q (ap (λ (y : List ℕ). is-reduction (find y t .class)) (sym (same-name r q p)) ∙ hr) in
-        added t v x line e q hs k
-        ∙ ap (λ (u : Bool). choose u (λ _. eval t v x line (remainder e) (λ z. k (sum x z)))
-        (λ _. place t v x line q (λ c. read c (λ a. eval t v x line (remainder e) (λ z. k (sum a z)))))) n
+        added t v x line (repeats-of o e q hs) k
+        ∙ ap (λ (u : Bool). choose u (λ _. eval t v x line (remainder o e) (λ z. k (operation o .join x z)))
+        (λ _. place t v x line q (λ c. read c (λ a. eval t v x line (remainder o e) (λ z. k (operation o .join a z)))))) n
         ∙ sym (same-place t v x line q _) ∙ alike-place t v x line q r (sym p) _
       where
         same-name : (r q : Ref) → asideRef r ≡ asideRef q → refName r ≡ refName q
@@ -191,19 +225,32 @@ module _ (t : List Entry) (v : List ℕ) (undeclared : known v t ≡ false) wher
     assigned-like line r e a b h =
         subst (Like l l′ (assigned t v x line r e a)) (sym (unclaused-stored line r e b))
         (choose-each (λ (c : Act). Like l l′ c (stored line r e b)) (is-update t r e) _ _
-        (λ u. let (hr, hs) = both-true (is-reduction (find (refName r) t .class)) (same-ref r (summand e)) u in updating hr (summand e) refl hs)
+        (λ u. let (hr, hs) = both-true (is-reduction (find (refName r) t .class)) (same-ref r (repeated o e)) u in
+        updating u hr (repeated o e) refl hs)
         (λ _. like-comes l l′ (eval t v x line e) (λ m. eval-comes t v x line m e) _ _
         (λ y. like-comes l l′ (place t v x line r) (λ m. place-comes t v x line m r) _ _ (λ c. like-write l l′ c y a b h))))
       where
-        updating : is-reduction (find (refName r) t .class) ≡ true → (o : Option Ref) → summand e ≡ o → same-ref r o ≡ true
-            → Like l l′ (place t v x line r (λ c. eval t v x line (remainder e) (λ y. update c y a))) (stored line r e b)
-        updating hr none es hs = absurd (let z : _≡_ {A = ℕ} 0 1 = cc in omega arith)
-        updating hr (some q) es hs =
-            subst (Like l l′ (place t v x line r (λ c. eval t v x line (remainder e) (λ y. update c y a))))
-            (ap (λ (f : ℤ → ℤ → ℤ). place t v x line r (λ c. read c (λ a. eval t v x line (remainder e) (λ z. place t v x line r (λ d. write d (f a z) b))))) adds
-            ∙ sym (added-stored line r q e b es hs hr))
-            (like-update l l′ (place t v x line r) (eval t v x line (remainder e)) (λ m. place-comes t v x line m r)
-            (λ m. eval-comes t v x line m (remainder e)) a b h)
+        o : Operator
+        o = operator-at t r
+
+        -- the cell that is updated, read, and written
+        written : Operator → ℕ → Act
+        written p c = read c (λ a. eval t v x line (remainder o e) (λ z. place t v x line r (λ d. write d (operation p .join a z) b)))
+
+        same-operator : is-update t r e ≡ true → (c : ℕ) → Meant t (refName r) c → operator (l .class c) ≡ o
+        same-operator u c m =
+            let (q, k) = update-reduces t r e u in
+            ap (λ (f : ℕ → Class). operator (f c)) classes ∙ ap operator (m .updated q k ∙ sym k)
+
+        updating : is-update t r e ≡ true → is-reduction (find (refName r) t .class) ≡ true → (p : Option Ref) → repeated o e ≡ p → same-ref r p ≡ true
+            → Like l l′ (place t v x line r (λ c. eval t v x line (remainder o e) (λ y. update c y a))) (stored line r e b)
+        updating u hr none es hs = absurd (let z : _≡_ {A = ℕ} 0 1 = cc in omega arith)
+        updating u hr (some q) es hs =
+            subst (Like l l′ (place t v x line r (λ c. eval t v x line (remainder o e) (λ y. update c y a))))
+            (place-same t v x line sane filled r (λ c. written (operator (l .class c)) c) (written o) (λ c m. ap (λ (p : Operator). written p c) (same-operator u c m))
+            ∙ sym (added-stored line r q e b o es hs hr))
+            (like-update l l′ (place t v x line r) (eval t v x line (remainder o e)) (λ m. place-comes t v x line m r)
+            (λ m. eval-comes t v x line m (remainder o e)) a b h)
 
     branch-like : (line : ℕ) (a : Expr) (rel : Relation) (b : Expr) (f g f′ g′ : Act) → Like l l′ f f′ → Like l l′ g g′
         → Like l l′ (eval t v x line a (λ y. eval t v x line b (λ z. choose (related rel y z) (λ _. f) (λ _. g))))
@@ -240,10 +287,12 @@ pub clauses-aside : (text : List ℕ) (s : State) (m : List ℤ) → accepts tex
 unfolding loopOf pairs written-cells
 clauses-aside text s m h =
     let k : 6 ≤ s .stage = leb-true 6 (s .stage) (accepted-finished text s h) in
-    let u = accepted-sane text s h .loop (omega arith) .undeclared in
+    let y = accepted-sane text s h in
+    let u = y .loop (omega arith) .undeclared in
+    let f : 0 < cells (s .table) = y .some-cells (omega arith) in
     let l = loopOf s m in
     let l′ = loopOf (clauseless s) m in
-    let e = like-serial l l′ (λ i. exec-like (s .table) (s .variable) u l l′ refl (s .from +ℤ pos i) (s .inner) done done (like-done l l′)) refl refl in
+    let e = like-serial l l′ (λ i. exec-like (s .table) (s .variable) (y .table) f u l l′ refl (s .from +ℤ pos i) (s .inner) done done (like-done l l′)) refl refl in
     let n = sym (classify-cells [] (s .table)) in
     record {
       cells = e .cells;

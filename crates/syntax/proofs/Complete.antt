@@ -11,11 +11,13 @@ use lib.Dec.{eqb}
 use lib.ListN.{length, length-append}
 use Rattle.int32.specs.declared.Relation.{Relation}
 use Rattle.int32.specs.declared.Relation.the-variants.{Equal, Unequal, Less, AtMost, Greater, AtLeast}
+use Rattle.rules.specs.declared.Operator.{Operator}
+use Rattle.rules.specs.declared.Operator.the-variants.{Sum, Product, Maximum}
 use Rattle.syntax.specs.declared.ClauseKind.{ClauseKind}
 use Rattle.syntax.specs.declared.ClauseKind.the-variants.{Shared, Lastprivate, Firstprivate, Reduction}
 use Rattle.syntax.specs.Bytes.{bytes, Token, digits, sign, word-of}
-use Rattle.syntax.specs.Grammar.{Lead, bare, plus, minus, Expr, expr, Ref, single, element, Declared, one, array, Item, item, Clause, clause, threads, static, assign, when, otherwise, end-if, Line, declare, give, direct, loop, inside, end-do, close, showLead, showRel, showMore, showList, showName, show, showRef, showDeclared, showSigned, showItem, showKind, showClause, showClauses, showLine}
-use Rattle.syntax.specs.Reader.{done, Reader, kind, is, sees, says, readName, isDigits, readMore, readDeclared, readDeclare, readSigned, readItem, readGive, readKind, readNames, readClause, readClauses, readDirective, readLoop, readAssign, readWhen, readEnd, readStart, readLine, first, rest, syntaxOf, parse}
+use Rattle.syntax.specs.Grammar.{Lead, bare, plus, minus, Expr, expr, Ref, single, element, Declared, one, array, Item, item, Clause, clause, threads, static, assign, when, otherwise, end-if, Line, declare, give, direct, loop, inside, end-do, close, showLead, showRel, showMore, showList, showName, show, showRef, showDeclared, showSigned, showItem, showOperator, showKind, showClause, showClauses, showLine}
+use Rattle.syntax.specs.Reader.{done, Reader, kind, is, sees, says, readName, isDigits, given, operatorOf, readOperator, readMore, readDeclared, readDeclare, readSigned, readItem, readGive, readKind, readNames, readClause, readClauses, readDirective, readLoop, readAssign, readWhen, readEnd, readStart, readLine, first, rest, syntaxOf, parse}
 use Rattle.syntax.specs.Spelled.{Spells, here, token}
 use Rattle.syntax.proofs.CompleteExpr.{cond-true, yes-choose, no-choose, binds, and-no, Low, Top, Unsigned, splits, expect-it, want-it, name-it, digits-it, lead-it, rel-it, close-ends, completes}
 use Rattle.syntax.proofs.TestLaws.{both-hold}
@@ -127,7 +129,12 @@ module _ {S : Type 0} (peek : S → Option Token) (skip : S → S) where
   kind-other Shared (token e h) = (ap (is (word-of (bytes "num_threads"))) e, ap (is (word-of (bytes "schedule"))) e)
   kind-other Lastprivate (token e h) = (ap (is (word-of (bytes "num_threads"))) e, ap (is (word-of (bytes "schedule"))) e)
   kind-other Firstprivate (token e h) = (ap (is (word-of (bytes "num_threads"))) e, ap (is (word-of (bytes "schedule"))) e)
-  kind-other Reduction (token e h) = (ap (is (word-of (bytes "num_threads"))) e, ap (is (word-of (bytes "schedule"))) e)
+  kind-other (Reduction o) (token e h) = (ap (is (word-of (bytes "num_threads"))) e, ap (is (word-of (bytes "schedule"))) e)
+
+  operator-it : (o : Operator) {s u : S} → Sp s (showOperator o) u → readOperator peek skip s ≡ done o u
+  operator-it Sum (token {s = s} e here) = ap (λ t. given peek skip (operatorOf t) s) e
+  operator-it Product (token {s = s} e here) = ap (λ t. given peek skip (operatorOf t) s) e
+  operator-it Maximum (token {s = s} e here) = ap (λ t. given peek skip (operatorOf t) s) e
 
   kind-it : (k : ClauseKind) (s u : S) → Sp s (showKind k) u → readKind peek skip s ≡ done k u
   kind-it Shared s u (token e h) = yes-choose _ _ (ap (is (word-of (bytes "shared"))) e) (binds _ (expect-it peek skip "(" h) refl)
@@ -137,12 +144,13 @@ module _ {S : Type 0} (peek : S → Option Token) (skip : S → S) where
   kind-it Firstprivate s u (token e h) =
       no-choose _ _ (ap (is (word-of (bytes "shared"))) e) (no-choose _ _ (ap (is (word-of (bytes "lastprivate"))) e)
       (yes-choose _ _ (ap (is (word-of (bytes "firstprivate"))) e) (binds _ (expect-it peek skip "(" h) refl)))
-  kind-it Reduction s u (token e (token e2 (token e3 h))) =
+  kind-it (Reduction o) s u (token e (token e2 h)) =
+      splits peek skip (showOperator o) h λ m h1 h2.
       no-choose _ _ (ap (is (word-of (bytes "shared"))) e) (no-choose _ _ (ap (is (word-of (bytes "lastprivate"))) e)
       (no-choose _ _ (ap (is (word-of (bytes "firstprivate"))) e)
       (binds _ (want-it peek skip "reduction" (token e here))
       (binds _ (expect-it peek skip "(" (token e2 here))
-      (binds _ (expect-it peek skip "+" (token e3 here)) (binds _ (expect-it peek skip ":" h) refl))))))
+      (binds _ (operator-it o h1) (binds _ (expect-it peek skip ":" h2) refl))))))
 
   clause-it : (f : ℕ) (c : Clause) (s u : S) → length (showClause c) ≤ f → Sp s (showClause c) u → readClause peek skip f s ≡ done c u
   clause-it f (clause k x xs) s u b h =
@@ -169,7 +177,7 @@ module _ {S : Type 0} (peek : S → Option Token) (skip : S → S) where
   clause-begins (clause Shared x xs) ys (token e h) = ap over e
   clause-begins (clause Lastprivate x xs) ys (token e h) = ap over e
   clause-begins (clause Firstprivate x xs) ys (token e h) = ap over e
-  clause-begins (clause Reduction x xs) ys (token e h) = ap over e
+  clause-begins (clause (Reduction o) x xs) ys (token e h) = ap over e
   clause-begins (threads p) ys (token e h) = ap over e
   clause-begins static ys (token e h) = ap over e
 
@@ -177,7 +185,7 @@ module _ {S : Type 0} (peek : S → Option Token) (skip : S → S) where
   clause-long (clause Shared x xs) = omega arith
   clause-long (clause Lastprivate x xs) = omega arith
   clause-long (clause Firstprivate x xs) = omega arith
-  clause-long (clause Reduction x xs) = omega arith
+  clause-long (clause (Reduction o) x xs) = omega arith
   clause-long (threads p) = omega arith
   clause-long static = omega arith
 

@@ -11,9 +11,11 @@ use lib.Dec.{eqb}
 use lib.ListN.{length, length-append}
 use Rattle.int32.specs.declared.Relation.{Relation}
 use Rattle.int32.specs.declared.Relation.the-variants.{Equal, Unequal, Less, AtMost, Greater, AtLeast}
+use Rattle.syntax.specs.declared.Function.{Function}
+use Rattle.syntax.specs.declared.Function.the-variants.{Rdiv, Max}
 use Rattle.syntax.specs.Bytes.{choose, bytes, Token, name, other-word, digits, sign, word-of}
-use Rattle.syntax.specs.Grammar.{Lead, bare, plus, minus, Expr, expr, Terms, no-terms, terms, Term, term, Factors, no-factors, factors, Factor, literal, cell, rdiv, brackets, Ref, single, element, showLead, showRel, show, showTerms, showTerm, showFactors, showFactor, showRef}
-use Rattle.syntax.specs.Reader.{Parsed, done, Reader, next, kind, text, is, expects, wants, readName, readDigits, given, relOf, readRel, readLead, readExpr, readTerms, readTerm, readFactors, readFactor, readRef}
+use Rattle.syntax.specs.Grammar.{Lead, bare, plus, minus, Expr, expr, Terms, no-terms, terms, Term, term, Factors, no-factors, factors, Factor, literal, cell, call, brackets, Ref, single, element, showLead, showRel, show, showTerms, showTerm, showFactors, showFactor, showRef}
+use Rattle.syntax.specs.Reader.{Parsed, done, Reader, next, kind, text, is, expects, wants, readName, readDigits, given, relOf, readRel, readLead, readPair, readExpr, readTerms, readTerm, readFactors, readFactor, readRef}
 use Rattle.syntax.specs.Spelled.{Spells, here, token}
 use Rattle.syntax.proofs.Spelling.{spells-split}
 use Rattle.syntax.proofs.TestLaws.{same-refl}
@@ -100,10 +102,11 @@ module _ {S : Type 0} (peek : S → Option Token) (skip : S → S) where
   factor-begins (literal d) ys (token e h) = (ap (is (sign (bytes "+"))) e, ap (is (sign (bytes "-"))) e)
   factor-begins (cell (single x)) ys (token e h) = (ap (is (sign (bytes "+"))) e, ap (is (sign (bytes "-"))) e)
   factor-begins (cell (element x i)) ys (token e h) = (ap (is (sign (bytes "+"))) e, ap (is (sign (bytes "-"))) e)
-  factor-begins (rdiv a b) ys (token e h) = (ap (is (sign (bytes "+"))) e, ap (is (sign (bytes "-"))) e)
+  factor-begins (call Rdiv a b) ys (token e h) = (ap (is (sign (bytes "+"))) e, ap (is (sign (bytes "-"))) e)
+  factor-begins (call Max a b) ys (token e h) = (ap (is (sign (bytes "+"))) e, ap (is (sign (bytes "-"))) e)
   factor-begins (brackets i) ys (token e h) = (ap (is (sign (bytes "+"))) e, ap (is (sign (bytes "-"))) e)
 
-  term-begins : (t : Term) {s u : S} → Sp s (showTerm t) u → Unsigned (peek s)
+  pub term-begins : (t : Term) {s u : S} → Sp s (showTerm t) u → Unsigned (peek s)
   unfolding showTerm
   term-begins (term x xs) h = factor-begins x (showFactors xs) h
 
@@ -189,25 +192,42 @@ module _ {S : Type 0} (peek : S → Option Token) (skip : S → S) where
   comma-ends : {s u : S} → Sp s (sign (bytes ",") ∷ []) u → Top (peek s)
   comma-ends (token e here) = rw e ((refl, refl), refl)
 
+  -- the two arguments of a function, and its brackets
+  pair-it : (f : ℕ) → Completes f → (g : Function) (a c : Expr) (s u : S) → 3 * length (show a) + 4 ≤ f → 3 * length (show c) + 4 ≤ f
+      → Sp s (sign (bytes "(") ∷ (show a ++ (sign (bytes ",") ∷ (show c ++ (sign (bytes ")") ∷ []))))) u
+      → next (expects peek skip "(" s) (λ _. readPair peek skip (readExpr peek skip f) (call g)) ≡ done (call g a c) u
+  pair-it f i g a c s u b d (token e h) =
+      splits (show a) h λ m1 h1 r1.
+      splits (sign (bytes ",") ∷ []) r1 λ m2 h2 r2.
+      splits (show c) r2 λ m3 h3 h4.
+      binds _ (expect-it "(" (token e here)) (binds _ (i .expr a (skip s) m1 b h1 (comma-ends h2))
+      (binds _ (expect-it "," h2) (binds _ (i .expr c m2 m3 d h3 (close-ends h4)) (binds _ (expect-it ")" h4) refl))))
+
+  call-long : (a c : Expr) → length (show a ++ (sign (bytes ",") ∷ (show c ++ (sign (bytes ")") ∷ [])))) ≡ length (show a) + (2 + length (show c))
+  call-long a c = omega (
+    arith,
+    length-append (show a) (sign (bytes ",") ∷ (show c ++ (sign (bytes ")") ∷ []))),
+    length-append (show c) (sign (bytes ")") ∷ []),
+  )
+
   factor-it : (f : ℕ) → Completes f → (e : Factor) (s u : S) → 3 * length (showFactor e) + 2 ≤ suc f → Sp s (showFactor e) u → Low (peek u)
       → readFactor peek skip (suc f) s ≡ done e u
   unfolding readFactor showFactor showRef
   factor-it f i (literal d) s u b (token e here) p = yes-choose _ _ (ap (λ o. eqb (kind o) 3) e) (binds _ (digits-it (token e here)) refl)
   factor-it f i (cell (single x)) s u b (token e h) p =
       no-choose _ _ (ap (λ o. eqb (kind o) 3) e) (no-choose _ _ (ap (is (sign (bytes "("))) e) (no-choose _ _ (ap (is (word-of (bytes "rdiv"))) e)
-      (binds _ (i .ref (single x) s u (omega arith) (token e h) p) refl)))
+      (no-choose _ _ (ap (is (word-of (bytes "max"))) e) (binds _ (i .ref (single x) s u (omega arith) (token e h) p) refl))))
   factor-it f i (cell (element x j)) s u b (token e h) p =
       no-choose _ _ (ap (λ o. eqb (kind o) 3) e) (no-choose _ _ (ap (is (sign (bytes "("))) e) (no-choose _ _ (ap (is (word-of (bytes "rdiv"))) e)
-      (binds _ (i .ref (element x j) s u (omega arith) (token e h) p) refl)))
-  factor-it f i (rdiv a c) s u b (token e (token e2 h)) p =
-      splits (show a) h λ m1 h1 r1.
-      splits (sign (bytes ",") ∷ []) r1 λ m2 h2 r2.
-      splits (show c) r2 λ m3 h3 h4.
-      let c1 = length-append (show a) (sign (bytes ",") ∷ (show c ++ (sign (bytes ")") ∷ []))) in
-      let c2 = length-append (show c) (sign (bytes ")") ∷ []) in
+      (no-choose _ _ (ap (is (word-of (bytes "max"))) e) (binds _ (i .ref (element x j) s u (omega arith) (token e h) p) refl))))
+  factor-it f i (call Rdiv a c) s u b (token e h) p =
+      let l = call-long a c in
       no-choose _ _ (ap (λ o. eqb (kind o) 3) e) (no-choose _ _ (ap (is (sign (bytes "("))) e) (yes-choose _ _ (ap (is (word-of (bytes "rdiv"))) e)
-      (binds _ (expect-it "(" (token e2 here)) (binds _ (i .expr a (skip (skip s)) m1 (omega arith) h1 (comma-ends h2))
-      (binds _ (expect-it "," h2) (binds _ (i .expr c m2 m3 (omega arith) h3 (close-ends h4)) (binds _ (expect-it ")" h4) refl)))))))
+      (pair-it f i Rdiv a c (skip s) u (omega arith) (omega arith) h)))
+  factor-it f i (call Max a c) s u b (token e h) p =
+      let l = call-long a c in
+      no-choose _ _ (ap (λ o. eqb (kind o) 3) e) (no-choose _ _ (ap (is (sign (bytes "("))) e) (no-choose _ _ (ap (is (word-of (bytes "rdiv"))) e)
+      (yes-choose _ _ (ap (is (word-of (bytes "max"))) e) (pair-it f i Max a c (skip s) u (omega arith) (omega arith) h))))
   factor-it f i (brackets j) s u b (token e h) p =
       splits (show j) h λ m1 h1 h2.
       let c = length-append (show j) (sign (bytes ")") ∷ []) in

@@ -13,7 +13,8 @@ pub mod Places
 pub mod Accepted
 pub mod Nested
 pub mod Body
--- What an update adds; references that are alike.
+-- The forms of updates, and what they come to; references that are alike.
+pub mod Forms
 pub mod Added
 pub mod Aside
 pub mod Clauseless

@@ -1,6 +1,6 @@
 -- The loop of an accepted text is proper: its statements access only cells of the table and update only those of reduction names.
 -- One induction over expressions and statements serves both: it carries any property of what is still done that such accesses keep.
-use mathlib.Core.Path.{_≡_, refl, _∙_}
+use mathlib.Core.Path.{_≡_, refl, sym, _∙_, subst}
 use mathlib.Core.Bool.{true, _&&_}
 use mathlib.Core.List.{List}
 use Prim.Native.Nat.{ℕ, _+_, _≤_, _<_}
@@ -9,17 +9,19 @@ use lib.Dec.{leb}
 use lib.IntN.{ℤ, pos, negsuc, _+ℤ_}
 use borrow.Author.Tests.{leb-true}
 use Rattle.int32.specs.declared.Relation.{Relation}
-use Rattle.int32.specs.Integers.{sum, quotient, related}
-use Rattle.int32.proofs.Laws.{sum-assoc, sum-comm, sum-zero-r, sum-fits}
-use Rattle.rules.specs.Loop.{Act, read, write, update, fault, done, Class, shared, lastprivate, copied, reduction}
+use Rattle.int32.specs.Integers.{quotient, related}
+use Rattle.rules.specs.declared.Operator.{Operator}
+use Rattle.rules.specs.Loop.{Act, read, write, update, fault, done, Class, shared, lastprivate, copied, reduction, Reduces}
 use Rattle.rules.specs.Proper.{Sums, Sized, Proper}
 use Rattle.rules.proofs.BlocksLaws.{tested-proper}
+use Rattle.syntax.specs.declared.Function.{Function}
+use Rattle.syntax.specs.declared.Function.the-variants.{Rdiv, Max}
 use Rattle.syntax.specs.Bytes.{choose}
-use Rattle.syntax.specs.Grammar.{Expr, expr, Terms, no-terms, terms, Term, term, Factors, no-factors, factors, Factor, literal, cell, rdiv, brackets, Ref, single, element}
+use Rattle.syntax.specs.Grammar.{Expr, expr, Terms, no-terms, terms, Term, term, Factors, no-factors, factors, Factor, literal, cell, call, brackets, Ref, single, element}
 use Rattle.syntax.specs.Known.{Entry, find, cells, State, Stmts, stop, set, if-then, if-else}
 use Rattle.syntax.specs.Conditions.{refName, finished}
 use Rattle.syntax.specs.Text.{read as accepts, good}
-use Rattle.syntax.specs.Meaning.{is-reduction, same-ref, summand, is-update, remainder, led, located, divides, isVariable, eval, evalTerms, evalTerm, evalFactors, evalFactor, place, assigned, exec, class-of, loopOf, partitionOf}
+use Rattle.syntax.specs.Meaning.{is-reduction, same-ref, repeated, operator-at, is-update, remainder, led, located, divides, called, isVariable, eval, evalTerms, evalTerm, evalFactors, evalFactor, place, assigned, exec, class-of, loopOf, partitionOf}
 use Rattle.syntax.specs.Sane.{SaneEntry, SaneTable, Sane}
 use Rattle.syntax.proofs.Spelling.{both-true}
 use Rattle.syntax.proofs.TestLaws.{choose-each, each-weaken}
@@ -28,37 +30,37 @@ use Rattle.syntax.proofs.Table.{find-each, find-ends, find-first, class
 use Rattle.int32.specs.Integers as integers
 
 -- "An update is an assignment to a cell of a reduction name"
-update-reduces : (t : List Entry) (r : Ref) (e : Expr) → is-update t r e ≡ true → find (refName r) t .class ≡ reduction
+pub update-reduces : (t : List Entry) (r : Ref) (e : Expr) → is-update t r e ≡ true → (o : Operator) × (find (refName r) t .class ≡ reduction o)
 unfolding is-update
-update-reduces t r e u = go (find (refName r) t .class) (both-true _ (same-ref r (summand e)) u .0)
+update-reduces t r e u = go (find (refName r) t .class) (both-true _ (same-ref r (repeated (operator-at t r) e)) u .0)
   where
-    go : (c : Class) → is-reduction c ≡ true → c ≡ reduction
+    go : (c : Class) → is-reduction c ≡ true → (o : Operator) × (c ≡ reduction o)
     go shared h = let z : _≡_ {A = ℕ} 0 1 = cc in absurd (omega arith)
     go lastprivate h = let z : _≡_ {A = ℕ} 0 1 = cc in absurd (omega arith)
     go copied h = let z : _≡_ {A = ℕ} 0 1 = cc in absurd (omega arith)
-    go reduction h = refl
+    go (reduction o) h = (o, refl)
 
 -- ---- the cell of a reference
 
 -- cell c is one of the table, and of a reduction name where name x is one
-record Meant (t : List Entry) (x : List ℕ) (c : ℕ) : Type 0 where
-  below : c < cells t
-  updated : find x t .class ≡ reduction → class-of t c ≡ reduction
+pub record Meant (t : List Entry) (x : List ℕ) (c : ℕ) : Type 0 where
+  pub below : c < cells t
+  pub updated : (o : Operator) → find x t .class ≡ reduction o → class-of t c ≡ reduction o
 
 module _ (t : List Entry) (h : SaneTable t) where
   -- nothing that is not found is of a reduction name
-  found-some : (x : List ℕ) → find x t .class ≡ reduction → 0 < find x t .size
-  found-some x =
-      find-each (λ e. e .class ≡ reduction → 0 < e .size) x t (λ k. let z : _≡_ {A = ℕ} 0 1 = cc in absurd (omega arith))
+  found-some : (o : Operator) (x : List ℕ) → find x t .class ≡ reduction o → 0 < find x t .size
+  found-some o x =
+      find-each (λ e. e .class ≡ reduction o → 0 < e .size) x t (λ k. let z : _≡_ {A = ℕ} 0 1 = cc in absurd (omega arith))
       (each-weaken SaneEntry _ (λ e s _. s .some-cells) t (h .sized))
 
-  meant : (x : List ℕ) (c : ℕ) → find x t .first ≤ c → c < find x t .first + find x t .size → Meant t x c
-  meant x c p q = record { below = omega (arith, find-ends x t h); updated = λ e. class-of-found x 0 t c (h .laid) p q ∙ e }
+  pub meant : (x : List ℕ) (c : ℕ) → find x t .first ≤ c → c < find x t .first + find x t .size → Meant t x c
+  meant x c p q = record { below = omega (arith, find-ends x t h); updated = λ o e. class-of-found x 0 t c (h .laid) p q ∙ e }
 
-  meant-first : 0 < cells t → (x : List ℕ) → Meant t x (find x t .first)
+  pub meant-first : 0 < cells t → (x : List ℕ) → Meant t x (find x t .first)
   meant-first k x = record {
     below = find-first x t h k;
-    updated = λ e. class-of-found x 0 t (find x t .first) (h .laid) (omega arith) (omega (arith, found-some x e)) ∙ e;
+    updated = λ o e. class-of-found x 0 t (find x t .first) (h .laid) (omega arith) (omega (arith, found-some o x e)) ∙ e;
   }
 
 -- ---- what the accesses keep
@@ -66,7 +68,7 @@ module _ (t : List Entry) (h : SaneTable t) where
 record Kept (t : List Entry) (P : Act → Type 0) : Type 0 where
   reads : (c : ℕ) (k : ℤ → Act) → c < cells t → ((y : ℤ) → P (k y)) → P (read c k)
   writes : (c : ℕ) (y : ℤ) (a : Act) → c < cells t → P a → P (write c y a)
-  updates : (c : ℕ) (y : ℤ) (a : Act) → c < cells t → class-of t c ≡ reduction → P a → P (update c y a)
+  updates : (c : ℕ) (y : ℤ) (a : Act) → c < cells t → Reduces (class-of t c) → P a → P (update c y a)
   faults : (n line : ℕ) → P (fault n line)
 
 module _ (t : List Entry) (v : List ℕ) (x : ℤ) (h : SaneTable t) (filled : 0 < cells t) (P : Act → Type 0) (keep : Kept t P) where
@@ -81,6 +83,11 @@ module _ (t : List Entry) (v : List ℕ) (x : ℤ) (h : SaneTable t) (filled : 0
   divides-kept : (line : ℕ) (f : ℤ → ℤ → ℤ) (a b : ℤ) (k : ℤ → Act) → ((y : ℤ) → P (k y)) → P (divides line f a b k)
   unfolding divides
   divides-kept line f a b k q = choose-each P (integers.same b (pos 0)) _ _ (λ _. keep .faults 10 line) (λ _. q (f a b))
+
+  called-kept : (line : ℕ) (f : Function) (a b : ℤ) (k : ℤ → Act) → ((y : ℤ) → P (k y)) → P (called line f a b k)
+  unfolding called
+  called-kept line Rdiv a b k q = divides-kept line _ a b k q
+  called-kept line Max a b k q = q _
 
   mutual
     unfolding eval evalTerms evalTerm evalFactors evalFactor place
@@ -105,7 +112,7 @@ module _ (t : List Entry) (v : List ℕ) (x : ℤ) (h : SaneTable t) (filled : 0
     evalFactor-kept line (literal d) k q = q _
     evalFactor-kept line (cell r) k q =
         choose-each P (isVariable t v x r) _ _ (λ _. q x) (λ _. place-kept line r _ (λ c m. keep .reads c k (m .below) q))
-    evalFactor-kept line (rdiv a b) k q = eval-kept line a _ (λ y. eval-kept line b _ (λ z. divides-kept line _ y z k q))
+    evalFactor-kept line (call f a b) k q = eval-kept line a _ (λ y. eval-kept line b _ (λ z. called-kept line f y z k q))
     evalFactor-kept line (brackets e) k q = eval-kept line e k q
 
     place-kept : (line : ℕ) (r : Ref) (k : ℕ → Act) → ((c : ℕ) → Meant t (refName r) c → P (k c)) → P (place t v x line r k)
@@ -115,8 +122,11 @@ module _ (t : List Entry) (v : List ℕ) (x : ℤ) (h : SaneTable t) (filled : 0
   assigned-kept : (line : ℕ) (r : Ref) (e : Expr) (a : Act) → P a → P (assigned t v x line r e a)
   unfolding assigned
   assigned-kept line r e a p = choose-each P (is-update t r e) _ _
-      (λ u. place-kept line r _ (λ c m. eval-kept line (remainder e) _ (λ y. keep .updates c y a (m .below) (m .updated (update-reduces t r e u)) p)))
+      (λ u. place-kept line r _ (λ c m. eval-kept line (remainder (operator-at t r) e) _ (λ y. keep .updates c y a (m .below) (reduces u m) p)))
       (λ _. eval-kept line e _ (λ y. place-kept line r _ (λ c m. keep .writes c y a (m .below) p)))
+    where
+      reduces : is-update t r e ≡ true → {c : ℕ} → Meant t (refName r) c → Reduces (class-of t c)
+      reduces u {c} m = let (o, k) = update-reduces t r e u in subst Reduces (sym (m .updated o k)) tt
 
   branch-kept : (line : ℕ) (a b : Expr) (rel : Relation) (f g : Act) → P f → P g
       → P (eval t v x line a (λ y. eval t v x line b (λ z. choose (related rel y z) (λ _. f) (λ _. g))))
@@ -148,7 +158,7 @@ proper-loop s h f m =
     tested-proper (loopOf s m) (s .processors) (h .some-processors (omega arith))
     (λ i. exec-kept (s .table) (s .variable) (s .from +ℤ pos i) (h .table) c _ (sums-kept (s .table)) (s .inner) done tt)
     (λ i. exec-kept (s .table) (s .variable) (s .from +ℤ pos i) (h .table) c _ (sized-kept (s .table)) (s .inner) done tt)
-    sum-assoc sum-comm (λ x y. sum-zero-r (sum x y) (sum-fits x y)) (sum-zero-r (pos 0) (record { sfits = omega arith })) (s .grouping)
+    (s .grouping)
 
 pub accepted-proper : (text : List ℕ) (s : State) (m : List ℤ) → accepts text ≡ good s → Proper (loopOf s m) (partitionOf s)
 accepted-proper text s m h = proper-loop s (accepted-sane text s h) (accepted-finished text s h) m

@@ -2,16 +2,17 @@
 -- its syntax. Over any kind of place; and for a line as a list of tokens.
 use mathlib.Core.Path.{_≡_, refl, sym, _∙_, ap}
 use mathlib.Core.Logic.{inl, inr}
-use mathlib.Core.Bool.{true, _&&_}
+use mathlib.Core.Bool.{Bool, true, false, cond, _&&_}
 use mathlib.Core.List.{List, [], _∷_, _++_, append-nil}
 use mathlib.Core.Option.{Option, none, some}
 use Prim.Native.Nat.{ℕ, zero, suc, _+_, _*_}
 use native.Mathlib.Omega.{arith}
 use lib.Dec.{eqb}
 use lib.ListN.{length}
+use Rattle.rules.specs.declared.Operator.the-variants.{Sum, Product, Maximum}
 use Rattle.syntax.specs.Bytes.{Token}
-use Rattle.syntax.specs.Grammar.{Lead, expr, item, Line, sg, showDigits, showMore, showName, showDeclared, showSigned, showItem, showKind, showClause, showClauses, showLine}
-use Rattle.syntax.specs.Reader.{Parsed, broken, done, Reader, kind, is, sees, says, expects, wants, finish, readName, isDigits, readDigits, readRel, readLead, readExpr, readRef, readMore, readList, readDeclared, readDeclare, readSigned, readItem, readGive, readKind, readThreads, readClause, readClauses, readDirective, readLoop, readAssign, readWhen, readEnd, readStart, readLine, first, rest, syntaxOf, parse}
+use Rattle.syntax.specs.Grammar.{Lead, expr, item, Line, sg, showDigits, showMore, showName, showDeclared, showSigned, showItem, showOperator, showKind, showClause, showClauses, showLine}
+use Rattle.syntax.specs.Reader.{Parsed, broken, done, Reader, kind, is, sees, says, expects, wants, finish, readName, isDigits, readDigits, given, readRel, readOperator, readLead, readExpr, readRef, readMore, readList, readDeclared, readDeclare, readSigned, readItem, readGive, readKind, readThreads, readClause, readClauses, readDirective, readLoop, readAssign, readWhen, readEnd, readStart, readLine, first, rest, syntaxOf, parse}
 use Rattle.syntax.specs.Spelled.{Spells, here, token}
 use Rattle.syntax.proofs.SoundExpr.{Sound, sees-sound, says-sound, lead-sound, rel-sound, sounds}
 use Rattle.syntax.proofs.Spelling.{not-done, same-done, bound, chosen, conded, tokenly, kind-is, _▸_, expects-sound, wants-sound, name-sound, digits-sound}
@@ -94,6 +95,16 @@ module _ {S : Type 0} (peek : S → Option Token) (skip : S → S) where
       (wants-sound peek skip "data" s h1 ▸ (name-sound peek skip m1 h2 ▸ (expects-sound peek skip "/" m2 h3
       ▸ (list-sound (readItem peek skip) showItem item-sound f m3 m4 is h4 ▸ expects-sound peek skip "/" m4 h5))))
 
+  operator-sound : Sound peek skip (readOperator peek skip) showOperator
+  operator-sound s u o h = go (sees peek skip "+" s) (sees peek skip "*" s) (says peek skip "max" s) refl refl refl h
+    where
+      go : (a b c : Bool) → sees peek skip "+" s ≡ a → sees peek skip "*" s ≡ b → says peek skip "max" s ≡ c
+          → given peek skip (cond a (some Sum) (cond b (some Product) (cond c (some Maximum) none))) s ≡ done o u → Spells peek skip s (showOperator o) u
+      go true b c ea eb ec h = same-done (λ o u. Spells peek skip s (showOperator o) u) h (sees-sound peek skip "+" s ea)
+      go false true c ea eb ec h = same-done (λ o u. Spells peek skip s (showOperator o) u) h (sees-sound peek skip "*" s eb)
+      go false false true ea eb ec h = same-done (λ o u. Spells peek skip s (showOperator o) u) h (says-sound peek skip "max" s ec)
+      go false false false ea eb ec h = absurd (not-done h)
+
   kind-sound : Sound peek skip (readKind peek skip) showKind
   kind-sound s u a h = elim (chosen (says peek skip "shared" s) _ _ h) [
     | inl c ↦
@@ -112,11 +123,11 @@ module _ {S : Type 0} (peek : S → Option Token) (skip : S → S) where
         | inr e ↦
             bound (wants peek skip "reduction" s) _ (e .1) λ _ m1 h1 k1.
             bound (expects peek skip "(" m1) _ k1 λ _ m2 h2 k2.
-            bound (expects peek skip "+" m2) _ k2 λ _ m3 h3 k3.
+            bound (readOperator peek skip m2) _ k2 λ o m3 h3 k3.
             bound (expects peek skip ":" m3) _ k3 λ _ m4 h4 k4.
             same-done (λ e u. Spells peek skip s (showKind e) u) k4
             (wants-sound peek skip "reduction" s h1
-            ▸ (expects-sound peek skip "(" m1 h2 ▸ (expects-sound peek skip "+" m2 h3 ▸ expects-sound peek skip ":" m3 h4)))
+            ▸ (expects-sound peek skip "(" m1 h2 ▸ (operator-sound m2 m3 o h3 ▸ expects-sound peek skip ":" m3 h4)))
       ]
     ]
   ]

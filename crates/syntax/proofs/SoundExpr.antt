@@ -10,9 +10,11 @@ use Prim.Native.String.{String}
 use native.Mathlib.Omega.{arith}
 use Rattle.int32.specs.declared.Relation.{Relation}
 use Rattle.int32.specs.declared.Relation.the-variants.{Equal, Unequal, Less, AtMost, Greater, AtLeast}
+use Rattle.syntax.specs.declared.Function.{Function}
+use Rattle.syntax.specs.declared.Function.the-variants.{Rdiv, Max}
 use Rattle.syntax.specs.Bytes.{bytes, Token, sign, word-of}
-use Rattle.syntax.specs.Grammar.{bare, plus, minus, expr, terms, term, factors, rdiv, showLead, showRel, show, showTerms, showTerm, showFactors, showFactor, showRef}
-use Rattle.syntax.specs.Reader.{Parsed, done, Reader, sees, says, expects, readName, isDigits, readDigits, given, readRel, readLead, readExpr, readTerms, readTerm, readFactors, readFactor, readRef}
+use Rattle.syntax.specs.Grammar.{bare, plus, minus, expr, terms, term, factors, Factor, call, showLead, showRel, showFunction, show, showTerms, showTerm, showFactors, showFactor, showRef}
+use Rattle.syntax.specs.Reader.{Parsed, done, Reader, next, sees, says, expects, readName, isDigits, readDigits, given, readRel, readLead, readPair, readExpr, readTerms, readTerm, readFactors, readFactor, readRef}
 use Rattle.syntax.specs.Spelled.{Spells, here}
 use Rattle.syntax.proofs.Spelling.{not-done, same-done, bound, chosen, is-true, _▸_, one-token, expects-sound, name-sound, digits-sound}
 
@@ -110,6 +112,21 @@ module _ {S : Type 0} (peek : S → Option Token) (skip : S → S) where
     | inr c ↦ same-done (λ e u. Spells peek skip s (showFactors e) u) (c .1) here
   ]
 
+  -- a function, by its word
+  call-sound : (f : ℕ) → Sounds f → (g : Function) (t : String) → showFunction g ≡ word-of (bytes t) ∷ [] → (s u : S) (a : Factor) → says peek skip t s ≡ true
+      → next (expects peek skip "(" (skip s)) (λ _. readPair peek skip (readExpr peek skip f) (call g)) ≡ done a u → Spells peek skip s (showFactor a) u
+  unfolding showFactor
+  call-sound f i g t w s u a e h =
+      bound (expects peek skip "(" (skip s)) _ h λ _ m1 h1 k1.
+      bound (readExpr peek skip f m1) _ k1 λ a m2 h2 k2.
+      bound (expects peek skip "," m2) _ k2 λ _ m3 h3 k3.
+      bound (readExpr peek skip f m3) _ k3 λ b m4 h4 k4.
+      bound (expects peek skip ")" m4) _ k4 λ _ m5 h5 k5.
+      same-done (λ e u. Spells peek skip s (showFactor e) u) k5
+      (rw w (says-sound t s e
+      ▸ (expects-sound peek skip "(" (skip s) h1
+      ▸ (i .expr m1 m2 a h2 ▸ (expects-sound peek skip "," m2 h3 ▸ (i .expr m3 m4 b h4 ▸ expects-sound peek skip ")" m4 h5))))))
+
   factor-sound : (f : ℕ) → Sounds f → Sound (readFactor peek skip (suc f)) showFactor
   unfolding readFactor showFactor
   factor-sound f i s u a h = elim (chosen (isDigits peek skip s) _ _ h) [
@@ -123,19 +140,13 @@ module _ {S : Type 0} (peek : S → Option Token) (skip : S → S) where
           same-done (λ e u. Spells peek skip s (showFactor e) u) k2
           (sees-sound "(" s (d .0) ▸ (i .expr (skip s) m1 e h1 ▸ expects-sound peek skip ")" m1 h2))
       | inr d ↦ elim (chosen (says peek skip "rdiv" s) _ _ (d .1)) [
-        | inl e ↦
-            bound (expects peek skip "(" (skip s)) _ (e .1) λ _ m1 h1 k1.
-            bound (readExpr peek skip f m1) _ k1 λ a m2 h2 k2.
-            bound (expects peek skip "," m2) _ k2 λ _ m3 h3 k3.
-            bound (readExpr peek skip f m3) _ k3 λ b m4 h4 k4.
-            bound (expects peek skip ")" m4) _ k4 λ _ m5 h5 k5.
-            same-done (λ e u. Spells peek skip s (showFactor e) u) k5
-            (says-sound "rdiv" s (e .0)
-            ▸ (expects-sound peek skip "(" (skip s) h1
-            ▸ (i .expr m1 m2 a h2 ▸ (expects-sound peek skip "," m2 h3 ▸ (i .expr m3 m4 b h4 ▸ expects-sound peek skip ")" m4 h5)))))
-        | inr e ↦
-            bound (readRef peek skip f s) _ (e .1) λ r m1 h1 k1.
-            same-done (λ e u. Spells peek skip s (showFactor e) u) k1 (i .ref s m1 r h1)
+        | inl e ↦ call-sound f i Rdiv "rdiv" refl s u a (e .0) (e .1)
+        | inr e ↦ elim (chosen (says peek skip "max" s) _ _ (e .1)) [
+          | inl g ↦ call-sound f i Max "max" refl s u a (g .0) (g .1)
+          | inr g ↦
+              bound (readRef peek skip f s) _ (g .1) λ r m1 h1 k1.
+              same-done (λ e u. Spells peek skip s (showFactor e) u) k1 (i .ref s m1 r h1)
+        ]
       ]
     ]
   ]

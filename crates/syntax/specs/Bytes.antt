@@ -93,11 +93,11 @@ bytesOf (sign b) = b
 abbrev pub equal : Token → Token → Bool
 equal t u = eqb (kindOf t) (kindOf u) && same (bytesOf t) (bytesOf u)
 
--- "The words integer, data, do, end, enddo, endif, if, then, else and rdiv are no names"
+-- "The words integer, data, do, end, enddo, endif, if, then, else and rdiv are no names"; document 02, Point 6: "max is no longer free as a name"
 abbrev pub reserved : List (List ℕ)
 reserved =
     bytes "integer" ∷ bytes "data" ∷ bytes "do" ∷ bytes "end" ∷ bytes "enddo" ∷ bytes "endif" ∷ bytes "if" ∷ bytes "then" ∷ bytes "else"
-    ∷ bytes "rdiv" ∷ []
+    ∷ bytes "rdiv" ∷ bytes "max" ∷ []
 
 -- "Names are a letter and up to 30 letters, digits or underscores"
 abbrev pub word-of : List ℕ → Token

@@ -7,7 +7,7 @@ use Prim.Native.Nat.{ℕ, suc, _+_}
 use lib.Dec.{ltb, leb, eqb}
 use lib.ListN.{length}
 use Rattle.syntax.specs.Bytes.{all, any, same, between}
-use Rattle.syntax.specs.Grammar.{number, Expr, expr, Terms, no-terms, terms, Term, term, Factors, no-factors, factors, Factor, literal, cell, rdiv, brackets, Ref, single, element, Declared, one, array, Item, item, assign, when, otherwise, end-if, Line, declare, give, direct, loop, inside, end-do, close}
+use Rattle.syntax.specs.Grammar.{number, Expr, expr, Terms, no-terms, terms, Term, term, Factors, no-factors, factors, Factor, literal, cell, call, brackets, Ref, single, element, Declared, one, array, Item, item, assign, when, otherwise, end-if, Line, declare, give, direct, loop, inside, end-do, close}
 use Rattle.syntax.specs.Known.{Entry, Open, State, declaredName, declaredSize, total, signed, copies, iterations, cells, known, find, threads-in, statics-in, names-in, in-lastprivate, in-firstprivate, in-another}
 
 -- ---- what a line's names and limits are judged by
@@ -37,7 +37,7 @@ unfoldable mutual
   pub inFactor : ℕ → Factor → List Mention
   inFactor n (literal d) = digits d ∷ []
   inFactor n (cell r) = inRef n r
-  inFactor n (rdiv a b) = opens (suc n) ∷ (mentions (suc n) a ++ mentions (suc n) b)
+  inFactor n (call f a b) = opens (suc n) ∷ (mentions (suc n) a ++ mentions (suc n) b)
   inFactor n (brackets e) = opens (suc n) ∷ mentions (suc n) e
 
   pub inRef : ℕ → Ref → List Mention
@@ -115,7 +115,8 @@ names s l = all (rightly (s .table) (s .variable)) (inLine l) && singly s l
 
 -- ---- 4: limits
 
--- "literals to 2,147,483,647"; "brackets open together in a statement 8, those of a subscript on either side and of rdiv counted"
+-- "literals to 2,147,483,647"; "brackets open together in a statement 8, those of a subscript on either side and of rdiv counted"; document 02, Point 6:
+-- those of max too
 abbrev pub small : Mention → Bool
 small (digits d) = leb (number d) 2147483647
 small (refers x b) = true

@@ -7,8 +7,12 @@ use Prim.Native.Nat.{ℕ, _+_, _-_, _*_}
 use Prim.Native.String.{String}
 use Rattle.int32.specs.declared.Relation.{Relation}
 use Rattle.int32.specs.declared.Relation.the-variants.{Equal, Unequal, Less, AtMost, Greater, AtLeast}
+use Rattle.rules.specs.declared.Operator.{Operator}
+use Rattle.rules.specs.declared.Operator.the-variants.{Sum, Product, Maximum}
 use Rattle.syntax.specs.declared.ClauseKind.{ClauseKind}
 use Rattle.syntax.specs.declared.ClauseKind.the-variants.{Shared, Lastprivate, Firstprivate, Reduction}
+use Rattle.syntax.specs.declared.Function.{Function}
+use Rattle.syntax.specs.declared.Function.the-variants.{Rdiv, Max}
 use Rattle.syntax.specs.Bytes.{bytes, Token, name, digits, sign, word-of}
 
 -- ---- literals
@@ -28,7 +32,7 @@ pub data Lead : Type 0 where
 
 -- "An expression holds terms, a term holds factors, a factor may hold an expression. Terms are joined by + and -, factors by * and /, both from
 -- the left. One sign may begin an expression." Further terms come after + (false) or - (true), further factors after * (false) or / (true).
--- "A factor is a literal, v, a cell, `rdiv(e, e)`, or an expression in brackets."
+-- "A factor is a literal, v, a cell, `rdiv(e, e)`, or an expression in brackets." Document 02, Point 6: "`max(e, e)` also becomes a factor".
 mutual
   pub data Expr : Type 0 where
     expr : Lead → Term → Terms → Expr
@@ -47,7 +51,7 @@ mutual
   pub data Factor : Type 0 where
     literal : List ℕ → Factor
     cell : Ref → Factor
-    rdiv : Expr → Expr → Factor
+    call : Function → Expr → Expr → Factor
     brackets : Expr → Factor
 
   pub data Ref : Type 0 where
@@ -64,7 +68,8 @@ pub data Item : Type 0 where
   item : Option (List ℕ) → Lead → List ℕ → Item
 
 -- "`shared(list)`, `lastprivate(list)`, `reduction(+:list)`": "a list is one or more names parted by commas"; and "`num_threads(p)`".
--- Document 02, Point 3: "the clause `schedule(static)`"; Point 5: "A name may stand in `firstprivate` and `lastprivate` together"
+-- Document 02, Point 3: "the clause `schedule(static)`"; Point 5: "A name may stand in `firstprivate` and `lastprivate` together"; Point 6: "Add
+-- `reduction(*:list)` and `reduction(max:list)`"
 pub data Clause : Type 0 where
   clause : ClauseKind → List ℕ → List (List ℕ) → Clause
   threads : List ℕ → Clause
@@ -130,6 +135,10 @@ showMore f (x ∷ xs) = sg "," ⌢ f x ⌢ showMore f xs
 abbrev pub showList : {A : Type 0} → (A → List Token) → A → List A → List Token
 showList f x xs = f x ⌢ showMore f xs
 
+abbrev pub showFunction : Function → List Token
+showFunction Rdiv = wd "rdiv"
+showFunction Max = wd "max"
+
 unfoldable mutual
   pub show : Expr → List Token
   show (expr l t ts) = showLead l ⌢ showTerm t ⌢ showTerms ts
@@ -148,7 +157,7 @@ unfoldable mutual
   pub showFactor : Factor → List Token
   showFactor (literal d) = showDigits d
   showFactor (cell r) = showRef r
-  showFactor (rdiv a b) = wd "rdiv" ⌢ sg "(" ⌢ show a ⌢ sg "," ⌢ show b ⌢ sg ")"
+  showFactor (call f a b) = showFunction f ⌢ sg "(" ⌢ show a ⌢ sg "," ⌢ show b ⌢ sg ")"
   showFactor (brackets e) = sg "(" ⌢ show e ⌢ sg ")"
 
   pub showRef : Ref → List Token
@@ -169,11 +178,16 @@ showSigned l d = showLead l ⌢ showDigits d
 abbrev pub showItem : Item → List Token
 showItem (item r l d) = showRepeat r ⌢ showSigned l d
 
+abbrev pub showOperator : Operator → List Token
+showOperator Sum = sg "+"
+showOperator Product = sg "*"
+showOperator Maximum = wd "max"
+
 abbrev pub showKind : ClauseKind → List Token
 showKind Shared = wd "shared" ⌢ sg "("
 showKind Lastprivate = wd "lastprivate" ⌢ sg "("
 showKind Firstprivate = wd "firstprivate" ⌢ sg "("
-showKind Reduction = wd "reduction" ⌢ sg "(" ⌢ sg "+" ⌢ sg ":"
+showKind (Reduction o) = wd "reduction" ⌢ sg "(" ⌢ showOperator o ⌢ sg ":"
 
 abbrev pub showClause : Clause → List Token
 showClause (clause k x xs) = showKind k ⌢ showList showName x xs ⌢ sg ")"

@@ -197,22 +197,26 @@ abbrev pub in-lastprivate : ClauseKind → Bool
 in-lastprivate Shared = false
 in-lastprivate Lastprivate = true
 in-lastprivate Firstprivate = false
-in-lastprivate Reduction = false
+in-lastprivate (Reduction o) = false
 
 abbrev pub in-firstprivate : ClauseKind → Bool
 in-firstprivate Shared = false
 in-firstprivate Lastprivate = false
 in-firstprivate Firstprivate = true
-in-firstprivate Reduction = false
-
-abbrev pub in-reduction : ClauseKind → Bool
-in-reduction Shared = false
-in-reduction Lastprivate = false
-in-reduction Firstprivate = false
-in-reduction Reduction = true
+in-firstprivate (Reduction o) = false
 
 abbrev pub in-another : ClauseKind → Bool
 in-another k = not (in-firstprivate k)
+
+-- what the reduction clauses say of a name: its operator is that of the clause that it stands in
+abbrev pub reduced-in : List Clause → List ℕ → Class
+reduced-in [] x = shared
+reduced-in (clause Shared y ys ∷ cs) x = reduced-in cs x
+reduced-in (clause Lastprivate y ys ∷ cs) x = reduced-in cs x
+reduced-in (clause Firstprivate y ys ∷ cs) x = reduced-in cs x
+reduced-in (clause (Reduction o) y ys ∷ cs) x = cond (any (same x) (y ∷ ys)) (reduction o) (reduced-in cs x)
+reduced-in (threads p ∷ cs) x = reduced-in cs x
+reduced-in (static ∷ cs) x = reduced-in cs x
 
 -- "A name in no clause is shared". Document 02, Point 5: "A name may stand in `firstprivate` and `lastprivate` together": then it is copied
 unfoldable pub class-in : List Clause → List ℕ → Class
@@ -220,10 +224,7 @@ class-in cs x =
     cond
     (any (same x) (names-in in-firstprivate cs))
     copied
-    (cond
-    (any (same x) (names-in in-lastprivate cs))
-    lastprivate
-    (cond (any (same x) (names-in in-reduction cs)) reduction shared))
+    (cond (any (same x) (names-in in-lastprivate cs)) lastprivate (reduced-in cs x))
 
 abbrev pub classify : List Clause → Entry → Entry
 classify cs e = with-class (class-in cs (e .name)) e

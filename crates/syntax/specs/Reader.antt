@@ -10,10 +10,13 @@ use lib.Dec.{eqb}
 use lib.ListN.{length, take, drop}
 use Rattle.int32.specs.declared.Relation.{Relation}
 use Rattle.int32.specs.declared.Relation.the-variants.{Equal, Unequal, Less, AtMost, Greater, AtLeast}
+use Rattle.rules.specs.declared.Operator.{Operator}
+use Rattle.rules.specs.declared.Operator.the-variants.{Sum, Product, Maximum}
 use Rattle.syntax.specs.declared.ClauseKind.{ClauseKind}
 use Rattle.syntax.specs.declared.ClauseKind.the-variants.{Shared, Lastprivate, Firstprivate, Reduction}
+use Rattle.syntax.specs.declared.Function.the-variants.{Rdiv, Max}
 use Rattle.syntax.specs.Bytes.{choose, same, bytes, Token, kindOf, bytesOf, sign, word-of, token-of, token-size, trimmed}
-use Rattle.syntax.specs.Grammar.{Lead, bare, plus, minus, Expr, expr, Terms, no-terms, terms, Term, term, Factors, no-factors, factors, Factor, literal, cell, rdiv, brackets, Ref, single, element, Declared, one, array, Item, item, Clause, clause, threads, static, assign, when, otherwise, end-if, Line, declare, give, direct, loop, inside, end-do, close}
+use Rattle.syntax.specs.Grammar.{Lead, bare, plus, minus, Expr, expr, Terms, no-terms, terms, Term, term, Factors, no-factors, factors, Factor, literal, cell, call, brackets, Ref, single, element, Declared, one, array, Item, item, Clause, clause, threads, static, assign, when, otherwise, end-if, Line, declare, give, direct, loop, inside, end-do, close}
 
 -- what is read, and the place after it
 pub data Parsed (S A : Type 0) : Type 0 where
@@ -65,6 +68,9 @@ relOf t =
     (cond (isSign "<" t) (some Less) (cond (isSign "<=" t) (some AtMost)
     (cond (isSign ">" t) (some Greater) (cond (isSign ">=" t) (some AtLeast) none)))))
 
+abbrev pub operatorOf : Option Token → Option Operator
+operatorOf t = cond (isSign "+" t) (some Sum) (cond (isSign "*" t) (some Product) (cond (is (word-of (bytes "max")) t) (some Maximum) none))
+
 module _ {S : Type 0} (peek : S → Option Token) (skip : S → S) where
   abbrev pub sees : String → S → Bool
   sees t s = isSign t (peek s)
@@ -98,6 +104,9 @@ module _ {S : Type 0} (peek : S → Option Token) (skip : S → S) where
 
   abbrev pub readRel : Reader S Relation
   readRel s = given (relOf (peek s)) s
+
+  abbrev pub readOperator : Reader S Operator
+  readOperator s = given (operatorOf (peek s)) s
 
   abbrev pub readLead : Reader S Lead
   readLead s = cond (sees "+" s) (done plus (skip s)) (cond (sees "-" s) (done minus (skip s)) (done bare s))
@@ -160,9 +169,12 @@ module _ {S : Type 0} (peek : S → Option Token) (skip : S → S) where
           yield (brackets e)) (λ _.
         choose (says "rdiv" s) (λ _. at (skip s) do
           expects "("
-          readPair (readExpr f) rdiv) (λ _. at s do
+          readPair (readExpr f) (call Rdiv)) (λ _.
+        choose (says "max" s) (λ _. at (skip s) do
+          expects "("
+          readPair (readExpr f) (call Max)) (λ _. at s do
             r ← readRef f
-            yield (cell r))))
+            yield (cell r)))))
 
     pub readRef : ℕ → Reader S Ref
     readRef zero = fail
@@ -258,9 +270,9 @@ module _ {S : Type 0} (peek : S → Option Token) (skip : S → S) where
         yield Firstprivate) (λ _. at s do
           wants "reduction"
           expects "("
-          expects "+"
+          o ← readOperator
           expects ":"
-          yield Reduction)))
+          yield (Reduction o))))
 
   -- the names, after them
   abbrev pub readNames : ℕ → ClauseKind → Reader S Clause

@@ -55,7 +55,7 @@ module _ (W W′ : List ℕ) where
     value = ap value (h own (omega arith) (omega arith)) ∙ x .value;
     wrote = h (own + 1) (omega arith) (omega arith) ∙ x .wrote;
     exposed = h (own + 2) (omega arith) (omega arith) ∙ x .exposed;
-    sum = ap value (h (own + 3) (omega arith) (omega arith)) ∙ x .sum;
+    partial = ap value (h (own + 3) (omega arith) (omega arith)) ∙ x .partial;
     touched = h (own + 4) (omega arith) (omega arith) ∙ x .touched;
   }
 

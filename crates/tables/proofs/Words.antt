@@ -1,14 +1,15 @@
 -- Words that were set, and those of a row at its start.
-use mathlib.Core.Path.{_≡_, _∙_}
+use mathlib.Core.Path.{_≡_, refl, _∙_}
 use mathlib.Core.Logic.{_⊎_, inl, inr}
 use mathlib.Core.List.{List, [], _++_, append-nil}
-use Prim.Native.Nat.{ℕ, _+_, _*_, _≤_, _<_}
+use Prim.Native.Nat.{ℕ, zero, suc, _+_, _*_, _≤_, _<_}
+use native.Mathlib.Decide.{ℕ-discrete}
 use native.Mathlib.Omega.{arith}
 use lib.IntN.{ℤ}
 use lib.ListN.{length, getD, set, drop, replicate, length-set, drop-of-length-le}
 use lib.Seq.{getD-set-same, getD-set-other}
 use Rattle.int32.specs.Integers.{word}
-use Rattle.tables.specs.Entered.{entered}
+use Rattle.tables.specs.Entered.{entered, started}
 
 -- with at most 8 processors
 pub stride-most : (p : ℕ) → p ≤ 8 → 6 + 5 * p ≤ 46
@@ -95,3 +96,25 @@ module _ (W : List ℕ) (row : ℕ) (v : ℤ) (n : ℕ) (h : row + 6 ≤ length 
   entered-other k (inr a) =
       unset enter5 (row + 5) k _ (omega arith) ∙ unset enter4 (row + 4) k _ (omega arith) ∙ unset enter3 (row + 3) k _ (omega arith)
       ∙ unset enter2 (row + 2) k _ (omega arith) ∙ unset enter1 (row + 1) k _ (omega arith) ∙ unset W row k _ (omega arith)
+
+-- and its partial results
+module _ (W : List ℕ) (row : ℕ) (v : ℤ) where
+  pub started-length : (p : ℕ) → length (started W row v p) ≡ length W
+  unfolding started
+  started-length zero = refl
+  started-length (suc p) = length-set (started W row v p) (row + 6 + 5 * p + 3) (word v) ∙ started-length p
+
+  -- each of them is v
+  pub started-partial : (p q : ℕ) → q < p → row + 6 + 5 * p ≤ length W → getD (started W row v p) (row + 6 + 5 * q + 3) 0 ≡ word v
+  unfolding started
+  started-partial zero q b h = absurd (omega arith)
+  started-partial (suc p) q b h = elim (ℕ-discrete q p) [
+    | yes e ↦ rw e (hit (started W row v p) (row + 6 + 5 * p + 3) _ (omega (arith, started-length p)))
+    | no n ↦ unset (started W row v p) (row + 6 + 5 * p + 3) (row + 6 + 5 * q + 3) _ (omega arith) ∙ started-partial p q (omega arith) (omega arith)
+  ]
+
+  -- the other words are as they were
+  pub started-other : (p k : ℕ) → ((q : ℕ) → q < p → k ≡ row + 6 + 5 * q + 3 → ⊥) → getD (started W row v p) k 0 ≡ getD W k 0
+  unfolding started
+  started-other zero k h = refl
+  started-other (suc p) k h = unset (started W row v p) (row + 6 + 5 * p + 3) k _ (h p (omega arith)) ∙ started-other p k (λ q b. h q (omega arith))

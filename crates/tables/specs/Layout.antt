@@ -1,7 +1,7 @@
 -- The shadow tables (crates/shadow) in 32-bit words. The first two words are both write counts. Then comes a row for each cell: its entry value, how
 -- many groups met it, how many of them wrote it, flags, 1 + the lowest group that wrote it, 1 + the highest that read it exposed; and for each processor
--- its own value, 1 + the group of its last write, 1 + the group of its last exposed read, what it added, and 1 + the iteration of its last write or
--- update. Nothing here has to be believed.
+-- its own value, 1 + the group of its last write, 1 + the group of its last exposed read, the partial result of its updates, and 1 + the iteration
+-- of its last write or update. Nothing here has to be believed.
 use mathlib.Core.Path.{_≡_}
 use mathlib.Core.Bool.{Bool, true, false}
 use mathlib.Core.List.{List}
@@ -46,8 +46,8 @@ wrote-at own = own + 1
 abbrev pub exposed-at : ℕ → ℕ
 exposed-at own = own + 2
 
-abbrev pub sum-at : ℕ → ℕ
-sum-at own = own + 3
+abbrev pub partial-at : ℕ → ℕ
+partial-at own = own + 3
 
 abbrev pub touched-at : ℕ → ℕ
 touched-at own = own + 4
@@ -94,8 +94,8 @@ wrote-word W own = getD W (wrote-at own) 0
 abbrev pub exposed-word : List ℕ → ℕ → ℕ
 exposed-word W own = getD W (exposed-at own) 0
 
-abbrev pub sum-word : List ℕ → ℕ → ℕ
-sum-word W own = getD W (sum-at own) 0
+abbrev pub partial-word : List ℕ → ℕ → ℕ
+partial-word W own = getD W (partial-at own) 0
 
 abbrev pub touched-word : List ℕ → ℕ → ℕ
 touched-word W own = getD W (touched-at own) 0
@@ -107,7 +107,7 @@ abbrev pub bit : Bool → ℕ
 bit true = 1
 bit false = 0
 
--- 1 a group read the cell and then wrote it, 2 it was updated, 4 and 8 its class
+-- 1 a group read the cell and then wrote it, 2 it was updated, from 4 on its class
 abbrev pub flags-of : Class → Bool → Bool → ℕ
 flags-of k crossed updated = 4 * class-number k + 2 * bit updated + bit crossed
 
@@ -118,7 +118,7 @@ pub record OwnHeld (W : List ℕ) (own : ℕ) (o : Own) : Type 0 where
   pub value : integers.value (private-word W own) ≡ o .value
   pub wrote : wrote-word W own ≡ o .wrote
   pub exposed : exposed-word W own ≡ o .exposed
-  pub sum : integers.value (sum-word W own) ≡ o .sum
+  pub partial : integers.value (partial-word W own) ≡ o .partial
   pub touched : touched-word W own ≡ o .touched
 
 -- of a cell of class k with e at entry

@@ -1,11 +1,11 @@
 // The shadow tables in words of a lent workspace: crates/shadow says what they are, specs/Layout.antt where each word stands. Accesses are noted by
 // crates/noting, and crates/findings reads off what they came to.
 ghost use mathlib.Core.Path.{_≡_};
-ghost use Prim.Native.Nat.{_+_, _≤_, _<_};
+ghost use Prim.Native.Nat.{_+_, _*_, _≤_, _<_};
 ghost use lib.ListN.{length, replicate};
 ghost use Rattle.rules.specs.Choose.{pick};
 ghost use Rattle.tables.specs.Layout.{row-at, own-at, class-word};
-ghost use Rattle.tables.specs.Entered.{entered};
+ghost use Rattle.tables.specs.Entered.{entered, started, begun};
 use rules::Processor;
 
 // Both write counts stand before the rows.
@@ -29,13 +29,13 @@ pub const HIGHEST: usize = 5;
 
 pub const ROW: usize = 6;
 
-// An own part has the private value, and after it the stamps of the group that wrote last and of the one that read exposed last, the sum, and the stamp of the
-// iteration that wrote or updated last.
+// An own part has the private value, and after it the stamps of the group that wrote last and of the one that read exposed last, the partial result of its
+// updates, and the stamp of the iteration that wrote or updated last.
 pub const WROTE: usize = 1;
 
 pub const EXPOSED: usize = 2;
 
-pub const SUM: usize = 3;
+pub const PARTIAL: usize = 3;
 
 pub const TOUCHED: usize = 4;
 
@@ -73,8 +73,8 @@ pub fn class_of(w: &[u32], row: usize) -> u32
 }
 
 // A row's entry value and class.
-pub fn set_entry(w: &mut [u32], row: usize, value: i32, class: u32)
-    requires { ⌜ (row + 6 ≤ length (now w)) × (class ≤ 3) ⌝ }
+fn set_entry(w: &mut [u32], row: usize, value: i32, class: u32)
+    requires { ⌜ (row + 6 ≤ length (now w)) × (class ≤ 5) ⌝ }
     ensures { λ _. ⌜ now (w .exit) ≡ entered (now (w .entry)) row value class ⌝ }
 {
     w[row] = int32::to_word(value);
@@ -83,6 +83,31 @@ pub fn set_entry(w: &mut [u32], row: usize, value: i32, class: u32)
     w[row + FLAGS] = 4 * class;
     w[row + LOWEST] = 0;
     w[row + HIGHEST] = 0;
+}
+
+// The partial results of a row, at the number with which they begin.
+fn begin_partials(w: &mut [u32], row: usize, processors: u32, start: i32)
+    requires { ⌜ (row < 4294967296) × (row + 6 + 5 * processors ≤ length (now w)) ⌝ }
+    ensures { λ _. ⌜ now (w .exit) ≡ started (now (w .entry)) row start processors ⌝ }
+{
+    let word = int32::to_word(start);
+    let mut q: u32 = 0;
+    while q < processors {
+        let p = Processor(q);
+        let own = own_of(row, p);
+        w[own + PARTIAL] = word;
+        q += 1;
+    }
+}
+
+// A row before any access, of a cell with a value at entry and a class.
+pub fn begin_row(w: &mut [u32], row: usize, processors: u32, value: i32, class: u32)
+    requires { ⌜ (row < 4294967296) × (row + 6 + 5 * processors ≤ length (now w)) × (class ≤ 5) ⌝ }
+    ensures { λ _. ⌜ now (w .exit) ≡ begun (now (w .entry)) row processors value class ⌝ }
+{
+    set_entry(w, row, value, class);
+    let start = rules::neutral(rules::operator_of(class));
+    begin_partials(w, row, processors, start);
 }
 
 // All words are 0.

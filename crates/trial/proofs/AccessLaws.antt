@@ -13,6 +13,8 @@ use Rattle.rules.specs.ChooseLaws.{pick-same, pick-other, put-same, put-other}
 use Rattle.rules.specs.Cells.{cellOf, listed}
 use Rattle.rules.proofs.CellsLaws.{listed-length, cell-listed, listed-same, listed-cells, cell-set}
 use Rattle.rules.specs.Loop.{Class, shared, lastprivate, copied, reduction, Loop, Partition, bound}
+use Rattle.rules.specs.Numbers.{class-number}
+use Rattle.rules.proofs.NumberLaws.{reduction-number}
 use Rattle.rules.specs.Log.{reads, writes, updates, Access, access, only}
 use Rattle.rules.proofs.BlocksLaws.{tested-bound, tested-group}
 use Rattle.rules.specs.Steps.{State, latest, given}
@@ -60,14 +62,14 @@ seen-as : (l : Loop) (δ : Partition) (s : State) (i c : ℕ) (k : Class) (x : �
 seen-as l δ s i c shared x e y f = pick-same refl x y ∙ e
 seen-as l δ s i c lastprivate x e y f = pick-other {i = 1} {j = 0} (omega arith) x y ∙ f
 seen-as l δ s i c copied x e y f = pick-other {i = 3} {j = 0} (omega arith) x y ∙ f
-seen-as l δ s i c reduction x e y f = pick-other {i = 2} {j = 0} (omega arith) x y ∙ f
+seen-as l δ s i c (reduction o) x e y f = pick-other {i = class-number (reduction o)} {j = 0} (omega (arith, reduction-number o .0)) x y ∙ f
 
 stored-as : (n : ℕ) (f : ℕ → ℤ) (c : ℕ) (v : ℤ) (k : Class) (M : List ℤ) → M ≡ listed n f → c < n
     → pick (class-number k) 0 (set M c v) M ≡ listed n (steps.stored k f c v)
 stored-as n f c v shared M e b = pick-same refl (set M c v) M ∙ ap (λ (m : List ℤ). set m c v) e ∙ listed-set n f c v b
 stored-as n f c v lastprivate M e b = pick-other {i = 1} {j = 0} (omega arith) (set M c v) M ∙ e
 stored-as n f c v copied M e b = pick-other {i = 3} {j = 0} (omega arith) (set M c v) M ∙ e
-stored-as n f c v reduction M e b = pick-other {i = 2} {j = 0} (omega arith) (set M c v) M ∙ e
+stored-as n f c v (reduction o) M e b = pick-other {i = class-number (reduction o)} {j = 0} (omega (arith, reduction-number o .0)) (set M c v) M ∙ e
 
 module _ (g : Setting) (l : Loop) (M : List ℤ) (W : List ℕ) (s : State) (p i c : ℕ) (a : Allowed g l M W s p i c) where
   abbrev δ : Partition
@@ -152,14 +154,14 @@ module _ (g : Setting) (l : Loop) (M : List ℤ) (W : List ℕ) (s : State) (p i
 
   pub access-reads : (v : ℤ) → Logged l δ (access reads i c v ∷ s .log) (read-words x i W c)
   access-reads v = noted (access reads i c v) (λ k j. read-noted W (row-at k c) (own-at (row-at k c) p) j)
-      (logged-read l δ (a .standing .suits .plus) (s .log) W (a .standing .words) p i c (here .owned) (a .inside) owner-low v)
+      (logged-read l δ (s .log) W (a .standing .words) p i c (here .owned) (a .inside) owner-low v)
 
   pub access-writes : (v : ℤ) → SFits w32 v → Logged l δ (access writes i c v ∷ s .log) (written-words x i W c v)
   access-writes v f = noted (access writes i c v)
       (λ k j. written (counted W (row-at k c) (own-at (row-at k c) p) i) (row-at k c) (own-at (row-at k c) p) j v)
-      (logged-write l δ (a .standing .suits .plus) (s .log) W (a .standing .words) p i c (here .owned) (a .inside) owner-low v f)
+      (logged-write l δ (s .log) W (a .standing .words) p i c (here .owned) (a .inside) owner-low v f)
 
   pub access-updates : (v : ℤ) → Logged l δ (access updates i c v ∷ s .log) (updated-words x i W c v)
   access-updates v = noted (access updates i c v)
       (λ k j. updated (counted W (row-at k c) (own-at (row-at k c) p) i) (row-at k c) (own-at (row-at k c) p) v)
-      (logged-update l δ (a .standing .suits .plus) (s .log) W (a .standing .words) p i c (here .owned) (a .inside) owner-low v)
+      (logged-update l δ (s .log) W (a .standing .words) p i c (here .owned) (a .inside) owner-low v)

@@ -1,7 +1,7 @@
 -- How a run begins.
 use mathlib.Core.Path.{_≡_, refl, sym, _∙_, ap, subst}
 use mathlib.Core.List.{List, []}
-use Prim.Native.Nat.{ℕ, suc, _+_, _≤_, _<_}
+use Prim.Native.Nat.{ℕ, suc, _+_, _*_, _≤_, _<_}
 use native.Mathlib.Decide.{ℕ-discrete}
 use native.Mathlib.Omega.{arith}
 use lib.ListN.{length, getD, set, replicate}
@@ -12,14 +12,14 @@ use mir.Val.{SFits}
 use Rattle.rules.specs.ChooseLaws.{pick-same}
 use Rattle.rules.specs.Cells.{cellOf}
 use Rattle.rules.proofs.CellsLaws.{listed-length, cell-listed}
-use Rattle.rules.specs.Loop.{fault, Class, shared, lastprivate, copied, reduction, Loop, Partition, bound}
+use Rattle.rules.specs.Loop.{fault, Loop, Partition, bound}
 use Rattle.rules.specs.Blocks.{blockStart}
 use Rattle.rules.proofs.BlocksLaws.{tested-bound}
 use Rattle.rules.specs.Steps.{start, steps, run-on, trial}
-use Rattle.rules.specs.Numbers.{class-number}
+use Rattle.rules.proofs.NumberLaws.{class-most}
 use Rattle.shadow.proofs.Orderly.{start-orderly}
 use Rattle.tables.specs.Layout.{row-at}
-use Rattle.tables.specs.Entered.{entered}
+use Rattle.tables.specs.Entered.{begun}
 use Rattle.tables.proofs.Held.{rows-apart}
 use Rattle.tables.proofs.Start.{Begun, begun-clear, begun-more}
 use Rattle.tables.proofs.Logged.{logged-nil}
@@ -33,23 +33,17 @@ use Rattle.trial.specs.Start.{Entry, Starts, Crew}
 
 -- ---- the tables
 
-class-most : (k : Class) → class-number k ≤ 3
-class-most shared = omega arith
-class-most lastprivate = omega arith
-class-most copied = omega arith
-class-most reduction = omega arith
-
 module _ (k : ℕ) (l : Loop) (δ : Partition) (M : List ℤ) (C : List ℕ) (n : ℕ) (h : Entry k l δ M C n) where
   -- how many cells there are
   pub entry-size : length M ≡ l .size
   entry-size = ap length (h .cells) ∙ listed-length (l .size) (l .entry)
 
-  pub entry-class : (c : ℕ) → c < length M → (c < length C) × (getD C c 0 ≤ 3)
+  pub entry-class : (c : ℕ) → c < length M → (c < length C) × (getD C c 0 ≤ 5)
   entry-class c b =
       let x : c < l .size = omega (arith, entry-size) in
       (omega (arith, h .number), omega (arith, h .classes c x, class-most (l .class c)))
 
-  pub entry-room : (c : ℕ) → c < length M → row-at k c + 6 ≤ n
+  pub entry-room : (c : ℕ) → c < length M → row-at k c + 6 + 5 * k ≤ n
   entry-room c b = omega (arith, h .room, rows-apart k c (l .size) (omega (arith, entry-size)))
 
   pub entry-clear : Begun (l .size) k (l .class) (l .entry) 0 (replicate n 0)
@@ -57,14 +51,14 @@ module _ (k : ℕ) (l : Loop) (δ : Partition) (M : List ℤ) (C : List ℕ) (n 
 
   -- one cell more
   pub entry-more : (c : ℕ) (W : List ℕ) → c < length M → SFits w32 (cellOf M c) → Begun (l .size) k (l .class) (l .entry) c W
-      → Begun (l .size) k (l .class) (l .entry) (suc c) (entered W (row-at k c) (cellOf M c) (getD C c 0))
+      → Begun (l .size) k (l .class) (l .entry) (suc c) (begun W (row-at k c) k (cellOf M c) (getD C c 0))
   entry-more c W b f x =
       let lt : c < l .size = omega (arith, entry-size) in
       let e : cellOf M c ≡ l .entry c = ap (λ (m : List ℤ). cellOf m c) (h .cells) ∙ cell-listed (l .size) (l .entry) c lt in
       rw (e, h .classes c lt) (begun-more (l .size) k (l .class) (l .entry) c W x lt (subst (SFits w32) e f))
 
   pub entry-all : (c : ℕ) (W : List ℕ) → c ≡ length M → Begun (l .size) k (l .class) (l .entry) c W → Logged l δ [] W
-  entry-all c W e x = logged-nil l δ (h .suits .plus) (h .suits .nought) W
+  entry-all c W e x = logged-nil l δ W
       (subst (λ (q : ℕ). Begun (l .size) q (l .class) (l .entry) (l .size) W) (sym (h .suits .processors))
       (subst (λ (d : ℕ). Begun (l .size) k (l .class) (l .entry) d W) (e ∙ entry-size) x))
 

@@ -20,7 +20,7 @@ use Rattle.code.specs.Instr.{instructions, resume}
 use Rattle.operands.specs.Pending.{pendings}
 use Rattle.stepping.specs.declared.Point.{Point}
 use Rattle.stepping.specs.declared.Role.{Role}
-use Rattle.stepping.specs.Access.{added-by}
+use Rattle.stepping.specs.Access.{joined-by}
 use Rattle.stepping.specs.Step.{Scene, scene, CanGo, Goes}
 use Rattle.stepping.proofs.Happening.{rest, can-reach, Continues, Happens, happens}
 use Rattle.stepping.proofs.Happening as happening
@@ -148,7 +148,7 @@ module _ (code : List ℕ) (g : Setting) (l : Loop) (M : List ℤ) (W : List ℕ
         })
 
     by : Happens x code z z′ → After
-    unfolding go-on left-of pendings added-by
+    unfolding go-on left-of pendings joined-by
     by (happening.reads c on f q h w r) =
         let b = allowed c (sized _ f .0) in
         let v = given l δ (l .class c) s i c in

@@ -6,7 +6,6 @@ use mir.Syntax.{w32}
 use mir.Val.{SFits}
 use lib.ListN.{length}
 use lib.IntN.{ℤ, pos, _+ℤ_}
-use Rattle.int32.specs.Integers.{sum}
 use Rattle.rules.specs.Choose.{pick}
 use Rattle.rules.specs.Cells.{listed}
 use Rattle.rules.specs.Loop.{Act, fault, Loop, Partition}
@@ -25,8 +24,6 @@ use Rattle.stepping.specs.declared.Point.{Point}
 pub record Suits (k : ℕ) (l : Loop) (δ : Partition) : Type 0 where
   pub proper : Proper l δ
   pub processors : δ .processors ≡ k
-  pub plus : l .plus ≡ sum
-  pub nought : l .zero ≡ pos 0
   pub cells-most : l .size ≤ 4096
   pub iterations-most : l .iterations ≤ 65535
   pub groups-most : δ .groups ≤ 65535

@@ -204,7 +204,7 @@ pub fn run_on(
 
 // ---- the start, and the whole
 
-// The tables of no access: the entry value and the class of each cell.
+// The tables of no access, by the entry value and the class of each cell.
 pub fn enter(processors: u32, cells: &[i32], classes: &[u32], w: &mut [u32])
     requires { ⌜ ((l : Loop) × (δ : Partition) × Entry processors l δ (now cells) (now classes) (length (now w))) ⌝ }
     ensures { λ _. ⌜ Enters processors (now (cells .entry)) (now (classes .entry)) (length (now (w .entry))) (now (w .exit)) ⌝ }
@@ -213,7 +213,7 @@ pub fn enter(processors: u32, cells: &[i32], classes: &[u32], w: &mut [u32])
     let mut c = 0;
     while c < cells.len() {
         let row = tables::row_of(c, processors);
-        tables::set_entry(w, row, cells[c], classes[c]);
+        tables::begin_row(w, row, processors, cells[c], classes[c]);
         c += 1;
     }
 }

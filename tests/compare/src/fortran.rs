@@ -1,14 +1,16 @@
 //! A second opinion that nobody here wrote: the cells that Run leaves, beside those that gfortran's
-//! reading of the same loop leaves. Loops that fault are left out.
+//! reading of the same loop leaves. Loops that fault are left out. Where Fortran's directive means the same, the
+//! loop is run by it too, in threads: sums, products and maxima are then gfortran's own reductions.
 
 use generate::{lend, Rng};
-use reference::{fortran_of_all, workspace_needed};
+use reference::syntax::Operation;
+use reference::{fortran_of_all, read, run_serially, workspace_needed, Threads};
 use std::io;
 use std::path::{Path, PathBuf};
 use std::process::Command;
 
 use crate::product;
-use crate::runs::drawn_to_run;
+use crate::runs::{drawn_to_run, operations_of, UPDATED};
 use crate::tally::Tally;
 
 /// How many random loops are drawn, and how many of those that don't fault are compiled together.
@@ -18,6 +20,12 @@ const TOGETHER: usize = 100;
 const CELLS: usize = 200;
 /// How many loops with names in both clauses (document 02, Point 5) must be among those that pass.
 const COPIED: usize = 300;
+/// How many loops with updates of each operation (Point 6) must be among those that pass, and among those that
+/// run in threads too.
+const UPDATING: usize = 130;
+const IN_THREADS: usize = 100;
+/// What is counted of loops with names in both clauses.
+const BOTH: &str = "Names in both clauses: Run";
 
 /// A loop that Run carried to its end.
 struct Ran {
@@ -28,6 +36,8 @@ struct Ran {
     passed: bool,
     /// Whether it has names in both clauses.
     copied: bool,
+    /// The operations by which it updates cells.
+    operations: Vec<Operation>,
 }
 
 /// Compares random loops, if gfortran is there.
@@ -53,11 +63,29 @@ fn folder() -> io::Result<PathBuf> {
 }
 
 fn compare_all(folder: &Path) -> bool {
-    let mut tally = Tally::new(&format!("Run and gfortran, seeds 0 to {}", LOOPS - 1));
     let loops: Vec<Ran> = (0..LOOPS).filter_map(run_drawn).collect();
+    let in_threads = |ran: &Ran| fortran_of(&[ran], Threads::Many).is_some();
+    let all: Vec<&Ran> = loops.iter().collect();
+    let some: Vec<&Ran> = loops.iter().filter(|ran| in_threads(ran)).collect();
+    let serially = compare_in("Run and gfortran", &all, Threads::One, folder);
+    let in_threads = compare_in("Run and gfortran's threads", &some, Threads::Many, folder);
+    let (Some(serially), Some(in_threads)) = (serially, in_threads) else {
+        return false;
+    };
+    let mut often = serially.has_times(BOTH, "passed", COPIED);
+    for (updated, _) in UPDATED {
+        often &= serially.has_times(updated, "passed", UPDATING);
+        often &= in_threads.has_times(updated, "passed", IN_THREADS);
+    }
+    often
+}
+
+/// Compares the loops with gfortran's; `None` if something differs or goes wrong.
+fn compare_in(name: &str, loops: &[&Ran], threads: Threads, folder: &Path) -> Option<Tally> {
+    let mut tally = Tally::new(&format!("{name}, seeds 0 to {}", LOOPS - 1));
     let mut good = true;
     for some in loops.chunks(TOGETHER) {
-        match cells_by_fortran(some, folder) {
+        match cells_by_fortran(some, threads, folder) {
             Ok(opinions) => compare(&mut tally, some, &opinions),
             Err(complaint) => {
                 println!("FORTRAN from {}: {complaint}", some[0].name);
@@ -65,7 +93,7 @@ fn compare_all(folder: &Path) -> bool {
             }
         }
     }
-    tally.report() & good & tally.has_times("Names in both clauses: Run", "passed", COPIED)
+    (tally.report() & good).then_some(tally)
 }
 
 /// The loop of a seed as Run leaves it; `None` if it is refused or Fortran has no such loop.
@@ -83,26 +111,43 @@ fn run_drawn(seed: u64) -> Option<Ran> {
     let schedule = lend::schedule(&mut rng, made.processors);
     let mut after = before.clone();
     let answer = product::run(&text, &mut after, &mut workspace, &schedule).ok()?;
-    let fits = count <= CELLS && fortran_of_all(&[(&text, &before)]).is_some();
-    fits.then(|| Ran {
+    let program = read(&text).expect("a good text");
+    let ran = Ran {
         name: format!("seed {seed}"),
+        passed: answer.passed,
+        copied: made.has_copied(),
+        operations: operations_of(&program, &run_serially(&program, &before)),
         text,
         before,
         after,
-        passed: answer.passed,
-        copied: made.has_copied(),
-    })
+    };
+    let fits = count <= CELLS && fortran_of(&[&ran], Threads::One).is_some();
+    fits.then_some(ran)
 }
 
-/// The cells that the compiled loops print, loop by loop; or what went wrong.
-fn cells_by_fortran(loops: &[Ran], folder: &Path) -> Result<Vec<Vec<i32>>, String> {
+/// The loops in one program; `None` if one of them is not in Fortran.
+fn fortran_of(loops: &[&Ran], threads: Threads) -> Option<String> {
     let texts: Vec<(&[u8], &[i32])> = loops
         .iter()
         .map(|ran| (&ran.text[..], &ran.before[..]))
         .collect();
-    let source = fortran_of_all(&texts).ok_or("a loop that Fortran has not")?;
-    let program = compile(&source, folder)?;
-    let ran = Command::new(program).output().map_err(of_io)?;
+    fortran_of_all(&texts, threads)
+}
+
+/// The cells that the compiled loops print, loop by loop; or what went wrong.
+fn cells_by_fortran(
+    loops: &[&Ran],
+    threads: Threads,
+    folder: &Path,
+) -> Result<Vec<Vec<i32>>, String> {
+    let source = fortran_of(loops, threads).ok_or("a loop that Fortran has not")?;
+    let program = compile(&source, threads, folder)?;
+    // Threads that wait do nothing meanwhile: there may be more of them than processors.
+    let ran = Command::new(program)
+        .env("OMP_WAIT_POLICY", "passive")
+        .env("OMP_DYNAMIC", "false")
+        .output()
+        .map_err(of_io)?;
     let printed = String::from_utf8_lossy(&ran.stdout);
     let mut cells: Vec<Vec<i32>> = Vec::new();
     for line in printed.lines() {
@@ -119,10 +164,14 @@ fn cells_by_fortran(loops: &[Ran], folder: &Path) -> Result<Vec<Vec<i32>>, Strin
     Err(format!("{} stops: {complaint}", loops[last].name))
 }
 
-fn compile(source: &str, folder: &Path) -> Result<PathBuf, String> {
+fn compile(source: &str, threads: Threads, folder: &Path) -> Result<PathBuf, String> {
     let (file, program) = (folder.join("loops.f90"), folder.join("loops"));
     std::fs::write(&file, source).map_err(of_io)?;
     let compiled = Command::new("gfortran")
+        .args(match threads {
+            Threads::One => &[][..],
+            Threads::Many => &["-fopenmp"],
+        })
         .args(["-fwrapv", "-fcheck=bounds", "-w", "-o"])
         .args([&program, &file])
         .output()
@@ -137,13 +186,18 @@ fn of_io(error: io::Error) -> String {
     error.to_string()
 }
 
-fn compare(tally: &mut Tally, loops: &[Ran], opinions: &[Vec<i32>]) {
+fn compare(tally: &mut Tally, loops: &[&Ran], opinions: &[Vec<i32>]) {
     for (index, ran) in loops.iter().enumerate() {
         let mut text = tally.next(&ran.name, &ran.text);
         let word = if ran.passed { "passed" } else { "rerun" };
         text.count("Run", Ok(word));
         if ran.copied {
-            text.count("Names in both clauses: Run", Ok(word));
+            text.count(BOTH, Ok(word));
+        }
+        for (updated, operation) in UPDATED {
+            if ran.operations.contains(&operation) {
+                text.count(updated, Ok(word));
+            }
         }
         let opinion = opinions.get(index).cloned().unwrap_or_default();
         text.compare("the cells of Run and gfortran", &ran.after, &opinion);

@@ -1,7 +1,7 @@
 //! The groups of texts that are compared.
 
 use generate::tables::{arguments, data, text_rows};
-use generate::{copies, damage, hostile, lend, neighbours, noise, Knobs, Loop, Rng};
+use generate::{copies, damage, hostile, lend, neighbours, noise, reductions, Knobs, Loop, Rng};
 use reference::Refusal;
 
 use crate::division;
@@ -90,12 +90,14 @@ fn lent() -> bool {
     tally.report()
 }
 
-/// A random loop, at times a hostile one, one whose neighbours meet or one that overwrites old values.
+/// A random loop, at times a hostile one, one whose neighbours meet, one that overwrites old values or one of
+/// sums, products and maxima.
 pub fn drawn(rng: &mut Rng) -> Loop {
-    match rng.below(20) {
+    match rng.below(22) {
         0 | 1 => hostile::hostile(rng),
         2 => neighbours::neighbours(rng),
         3 => copies::copies(rng),
+        4 | 5 => reductions::reductions(rng),
         _ => {
             let knobs = Knobs::mixed(rng);
             Loop::random(rng, &knobs)

@@ -2,8 +2,10 @@
 
 use generate::tables::looks;
 use generate::tables::runs::{rows, Ran};
-use generate::{copies, damage, hostile, lend, neighbours, Copied, Loop, Rng};
-use reference::{workspace_needed, Answer, Refusal, Serial};
+use generate::{copies, damage, hostile, lend, neighbours, reductions, Copied, Loop, Rng, Turned};
+use reference::program::Program;
+use reference::syntax::{Class, Operation, Words};
+use reference::{read, run_serially, workspace_needed, Answer, Kind, Refusal, Serial};
 
 use crate::groups::drawn;
 use crate::services::{look, run, Lent};
@@ -13,6 +15,10 @@ use crate::tally::{Tally, Text};
 /// several schedules.
 const RUNS: u64 = 9_000;
 const LOOKS: u64 = 3_000;
+/// How many runs that update cells must pass, be run again and fault, for each operation, and for all three
+/// together in passed and repeated runs.
+const UPDATING: [(&str, usize); 3] = [("passed", 5_500), ("rerun", 3_000), ("faults", 600)];
+const ALL_UPDATING: [(&str, usize); 2] = [("passed", 2_500), ("rerun", 1_200)];
 /// In how many loops at least the word must turn from rerun to passed once the names in `lastprivate` alone
 /// stand in both clauses.
 const TURNED: usize = 700;
@@ -115,12 +121,13 @@ pub fn look_as_reference(text: &mut Text, lent: &Lent) {
 }
 
 /// A random loop, often one in which speculation and the serial run meet different faults, one whose
-/// neighbours meet or one that overwrites old values.
+/// neighbours meet, one that overwrites old values or one of sums, products and maxima.
 pub fn drawn_to_run(rng: &mut Rng) -> Loop {
-    match rng.below(20) {
-        0..=5 => hostile::hostile(rng),
-        6..=8 => neighbours::neighbours(rng),
-        9..=12 => copies::copies(rng),
+    match rng.below(27) {
+        0..=7 => hostile::hostile(rng),
+        8..=10 => neighbours::neighbours(rng),
+        11..=16 => copies::copies(rng),
+        17..=21 => reductions::reductions(rng),
         _ => drawn(rng),
     }
 }
@@ -160,25 +167,86 @@ fn random(tally: &mut Tally, seeds: u64, compare: fn(&mut Text, &Lent)) {
     }
 }
 
-/// The serial run as document 01 alone reads the text, without minus updates: nothing but the marks, and
-/// so the word passed or rerun, may differ (document 02, Point 1).
-fn compare_with_document_01(text: &mut Text, lent: &Lent, now: &Serial) {
-    let before = reference::serial_before_minus_updates(text.text, lent.cells);
-    let before = before.expect("a good text");
-    text.compare("the serial run", &now.ending(), &before.ending());
-    let word = match (before.passes(), now.passes()) {
+/// What is counted of loops with minus updates, and with those of products and maxima.
+const MINUS: &str = "With minus updates a loop";
+const NEW: &str = "With product and maximum updates a loop";
+
+/// The serial run as if these words made no update: nothing but the marks, and so the word passed or rerun, may
+/// differ (document 02, Points 1 and 6).
+fn compare_without_updates(
+    text: &mut Text,
+    (program, cells): (&Program, &[i32]),
+    now: &Serial,
+    words: &[Words],
+    counted: &'static str,
+) {
+    let without = program.without_updates(words);
+    let passed_before = if without == *program {
+        now.passes()
+    } else {
+        let before = run_serially(&without, cells);
+        text.compare("the serial run", &now.ending(), &before.ending());
+        before.passes()
+    };
+    let word = match (passed_before, now.passes()) {
         (false, true) => "now passes",
         (true, false) => "passes no more",
         _ => "has the same word",
     };
-    text.count("With minus updates a loop", Ok(word));
+    text.count(counted, Ok(word));
+}
+
+/// What is counted of runs in which cells are updated, by the operation of their clauses.
+pub const UPDATED: [(&str, Operation); 3] = [
+    ("Sums updated: Run", Operation::Sum),
+    ("Products updated: Run", Operation::Product),
+    ("Maxima updated: Run", Operation::Maximum),
+];
+const ALL_THREE: &str = "All three updated: Run";
+
+/// The operations by which a serial run updates cells.
+pub fn operations_of(program: &Program, serial: &Serial) -> Vec<Operation> {
+    let classes = program.cell_classes();
+    let updates = serial
+        .accesses
+        .iter()
+        .filter(|access| access.kind == Kind::Update);
+    let updated: Vec<Class> = updates
+        .map(|access| classes[usize::from(access.cell)])
+        .collect();
+    let operations = UPDATED.iter().map(|(_, operation)| *operation);
+    operations
+        .filter(|&operation| updated.contains(&Class::Reduction(operation)))
+        .collect()
+}
+
+/// Counts how a run with updates ends, for each operation and for all three together.
+fn count_updates(text: &mut Text, program: &Program, serial: &Serial) {
+    let word = match (serial.outcome, serial.passes()) {
+        (Err(_), _) => "faults",
+        (Ok(()), true) => "passed",
+        (Ok(()), false) => "rerun",
+    };
+    let operations = operations_of(program, serial);
+    for (counted, operation) in UPDATED {
+        if operations.contains(&operation) {
+            text.count(counted, Ok(word));
+        }
+    }
+    if operations.len() == UPDATED.len() {
+        text.count(ALL_THREE, Ok(word));
+    }
 }
 
 /// Run as the serial run settles it; counted is which of speculation and serial run meet a fault.
 fn run_and_count(text: &mut Text, lent: &Lent) {
-    let serial = reference::serial(text.text, lent.cells).expect("a good text");
+    let program = read(text.text).expect("a good text");
+    let serial = run_serially(&program, lent.cells);
     run_as_settled(text, lent, &serial);
-    compare_with_document_01(text, lent, &serial);
+    let run = (&program, lent.cells);
+    compare_without_updates(text, run, &serial, &[Words::Minus], MINUS);
+    compare_without_updates(text, run, &serial, &[Words::Times, Words::Max], NEW);
+    count_updates(text, &program, &serial);
     let words = lent.workspace.len();
     let trial = reference::trial(text.text, lent.cells, words, lent.schedule);
     let records = trial.expect("a good text and enough lent").processors;
@@ -277,9 +345,38 @@ fn compare_copies(tally: &mut Tally, seed: u64) {
     text.count("From lastprivate alone to both clauses: word", Ok(word));
 }
 
+/// One loop over the same cells with the operations of its `reduction` clauses as drawn and exchanged, so that
+/// what was an update is ordinary and the other way round (document 02, Point 6): fault, cells and counts are
+/// the same, for the serial run goes by no clause.
+fn compare_operations(tally: &mut Tally, seed: u64) {
+    let (made, _, mut rng) = loop_of(seed);
+    let loops =
+        [Turned::AsDrawn, Turned::Once, Turned::Twice].map(|turned| made.with_turned(turned));
+    if !made.has_reductions() || loops.iter().any(|made| made.text().len() > 2048) {
+        return;
+    }
+    let runs = loops
+        .each_ref()
+        .map(|made| run_on_data(tally, seed, made, &mut rng));
+    let name = format!("seed {seed}, operations exchanged");
+    let bytes = loops[0].text();
+    let mut text = tally.next(&name, &bytes);
+    for turned in &runs[1..] {
+        text.compare("other operations", &turned.ending(), &runs[0].ending());
+    }
+    let [drawn, once, twice] = runs.map(|ran| ran.passes());
+    let word = match (drawn, once || twice) {
+        (true, false) => "that passes by its own operations alone",
+        (true, true) => "that passes by others too",
+        (false, true) => "that passes by others alone",
+        (false, false) => "that passes by none",
+    };
+    text.count("Operations exchanged: a loop", Ok(word));
+}
+
 /// Random loops: Run against the serial run. Each end, each way in which speculation and the serial run
-/// are at odds, loops that pass for some numbers of processors alone and loops that names in both clauses let
-/// pass must be frequent.
+/// are at odds, each operation's updates, loops that pass for some numbers of processors alone, by names in both
+/// clauses or by their own operations must be frequent.
 pub fn random_runs() -> bool {
     let mut tally = Tally::new(&format!("runs of the seeds 0 to {}", RUNS - 1));
     random(&mut tally, RUNS, run_and_count);
@@ -290,8 +387,24 @@ pub fn random_runs() -> bool {
         & has("Run", &["refused  9", "refused 10"], 20)
         & has("A fault", &["in speculation alone"], 2)
         & has("A fault", &["in the serial run alone"], 2)
-        & has("With minus updates a loop", &["now passes"], 3);
-    good & frequent & random_blocks() & random_copies()
+        & has(MINUS, &["now passes"], 3)
+        & has(NEW, &["now passes"], 5);
+    let updated = UPDATED.map(|(updated, _)| all_often(&tally, updated, &UPDATING));
+    let updated = !updated.contains(&false) & all_often(&tally, ALL_THREE, &ALL_UPDATING);
+    good & frequent & updated & random_blocks() & random_copies() & random_operations()
+}
+
+/// Whether each of these answers was given at least so often.
+fn all_often(tally: &Tally, counted: &str, answers: &[(&str, usize)]) -> bool {
+    let often = |&(answer, least): &(&str, usize)| tally.has_times(counted, answer, least);
+    answers.iter().map(often).fold(true, |all, one| all & one)
+}
+
+fn random_operations() -> bool {
+    let mut tally = Tally::new(&format!("operations of the seeds 0 to {}", RUNS - 1));
+    (0..RUNS).for_each(|seed| compare_operations(&mut tally, seed));
+    let own = "that passes by its own operations alone";
+    tally.report() & tally.has("Operations exchanged: a loop", &[own], 18)
 }
 
 fn random_blocks() -> bool {

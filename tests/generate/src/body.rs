@@ -2,6 +2,7 @@
 //! them, danger has some subscripts and divisors that may fault.
 
 use crate::builder::{Builder, Name, Role};
+use crate::lines::Operation;
 
 /// References.
 impl Builder<'_> {
@@ -19,6 +20,7 @@ impl Builder<'_> {
             2 => format!("2 - 2 + {plain}"),
             3 => format!("rdiv(2*({plain}), 2)"),
             4 => format!("-(-({plain}))"),
+            5 => format!("max({plain}, 1)"),
             _ => plain,
         }
     }
@@ -107,8 +109,8 @@ impl Builder<'_> {
             Role::Own { .. } => Some(self.own_reference(index)),
             Role::Ahead => Some(self.reference_ahead(index)),
             Role::Fixed | Role::Index => Some(self.any_reference(index)),
-            Role::Temporary | Role::Sum if self.written.is_empty() => None,
-            Role::Temporary | Role::Sum => Some(self.rng.pick(&self.written)),
+            Role::Temporary | Role::Updated(_) if self.written.is_empty() => None,
+            Role::Temporary | Role::Updated(_) => Some(self.rng.pick(&self.written)),
         }
     }
 }
@@ -143,7 +145,7 @@ impl Builder<'_> {
     }
 
     fn factor(&mut self, depth: usize) -> String {
-        match self.rng.below(10) {
+        match self.rng.below(11) {
             0..=1 => self.literal(),
             2 => self.variable.clone(),
             8 if depth > 0 => {
@@ -151,10 +153,35 @@ impl Builder<'_> {
                 format!("rdiv({dividend}, {})", self.halving(depth - 1))
             }
             9 if depth > 0 => format!("({})", self.expression(depth - 1)),
+            10 if depth > 0 => self.maximum(depth - 1),
             _ => match self.readable() {
                 Some(reference) => reference,
                 None => self.literal(),
             },
+        }
+    }
+
+    fn maximum(&mut self, depth: usize) -> String {
+        let [one, other] = [0; 2].map(|_| self.expression(depth));
+        format!("max({one}, {other})")
+    }
+
+    /// Factors joined by `*`.
+    fn factors(&mut self, depth: usize) -> String {
+        let mut text = self.multiplier(depth);
+        while self.rng.chance(25) {
+            text = format!("{text}*{}", self.multiplier(depth));
+        }
+        text
+    }
+
+    /// Any factor, every other time one that is not 0; an odd one leaves a product all its bits.
+    fn multiplier(&mut self, depth: usize) -> String {
+        match self.rng.below(8) {
+            0..=2 => self.rng.pick(&["3", "5", "7", "2", "(-1)"]).to_string(),
+            3 if depth > 0 => format!("(2*{} + 1)", self.factor(depth - 1)),
+            4 if depth > 0 => format!("({})", self.expression(depth - 1)),
+            _ => self.factor(depth),
         }
     }
 
@@ -222,16 +249,17 @@ impl Builder<'_> {
             Role::Ahead => {
                 let target = self.own_reference(index);
                 let old = self.reference_ahead(index);
-                self.combine(&target, &old);
+                let operation = self.rng.pick(&Operation::ALL);
+                self.combine(&target, operation, &old);
             }
             Role::Temporary => {
                 let target = self.temporary(index);
                 self.assign(&target);
                 self.written.push(target);
             }
-            Role::Sum => {
+            Role::Updated(operation) => {
                 let target = self.any_reference(index);
-                self.combine(&target, &target);
+                self.combine(&target, operation, &target);
             }
             Role::Fixed | Role::Index => unreachable!("not written"),
         }
@@ -252,14 +280,29 @@ impl Builder<'_> {
         self.add_one_that_fits([format!("{target} = {value}"), format!("{target} = 1")]);
     }
 
-    /// Something added to a cell's value or taken from it; an update, if that cell is the target.
-    fn combine(&mut self, target: &str, cell: &str) {
-        let remainder = self.terms(self.knobs.brackets);
-        let sign = self.rng.pick(&["+", "-", "-"]);
-        self.add_one_that_fits([
-            format!("{target} = {cell} {sign} {remainder}"),
-            format!("{target} = {cell} {sign} 1"),
-        ]);
+    /// Something added to a cell's value, taken from it, multiplied with it or compared with it; an update, if
+    /// that cell is the target and the operation its clause's.
+    fn combine(&mut self, target: &str, operation: Operation, cell: &str) {
+        let depth = self.knobs.brackets;
+        let lines = match operation {
+            Operation::Sum => {
+                let remainder = self.terms(depth);
+                let sign = self.rng.pick(&["+", "-", "-"]);
+                [
+                    format!("{target} = {cell} {sign} {remainder}"),
+                    format!("{target} = {cell} {sign} 1"),
+                ]
+            }
+            Operation::Product => [
+                format!("{target} = {cell}*{}", self.factors(depth)),
+                format!("{target} = {cell}*3"),
+            ],
+            Operation::Maximum => [
+                format!("{target} = max({cell}, {})", self.expression(depth)),
+                format!("{target} = max({cell}, 1)"),
+            ],
+        };
+        self.add_one_that_fits(lines);
     }
 
     /// Adds the first of the lines whose brackets are within their limit, or none.
@@ -301,12 +344,34 @@ impl Builder<'_> {
         value.min(2_147_483_647).to_string()
     }
 
-    /// A statement that disregards the name's role: among them assignments that nearly are updates.
+    /// A statement that disregards the name's role: an assignment, an update of any operation, or an
+    /// assignment that nearly is one.
     fn meddle(&mut self, index: usize) {
         let target = self.any_reference(index);
+        let line = match self.rng.below(10) {
+            0..=3 => self.near_sum(index, &target),
+            4 | 5 => self.near_product(index, &target),
+            6 | 7 => self.near_maximum(index, &target),
+            _ => format!("{target} = {}", self.terms(self.knobs.brackets.min(1))),
+        };
+        self.add_one_that_fits([line, format!("{target} = 1")]);
+    }
+
+    /// The first cell of an array by two references that are not the same token for token; of a single cell
+    /// the same reference twice.
+    fn two_references(&mut self, index: usize, target: &str) -> [String; 2] {
+        let Name { name, is_array, .. } = &self.names[index];
+        let other = self.rng.pick(&["(1)", "+1"]);
+        match is_array {
+            true => [format!("{name}(1)"), format!("{name}({other})")],
+            false => [target.to_string(), target.to_string()],
+        }
+    }
+
+    fn near_sum(&mut self, index: usize, target: &str) -> String {
         let more = self.terms(self.knobs.brackets.min(1));
         let sign = self.rng.pick(&["+", "-"]);
-        let line = match self.rng.below(15) {
+        match self.rng.below(12) {
             0 => format!("{target} = -{target} {sign} {more}"),
             1 => format!("{target} = ({target}) {sign} {more}"),
             2 => format!("{target} = +{target} {sign} {more}"),
@@ -315,18 +380,56 @@ impl Builder<'_> {
             5 => format!("{target} = {target}"),
             6 => format!("{target} = ({target} {sign} {more})"),
             7 => format!("{target} = {target} {sign} {target}"),
-            8..=10 => format!("{target} = {target} {sign} {more}"),
-            11 if self.names[index].is_array => {
-                let name = &self.names[index].name;
-                format!("{name}(1) = {name}((1)) {sign} {more}")
+            8 => {
+                let [one, other] = self.two_references(index, target);
+                format!("{one} = {other} {sign} {more}")
             }
-            12 if self.names[index].is_array => {
-                let name = &self.names[index].name;
-                format!("{name}(1) = {name}(+1) {sign} {more}")
+            _ => format!("{target} = {target} {sign} {more}"),
+        }
+    }
+
+    fn near_product(&mut self, index: usize, target: &str) -> String {
+        let depth = self.knobs.brackets.min(1);
+        let more = self.factors(depth);
+        match self.rng.below(14) {
+            0 => format!("{target} = {target}*{more}/{}", self.divisor(depth)),
+            1 => format!("{target} = {target}/{}*{more}", self.divisor(depth)),
+            2 => format!("{target} = {target}*{more} + {}", self.term(depth)),
+            3 => format!("{target} = {target}*{more} - {}", self.term(depth)),
+            4 => format!("{target} = {more}*{target}"),
+            5 => format!("{target} = ({target})*{more}"),
+            6 => format!("{target} = -{target}*{more}"),
+            7 => format!("{target} = +{target}*{more}"),
+            8 => format!("{target} = ({target}*{more})"),
+            9 => format!("{target} = {target}*{target}"),
+            10 => {
+                let [one, other] = self.two_references(index, target);
+                format!("{one} = {other}*{more}")
             }
-            _ => format!("{target} = {more}"),
-        };
-        self.add_one_that_fits([line, format!("{target} = 1")]);
+            _ => format!("{target} = {target}*{more}"),
+        }
+    }
+
+    fn near_maximum(&mut self, index: usize, target: &str) -> String {
+        let more = self.expression(self.knobs.brackets.min(1));
+        match self.rng.below(15) {
+            0 => format!("{target} = max({more}, {target})"),
+            1 => format!("{target} = max(({target}), {more})"),
+            2 => format!("{target} = max({target} + 0, {more})"),
+            3 => format!("{target} = max(+{target}, {more})"),
+            4 => format!("{target} = +max({target}, {more})"),
+            5 => format!("{target} = -max({target}, {more})"),
+            6 => format!("{target} = (max({target}, {more}))"),
+            7 => format!("{target} = max({target}, {more}) + 0"),
+            8 => format!("{target} = max({target}, {more})*(1)"),
+            9 => format!("{target} = max(max({target}, {more}), {more})"),
+            10 => format!("{target} = max({target}, {target})"),
+            11 => {
+                let [one, other] = self.two_references(index, target);
+                format!("{one} = max({other}, {more})")
+            }
+            _ => format!("{target} = max({target}, {more})"),
+        }
     }
 }
 

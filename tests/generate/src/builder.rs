@@ -2,7 +2,7 @@
 //! that declare them. The body's lines are drawn in `body`.
 
 use crate::lend::extreme;
-use crate::lines;
+use crate::lines::{self, Operation};
 use crate::loops::{Knobs, Loop};
 use crate::rng::Rng;
 
@@ -20,8 +20,8 @@ pub enum Role {
     Index,
     /// Written before it is read in each iteration.
     Temporary,
-    /// Only updated.
-    Sum,
+    /// Only updated, by this operation.
+    Updated(Operation),
 }
 
 /// A name and what it is used for.
@@ -39,19 +39,32 @@ const SHARED: &str = "shared";
 const LASTPRIVATE: &str = "lastprivate";
 /// In `lastprivate` and `firstprivate`.
 const COPIED: &str = "both";
-const REDUCTION: &str = "reduction";
+const SUM: &str = "reduction +";
+const PRODUCT: &str = "reduction *";
+const MAXIMUM: &str = "reduction max";
 /// Shared by standing in no clause.
 const UNNAMED: &str = "";
 
 /// How a list of names is written, and the names of which clauses stand in it. A `firstprivate` clause
 /// stands between the signs that [`Loop`] replaces.
-const LISTS: [(&str, &[&str], &str); 5] = [
+const LISTS: [(&str, &[&str], &str); 7] = [
     ("shared(", &[SHARED], ")"),
     ("lastprivate(", &[LASTPRIVATE, COPIED], ")"),
-    ("reduction(+:", &[REDUCTION], ")"),
+    ("reduction(+:", &[SUM], ")"),
+    ("reduction(*:", &[PRODUCT], ")"),
+    ("reduction(max:", &[MAXIMUM], ")"),
     ("{firstprivate(", &[COPIED], ")}"),
     ("[firstprivate(", &[LASTPRIVATE], ")]"),
 ];
+
+/// The clause of an operation.
+fn clause_of(operation: Operation) -> &'static str {
+    match operation {
+        Operation::Sum => SUM,
+        Operation::Product => PRODUCT,
+        Operation::Maximum => MAXIMUM,
+    }
+}
 
 /// A loop being drawn.
 pub struct Builder<'r> {
@@ -116,7 +129,7 @@ impl<'r> Builder<'r> {
     }
 
     fn choose_names(&mut self) {
-        const POOL: [&str; 36] = [
+        const POOL: [&str; 38] = [
             "a",
             "b",
             "c",
@@ -151,6 +164,8 @@ impl<'r> Builder<'r> {
             "if_",
             "thens",
             "rdiv2",
+            "max2",
+            "min",
             "while",
             "abcdefghijklmnopqrstuvwxyz_1234",
         ];
@@ -171,7 +186,7 @@ impl<'r> Builder<'r> {
         let indexes: Vec<usize> = (0..self.names.len())
             .filter(|&one| self.names[one].role == Role::Index)
             .collect();
-        let role = match self.rng.below(17) {
+        let role = match self.rng.below(20) {
             0..=3 if indexes.is_empty() => Role::Own { through: None },
             0..=3 => {
                 let through = self.rng.pick(&indexes);
@@ -179,11 +194,11 @@ impl<'r> Builder<'r> {
                 Role::Own { through }
             }
             4 | 5 => Role::Temporary,
-            6..=9 => Role::Sum,
-            10..=12 => Role::Ahead,
+            6..=11 => Role::Updated(self.operation()),
+            12..=15 => Role::Ahead,
             // The first name is one that statements may write.
             _ if self.names.is_empty() => Role::Own { through: None },
-            13 | 14 => Role::Fixed,
+            16 | 17 => Role::Fixed,
             _ => Role::Index,
         };
         let numbered = matches!(role, Role::Own { .. } | Role::Ahead | Role::Index);
@@ -194,7 +209,12 @@ impl<'r> Builder<'r> {
             (false, true) => 1 + self.rng.below(6),
             (false, false) => 1,
         };
-        let has_data = role == Role::Index || self.rng.chance(40);
+        let has_data = match role {
+            Role::Index => true,
+            // From 0 no product gets away.
+            Role::Updated(Operation::Product) => self.rng.chance(90),
+            _ => self.rng.chance(40),
+        };
         let values = self.choose_values(role, length, has_data);
         Name {
             name,
@@ -203,6 +223,15 @@ impl<'r> Builder<'r> {
             values,
             has_data,
             clause: self.choose_clause(role),
+        }
+    }
+
+    /// Any operation, sums most often.
+    fn operation(&mut self) -> Operation {
+        match self.rng.below(7) {
+            0 | 1 => Operation::Product,
+            2 | 3 => Operation::Maximum,
+            _ => Operation::Sum,
         }
     }
 
@@ -218,6 +247,9 @@ impl<'r> Builder<'r> {
             .map(|_| match wide {
                 // -2147483648 cannot be given as data.
                 true => extreme(self.rng).max(-i32::MAX),
+                false if role == Role::Updated(Operation::Product) => {
+                    self.rng.pick(&[-3, -1, 1, 2, 3, 5, 7])
+                }
                 false => self.rng.between(-4, 9) as i32,
             })
             .collect()
@@ -240,14 +272,15 @@ impl<'r> Builder<'r> {
     }
 
     fn choose_clause(&mut self, role: Role) -> &'static str {
+        let reduction = clause_of(self.operation());
         if self.rng.chance(self.knobs.conflict / 2) {
             return self
                 .rng
-                .pick(&[UNNAMED, SHARED, LASTPRIVATE, COPIED, REDUCTION]);
+                .pick(&[UNNAMED, SHARED, LASTPRIVATE, COPIED, reduction]);
         }
         match (role, self.rng.below(10)) {
-            (Role::Sum, _) => REDUCTION,
-            (Role::Temporary, 0 | 1) => REDUCTION,
+            (Role::Updated(operation), _) => clause_of(operation),
+            (Role::Temporary, 0 | 1) => reduction,
             (Role::Temporary, 2..=5) => LASTPRIVATE,
             (Role::Temporary, _) => COPIED,
             (Role::Ahead, 0) => LASTPRIVATE,
@@ -256,7 +289,7 @@ impl<'r> Builder<'r> {
             (_, 4..=6) => SHARED,
             (_, 7) => LASTPRIVATE,
             (_, 8) => COPIED,
-            (_, _) => REDUCTION,
+            (_, _) => reduction,
         }
     }
 

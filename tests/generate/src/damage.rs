@@ -1,18 +1,22 @@
 //! Good texts with something changed: bytes, tokens or lines taken out, doubled, swapped or put in,
-//! names, literals and signs exchanged, a clause put in or taken out, the length brought near its limit.
+//! names, literals and signs exchanged, a clause put in, taken out or changed, `max` used in another way, the
+//! length brought near its limit.
 
 use crate::layout::split_tokens;
 use crate::rng::Rng;
 
-/// The text with something changed: one name, literal or sign for another, or a clause, or the length, or
-/// up to three bytes, tokens or lines. It may happen to be good still.
+/// The text with something changed: one name, literal or sign for another, or a clause, or a use of `max`, or
+/// the length, or up to three bytes, tokens or lines. It may happen to be good still.
 pub fn damage(text: &[u8], rng: &mut Rng) -> Vec<u8> {
-    match rng.below(16) {
+    match rng.below(21) {
         0..=5 => exchange_token(text, rng),
         6 => pad(text, rng),
         7 => change_clauses(text, rng, put_in_static),
         8..=10 => change_clauses(text, rng, put_in_private),
         11 => change_clauses(text, rng, take_out),
+        12 | 13 => change_clauses(text, rng, put_in_reduction),
+        14 => change_clauses(text, rng, change_operation),
+        15 | 16 => change_maximum(text, rng),
         _ => break_up(text, rng),
     }
 }
@@ -167,6 +171,153 @@ fn put_in_private(directive: &mut Directive, rng: &mut Rng) {
     put_in(directive, &clause, rng);
 }
 
+/// Puts in `reduction` clauses, and others of the same name, or something like them (document 02, Point 6).
+/// Some leave the text good, if the name stood in no clause before.
+fn put_in_reduction(directive: &mut Directive, rng: &mut Rng) {
+    const CLAUSES: [&str; 32] = [
+        "reduction(*:@)",
+        "reduction(*:@)",
+        "reduction(max:@)",
+        "reduction(max:@)",
+        "REDUCTION ( MAX : @ )",
+        "reduction(*:@, #)",
+        "reduction(max:@, #)",
+        "reduction(*:@, @)",
+        "reduction(max:@, @)",
+        "reduction(*:@) reduction(*:@)",
+        "reduction(*:@) reduction(max:@)",
+        "reduction(max:@) reduction(+:@)",
+        "reduction(+:@) reduction(*:#)",
+        "reduction(*:@) shared(@)",
+        "lastprivate(@) reduction(max:@)",
+        "firstprivate(@) lastprivate(@) reduction(*:@)",
+        "reduction(max:max)",
+        "reduction(*:@, max)",
+        "reduction(-:@)",
+        "reduction(/:@)",
+        "reduction(**:@)",
+        "reduction(min:@)",
+        "reduction(@:max)",
+        "reduction(:@)",
+        "reduction(max @)",
+        "reduction(max(@))",
+        "reduction(max:)",
+        "reduction(max:@,)",
+        "reduction(*:@",
+        "reduction(+*:@)",
+        "reduction(max::@)",
+        "max(*:@)",
+    ];
+    let [one, other] = [0; 2].map(|_| rng.pick(&directive.names));
+    let clause = rng.pick(&CLAUSES).replace('@', one).replace('#', other);
+    put_in(directive, &clause, rng);
+}
+
+/// Puts another operation, or what is none, into a `reduction` clause: what was an update may be ordinary.
+fn change_operation(directive: &mut Directive, rng: &mut Rng) {
+    const SIGNS: [&str; 9] = ["+", "*", "max", "MAX", "-", "/", "* *", "min", ""];
+    let is_reduction = |clause: &String| {
+        let word = clause.split(' ').next().unwrap_or_default();
+        word.eq_ignore_ascii_case("reduction") && clause.contains(':')
+    };
+    let places: Vec<usize> = (0..directive.clauses.len())
+        .filter(|&one| is_reduction(&directive.clauses[one]))
+        .collect();
+    if places.is_empty() {
+        return put_in_reduction(directive, rng);
+    }
+    let clause = &mut directive.clauses[rng.pick(&places)];
+    let names = clause.split(':').next_back().unwrap_or_default();
+    *clause = format!("reduction ( {} :{names}", rng.pick(&SIGNS));
+}
+
+/// Changes one use of `max`: its brackets, its arguments or the word. A text without one gets one around a
+/// literal or a name.
+fn change_maximum(text: &[u8], rng: &mut Rng) -> Vec<u8> {
+    let Ok(whole) = std::str::from_utf8(text) else {
+        return break_up(text, rng);
+    };
+    let mut lines: Vec<String> = whole.split('\n').map(str::to_string).collect();
+    let names = names_of(&whole.split('\n').collect::<Vec<_>>());
+    let is_max = |token: &str| token.eq_ignore_ascii_case("max");
+    let is_operand = |token: &str| is_literal(token) || names.contains(&token);
+    let place_of = |wanted: &dyn Fn(&str) -> bool, rng: &mut Rng| {
+        let mut places = Vec::new();
+        for (line, text) in lines.iter().enumerate() {
+            let tokens = split_tokens(text);
+            let fitting = (0..tokens.len()).filter(|&one| wanted(tokens[one]));
+            places.extend(fitting.map(|one| (line, one)));
+        }
+        (!places.is_empty()).then(|| rng.pick(&places))
+    };
+    let of_max = place_of(&is_max, rng).filter(|_| rng.chance(80));
+    let Some((line, place)) = of_max.or_else(|| place_of(&is_operand, rng)) else {
+        return break_up(text, rng);
+    };
+    let mut tokens = split_tokens(&lines[line]);
+    if is_max(tokens[place]) {
+        change_call(&mut tokens, place, &names, rng);
+    } else {
+        wrap_in_maximum(&mut tokens, place, rng);
+    }
+    let changed = tokens.join(" ");
+    lines[line] = changed;
+    lines.join("\n").into_bytes()
+}
+
+/// Changes the word `max` at this place, or what follows it.
+fn change_call<'t>(tokens: &mut Vec<&'t str>, place: usize, names: &[&'t str], rng: &mut Rng) {
+    let next = |sign: &str| {
+        let after = tokens[place..].iter().position(|token| *token == sign);
+        after.map(|far| place + far)
+    };
+    let (open, comma, close) = (next("("), next(","), next(")"));
+    match (rng.below(9), open, comma, close) {
+        (0, ..) => tokens[place] = rng.pick(&["rdiv", "min", "maxi", "abs"]),
+        (1, ..) => tokens[place] = rng.pick(names),
+        (2, ..) => tokens.insert(place, "-"),
+        (3, ..) => {
+            tokens.remove(place);
+        }
+        (4, Some(open), ..) => {
+            tokens.remove(open);
+        }
+        (5, Some(open), ..) => {
+            tokens.splice(open + 1..open + 1, ["1", ","]);
+        }
+        (6, _, Some(comma), _) => {
+            tokens.remove(comma);
+        }
+        (7, _, Some(comma), _) => tokens[comma] = "+",
+        (_, _, _, Some(close)) => {
+            tokens.remove(close);
+        }
+        _ => tokens.truncate(place + 1),
+    }
+}
+
+/// Puts `max(` before the operand at this place, and one, two or three arguments, or as many times as brackets
+/// may be open, or one more.
+fn wrap_in_maximum(tokens: &mut Vec<&str>, place: usize, rng: &mut Rng) {
+    let operand = tokens[place];
+    let times = 6 + rng.below(4);
+    let (open, close) = (["max", "("].repeat(times), [",", "1", ")"].repeat(times));
+    let nested = [open, vec!["#"], close].concat();
+    let call: &[&str] = match rng.below(7) {
+        0 => &["max", "(", "#", ")"],
+        1 => &["max", "(", "#", ",", "1", ")"],
+        2 => &["max", "(", "1", ",", "#", ")"],
+        3 => &["max", "(", "#", ",", "1", ",", "2", ")"],
+        4 | 5 => &nested,
+        _ => &["max"],
+    };
+    let written = call.iter().map(|token| match *token {
+        "#" => operand,
+        token => token,
+    });
+    tokens.splice(place..=place, written.collect::<Vec<_>>());
+}
+
 fn put_in(directive: &mut Directive, clause: &str, rng: &mut Rng) {
     let place = rng.below(directive.clauses.len() + 1);
     directive.clauses.insert(place, clause.to_string());
@@ -203,7 +354,7 @@ fn is_literal(token: &str) -> bool {
     token.starts_with(|c: char| c.is_ascii_digit())
 }
 
-/// The names in `integer` and `do` lines, and one that is in none.
+/// The names in `integer` and `do` lines, one that is in none, and `max`, which is no name.
 fn names_of<'t>(lines: &[&'t str]) -> Vec<&'t str> {
     let is_word = |token: &&str| token.starts_with(|c: char| c.is_ascii_alphabetic());
     let tokens = lines.iter().map(|line| split_tokens(line));
@@ -215,7 +366,7 @@ fn names_of<'t>(lines: &[&'t str]) -> Vec<&'t str> {
     declaring
         .flat_map(|tokens| tokens.into_iter().skip(1))
         .filter(is_word)
-        .chain(["zz"])
+        .chain(["zz", "max"])
         .collect()
 }
 
@@ -252,7 +403,7 @@ fn damage_bytes(text: &[u8], rng: &mut Rng) -> Vec<u8> {
 }
 
 fn damage_lines(text: &[u8], rng: &mut Rng) -> Vec<u8> {
-    const LINES: [&str; 18] = [
+    const LINES: [&str; 26] = [
         "",
         "! x",
         "integer zz",
@@ -261,6 +412,14 @@ fn damage_lines(text: &[u8], rng: &mut Rng) -> Vec<u8> {
         "!$omp parallel do num_threads(2)",
         "!$omp parallel do num_threads(2) schedule(static)",
         "!$omp parallel do num_threads(2) firstprivate(a) lastprivate(a)",
+        "!$omp parallel do num_threads(2) reduction(*:a)",
+        "!$omp parallel do num_threads(2) reduction(+:a) reduction(max:a)",
+        "integer max",
+        "data max /1/",
+        "do max = 1, 4",
+        "max = 1",
+        "a = max(a, 1)",
+        "a = max(a)",
         "!$omp end parallel do",
         "!$omp",
         "do i = 1, 4",
@@ -279,7 +438,7 @@ fn damage_lines(text: &[u8], rng: &mut Rng) -> Vec<u8> {
 
 /// Changes one token of one line. The line's blanks become single ones.
 fn damage_tokens(text: &[u8], rng: &mut Rng) -> Vec<u8> {
-    const TOKENS: [&str; 38] = [
+    const TOKENS: [&str; 40] = [
         "(",
         ")",
         ",",
@@ -308,11 +467,13 @@ fn damage_tokens(text: &[u8], rng: &mut Rng) -> Vec<u8> {
         "i",
         "zz",
         "rdiv",
+        "max",
         "do",
         "end",
         "if",
         "then",
         "shared",
+        "reduction",
         "firstprivate",
         "lastprivate",
         "schedule",

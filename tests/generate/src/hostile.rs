@@ -2,7 +2,7 @@
 //! does not. Each comes with the cells to lend.
 
 use crate::layout::Layout;
-use crate::lines::{directive, lastprivate};
+use crate::lines::{directive, lastprivate, Operation};
 use crate::loops::Loop;
 use crate::rng::Rng;
 
@@ -37,7 +37,7 @@ fn clauses(rng: &mut Rng, name: &str) -> Vec<String> {
         0 => Vec::new(),
         1 => vec![format!("shared({name})")],
         2 | 3 => lastprivate(rng, name, 50),
-        _ => vec![format!("reduction(+:{name})")],
+        _ => vec![rng.pick(&Operation::ALL).clause(name)],
     }
 }
 
@@ -80,15 +80,21 @@ fn divisor_made_good(rng: &mut Rng, first: i64, last: i64) -> Drawn {
     (lines(&text), vec![0, 0, 0, 0])
 }
 
-/// The sum is at least 1 when it is read serially, but speculation reads it as at entry.
+/// The sum or the maximum is at least 1 when it is read serially, but speculation reads it as at entry.
 fn sum_read_too_early(rng: &mut Rng, first: i64, last: i64) -> Drawn {
-    let directive = directive(rng, &["reduction(+:s)".to_string()]);
-    let more = rng.pick(&["+ 1", "+ 2", "- (-1)", "- 0 + 2"]);
+    let (operation, right) = rng.pick(&[
+        (Operation::Sum, "s + 1"),
+        (Operation::Sum, "s + 2"),
+        (Operation::Sum, "s - (-1)"),
+        (Operation::Sum, "s - 0 + 2"),
+        (Operation::Maximum, "max(s, i + 6)"),
+    ]);
+    let directive = directive(rng, &[operation.clause("s")]);
     let text = format!(
         "integer s, a(30)
          {directive}
          do i = {first}, {last}
-         s = s {more}
+         s = {right}
          a(s) = i
          end do"
     );
@@ -138,17 +144,21 @@ fn subscript_made_bad(rng: &mut Rng, first: i64, last: i64) -> Drawn {
     (lines(&text), vec![7, 7, 7, 7, 2])
 }
 
-/// The sum grows beyond the array serially; speculation reads it as at entry.
+/// The sum or the maximum grows beyond the array serially; speculation reads it as at entry.
 fn sum_grows_outside(rng: &mut Rng, first: i64, last: i64) -> Drawn {
     let length = rng.between(1, 12);
-    let directive = directive(rng, &["reduction(+:s)".to_string()]);
-    let more = rng.pick(&["+ 1", "- (-1)"]);
+    let (operation, right) = rng.pick(&[
+        (Operation::Sum, "s + 1"),
+        (Operation::Sum, "s - (-1)"),
+        (Operation::Maximum, "max(s, i + 6)"),
+    ]);
+    let directive = directive(rng, &[operation.clause("s")]);
     let text = format!(
         "integer s, a({length})
          {directive}
          do i = {first}, {last}
          a(s + 1) = i
-         s = s {more}
+         s = {right}
          end do"
     );
     (lines(&text), vec![0; length as usize + 1])

@@ -1,5 +1,5 @@
-//! What the tests are made of: tables of cases with answers written by hand from document 01 and the
-//! project's reading of it, and random loops, damaged texts, noise, cells and schedules from
+//! What the tests are made of: tables of cases with answers written by hand from documents 01 and 02 and the
+//! project's reading of them, and random loops, damaged texts, noise, cells and schedules from
 //! explicit seeds. Nothing here interprets a loop.
 
 mod body;
@@ -13,8 +13,10 @@ mod lines;
 pub mod loops;
 pub mod neighbours;
 pub mod noise;
+pub mod reductions;
 pub mod rng;
 pub mod tables;
 
-pub use loops::{Copied, Knobs, Loop};
+pub use lines::Operation;
+pub use loops::{Copied, Knobs, Loop, Turned};
 pub use rng::Rng;

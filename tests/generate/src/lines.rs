@@ -2,6 +2,32 @@
 
 use crate::rng::Rng;
 
+/// What a `reduction` clause gathers (document 02, Point 6).
+#[derive(Debug, Clone, Copy, PartialEq, Eq)]
+pub enum Operation {
+    Sum,
+    Product,
+    Maximum,
+}
+
+impl Operation {
+    pub const ALL: [Operation; 3] = [Operation::Sum, Operation::Product, Operation::Maximum];
+
+    /// How it is written in its clause.
+    pub fn sign(self) -> &'static str {
+        match self {
+            Operation::Sum => "+",
+            Operation::Product => "*",
+            Operation::Maximum => "max",
+        }
+    }
+
+    /// The clause of these names.
+    pub fn clause(self, names: &str) -> String {
+        format!("reduction({}:{names})", self.sign())
+    }
+}
+
 /// The directive with these clauses and those of every loop, in any order.
 pub fn directive(rng: &mut Rng, clauses: &[String]) -> String {
     let mut clauses = clauses.to_vec();

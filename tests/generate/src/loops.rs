@@ -2,6 +2,7 @@
 
 use crate::builder::Builder;
 use crate::layout::{write_text, Layout};
+use crate::lines::Operation;
 use crate::rng::Rng;
 
 /// What kind of loop is wanted.
@@ -58,6 +59,15 @@ pub enum Copied {
     All,
 }
 
+/// Which operation a `reduction` clause has: the one drawn, or the next or the one after that of `+`, `*` and
+/// `max` (document 02, Point 6).
+#[derive(Debug, Clone, Copy, PartialEq, Eq)]
+pub enum Turned {
+    AsDrawn,
+    Once,
+    Twice,
+}
+
 /// A loop and what its maker knows of it.
 #[derive(Debug, Clone)]
 pub struct Loop {
@@ -73,6 +83,8 @@ pub struct Loop {
     pub by_blocks: bool,
     /// Which `firstprivate` clauses it has.
     pub copied: Copied,
+    /// Which operations its `reduction` clauses have.
+    pub turned: Turned,
     /// The cells as Load must fill them; their number is N.
     pub cells: Vec<i32>,
 }
@@ -94,6 +106,7 @@ impl Loop {
             processors,
             by_blocks: rng.chance(CLAUSES),
             copied: Copied::AsDrawn,
+            turned: Turned::AsDrawn,
             cells,
         }
     }
@@ -128,6 +141,27 @@ impl Loop {
         }
     }
 
+    /// The same loop with other operations in its `reduction` clauses. Its lines stand where they stood.
+    pub fn with_turned(&self, turned: Turned) -> Self {
+        Loop {
+            turned,
+            ..self.clone()
+        }
+    }
+
+    /// Whether it was drawn with a `reduction` clause of this operation.
+    pub fn has(&self, operation: Operation) -> bool {
+        let clause = format!("{REDUCTION}{}:", operation.sign());
+        self.lines.iter().any(|line| line.contains(&clause))
+    }
+
+    /// Whether it was drawn with a `reduction` clause.
+    pub fn has_reductions(&self) -> bool {
+        Operation::ALL
+            .into_iter()
+            .any(|operation| self.has(operation))
+    }
+
     /// Whether a name was drawn to stand in both clauses.
     pub fn has_copied(&self) -> bool {
         self.lines.iter().any(|line| line.contains('{'))
@@ -145,11 +179,37 @@ impl Loop {
         let written = |line: &String| {
             let line = line.replace('@', &number).replace('%', clause);
             let line = with_marked(&line, ['{', '}'], self.copied != Copied::None);
-            with_marked(&line, ['[', ']'], self.copied == Copied::All)
+            let line = with_marked(&line, ['[', ']'], self.copied == Copied::All);
+            with_turned(&line, self.turned)
         };
         let lines: Vec<String> = self.lines.iter().map(written).collect();
         write_text(&lines, &self.layout, &mut Rng::new(self.layout_seed))
     }
+}
+
+/// How a `reduction` clause begins.
+const REDUCTION: &str = "reduction(";
+
+/// The line with other operations in its `reduction` clauses.
+fn with_turned(line: &str, turned: Turned) -> String {
+    let far = match turned {
+        Turned::AsDrawn => return line.to_string(),
+        Turned::Once => 1,
+        Turned::Twice => 2,
+    };
+    let signs = Operation::ALL.map(Operation::sign);
+    let piece = |piece: &str| {
+        let clause = piece.split_once(':');
+        let place = clause.and_then(|(sign, _)| signs.iter().position(|one| *one == sign));
+        match (clause, place) {
+            (Some((_, list)), Some(place)) => {
+                format!("{}:{list}", signs[(place + far) % signs.len()])
+            }
+            _ => piece.to_string(),
+        }
+    };
+    let pieces: Vec<String> = line.split(REDUCTION).map(piece).collect();
+    pieces.join(REDUCTION)
 }
 
 /// The line with what stands between these signs, or without it.

@@ -2,7 +2,7 @@
 //! whether one passes depends on where the blocks begin.
 
 use crate::layout::Layout;
-use crate::lines::{lastprivate, lines, with_data};
+use crate::lines::{lastprivate, lines, with_data, Operation};
 use crate::loops::Loop;
 use crate::rng::Rng;
 
@@ -36,7 +36,7 @@ fn clauses(rng: &mut Rng, name: &str) -> Vec<String> {
         0 => Vec::new(),
         1 => vec![format!("shared({name})")],
         2..=4 => lastprivate(rng, name, 50),
-        _ => vec![format!("reduction(+:{name})")],
+        _ => vec![rng.pick(&Operation::ALL).clause(name)],
     }
 }
 
@@ -101,6 +101,8 @@ fn cells_in_runs(rng: &mut Rng, count: usize) -> Drawn {
         "a(k(i)) = i",
         "a(k(i)) = a(k(i)) + i",
         "a(k(i)) = a(k(i)) - 2*i",
+        "a(k(i)) = a(k(i))*(i + 1)",
+        "a(k(i)) = max(a(k(i)), 5 - i)",
         "a(k(i)) = i - a(k(i))",
     ]);
     let mut number = 1;
@@ -122,6 +124,8 @@ fn running_value(rng: &mut Rng, count: usize) -> Drawn {
     let body = rng.pick(&[
         "s = i + s",
         "s = s - 2*i",
+        "s = max(s, 5 - i)",
+        "s = max(i, s)",
         "s = s*3 + i",
         "s = (s) - i",
         "s = i - s",
@@ -131,15 +135,19 @@ fn running_value(rng: &mut Rng, count: usize) -> Drawn {
     (lines, vec![0])
 }
 
-/// A sum, and one iteration that reads or writes it: an obstacle in one block too.
+/// A sum or a maximum, and one iteration that reads or writes it: an obstacle in one block too.
 fn sum_meets_once(rng: &mut Rng, count: usize) -> Drawn {
     let at = rng.between(1, count as i64 + 2);
     let access = rng.pick(&["a(i) = s", "s = i", "s = i - s"]);
-    let sign = rng.pick(&["+", "-"]);
-    let body = format!("if (i == {at}) then\n{access}\nelse\ns = s {sign} i\nend if");
+    let (operation, right) = rng.pick(&[
+        (Operation::Sum, "s + i"),
+        (Operation::Sum, "s - i"),
+        (Operation::Maximum, "max(s, i)"),
+    ]);
+    let body = format!("if (i == {at}) then\n{access}\nelse\ns = {right}\nend if");
     let names = format!("s, a({count})");
     let bounds = format!("1, {count}");
-    let clauses = ["reduction(+:s)".to_string()];
+    let clauses = [operation.clause("s")];
     let lines = lines(rng, &names, &clauses, &bounds, &body);
     (lines, vec![0; count + 1])
 }

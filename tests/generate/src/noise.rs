@@ -19,7 +19,7 @@ pub fn bytes(rng: &mut Rng) -> Vec<u8> {
 
 /// Tokens of the language in any order, a few to a line.
 pub fn soup(rng: &mut Rng) -> Vec<u8> {
-    const TOKENS: [&str; 54] = [
+    const TOKENS: [&str; 59] = [
         "integer",
         "data",
         "do",
@@ -30,6 +30,7 @@ pub fn soup(rng: &mut Rng) -> Vec<u8> {
         "then",
         "else",
         "rdiv",
+        "max",
         "a",
         "b",
         "s",
@@ -67,6 +68,10 @@ pub fn soup(rng: &mut Rng) -> Vec<u8> {
         "firstprivate(a)",
         "lastprivate(a)",
         "reduction",
+        "reduction(*:a)",
+        "reduction(max:a)",
+        "max(a, 1)",
+        "a = max(a, i)",
         "schedule",
         "static",
         "schedule(static)",

@@ -1,10 +1,13 @@
 //! The same seed gives the same cases.
 
 use generate::layout::split_tokens;
-use generate::{copies, damage, hostile, lend, neighbours, noise, Copied, Knobs, Loop, Rng};
+use generate::{
+    copies, damage, hostile, lend, neighbours, noise, reductions, Copied, Knobs, Loop, Operation,
+    Rng, Turned,
+};
 
 /// Texts of all kinds and a schedule, and cells.
-fn draw(seed: u64) -> ([Vec<u8>; 7], Vec<i32>) {
+fn draw(seed: u64) -> ([Vec<u8>; 8], Vec<i32>) {
     let mut rng = Rng::new(seed);
     let knobs = Knobs::mixed(&mut rng);
     let good = Loop::random(&mut rng, &knobs).text();
@@ -12,6 +15,7 @@ fn draw(seed: u64) -> ([Vec<u8>; 7], Vec<i32>) {
         hostile::hostile(&mut rng).text(),
         neighbours::neighbours(&mut rng).text(),
         copies::copies(&mut rng).text(),
+        reductions::reductions(&mut rng).text(),
         damage::damage(&good, &mut rng),
         noise::soup(&mut rng),
         noise::bytes(&mut rng),
@@ -41,18 +45,24 @@ fn most_texts_are_short_enough() {
     assert!(lengths.iter().filter(|&&length| length > 1000).count() > 50);
 }
 
+/// A loop of each kind.
+fn one_of_each(seed: u64) -> [Loop; 5] {
+    let mut rng = Rng::new(seed);
+    let knobs = Knobs::mixed(&mut rng);
+    [
+        Loop::random(&mut rng, &knobs),
+        hostile::hostile(&mut rng),
+        neighbours::neighbours(&mut rng),
+        copies::copies(&mut rng),
+        reductions::reductions(&mut rng),
+    ]
+}
+
 /// The same seed with and without the clause: the texts differ in the line of the directive alone.
 #[test]
 fn the_clause_changes_one_line() {
     for seed in 0..200 {
-        let mut rng = Rng::new(seed);
-        let knobs = Knobs::mixed(&mut rng);
-        for drawn in [
-            Loop::random(&mut rng, &knobs),
-            hostile::hostile(&mut rng),
-            neighbours::neighbours(&mut rng),
-            copies::copies(&mut rng),
-        ] {
+        for drawn in one_of_each(seed) {
             let [with, without] = [true, false].map(|by_blocks| {
                 let text = drawn.with_blocks(by_blocks).text();
                 String::from_utf8(text).unwrap().to_lowercase()
@@ -88,14 +98,7 @@ fn listed(directive: &str, word: &str) -> Vec<String> {
 fn copies_change_one_line() {
     let mut partly = 0;
     for seed in 0..200 {
-        let mut rng = Rng::new(seed);
-        let knobs = Knobs::mixed(&mut rng);
-        for drawn in [
-            Loop::random(&mut rng, &knobs),
-            hostile::hostile(&mut rng),
-            neighbours::neighbours(&mut rng),
-            copies::copies(&mut rng),
-        ] {
+        for drawn in one_of_each(seed) {
             let texts = [Copied::None, Copied::AsDrawn, Copied::All].map(|copied| {
                 let text = drawn.with_copied(copied).text();
                 String::from_utf8(text).unwrap().to_lowercase()
@@ -152,6 +155,85 @@ fn copies_are_frequent() {
     }
     println!("with copied names, with plain ones, with the word as a name: {counts:?}");
     assert!(counts[0] > 350 && counts[1] > 250 && counts[2] > 20);
+}
+
+/// The operation of the clause that each name of a `reduction` clause stands in, by the names in order.
+fn operations(directive: &str) -> Vec<(String, String)> {
+    let tokens = split_tokens(directive);
+    let mut operations = Vec::new();
+    for clause in tokens[3..].split(|token| *token == ")") {
+        if clause.first() == Some(&"reduction") {
+            let names = clause[4..].iter().filter(|token| **token != ",");
+            operations.extend(names.map(|name| (name.to_string(), clause[2].to_string())));
+        }
+    }
+    operations.sort();
+    operations
+}
+
+/// With other operations each name has the next one, or the one after that, and nothing else of the text
+/// changes.
+#[test]
+fn operations_change_one_line() {
+    let next = |sign: &str| match sign {
+        "+" => "*".to_string(),
+        "*" => "max".to_string(),
+        _ => "+".to_string(),
+    };
+    let mut turned = 0;
+    for seed in 0..200 {
+        for drawn in one_of_each(seed) {
+            let texts = [Turned::AsDrawn, Turned::Once, Turned::Twice].map(|turned| {
+                let text = drawn.with_turned(turned).text();
+                String::from_utf8(text).unwrap().to_lowercase()
+            });
+            let directives = texts.each_ref().map(|text| {
+                let is_directive = |line: &&str| line.trim_start().starts_with("!$omp ");
+                text.lines().find(is_directive).unwrap()
+            });
+            let rest = |place: usize| texts[place].replacen(directives[place], "", 1);
+            assert!(rest(0) == rest(1) && rest(1) == rest(2));
+            let [first, second, third] = directives.map(operations);
+            for (before, after) in [(&first, &second), (&second, &third), (&third, &first)] {
+                let expected: Vec<_> = before
+                    .iter()
+                    .map(|(name, sign)| (name.clone(), next(sign)))
+                    .collect();
+                assert_eq!(*after, expected);
+            }
+            assert_eq!(drawn.has_reductions(), !first.is_empty());
+            turned += u32::from(!first.is_empty());
+        }
+    }
+    assert!(turned > 400);
+}
+
+/// Each operation is frequent, and so are all three in one loop and `max` in its body; words that only begin
+/// like it are now and then names.
+#[test]
+fn operations_are_frequent() {
+    let mut counts = [0; 6];
+    for seed in 0..1000 {
+        let mut rng = Rng::new(seed);
+        let knobs = Knobs::mixed(&mut rng);
+        let drawn = Loop::random(&mut rng, &knobs);
+        let text = String::from_utf8(drawn.text()).unwrap().to_lowercase();
+        let has = Operation::ALL.map(|operation| drawn.has(operation));
+        for (count, has) in counts.iter_mut().zip(has) {
+            *count += u32::from(has);
+        }
+        counts[3] += u32::from(has == [true; 3]);
+        let is_body = |line: &&str| !line.contains("!$omp");
+        let of_body = |word: &str| {
+            let mut lines = text.lines().filter(is_body);
+            lines.any(|line| split_tokens(line).contains(&word))
+        };
+        counts[4] += u32::from(of_body("max"));
+        counts[5] += u32::from(of_body("max2"));
+    }
+    println!("sums, products, maxima, all three, max in the body, max2 as a name: {counts:?}");
+    assert!(counts[..3].iter().all(|&loops| loops > 200) && counts[3] > 30);
+    assert!(counts[4] > 300 && counts[5] > 20);
 }
 
 #[test]

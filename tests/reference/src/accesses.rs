@@ -18,7 +18,7 @@ pub struct Access {
     pub cell: u16,
     /// The index of the iteration, from 0.
     pub iteration: u32,
-    /// The value read or written, or what an update adds.
+    /// The value read or written, or what an update adds, multiplies by or compares with.
     pub value: i32,
 }
 

@@ -95,19 +95,20 @@ impl Draft {
     }
 
     /// "An update is an assignment to a cell of a reduction name whose right side begins with the
-    /// same reference"; the same words for other names are ordinary (READING 64).
+    /// same reference"; the same words for other names are ordinary (READING 64). Document 02, Point 6: "Each
+    /// name has the update of its own clause only." (P6.6)
     fn add_assignment(&mut self, line: u32, written: &Assignment<String>) {
         let Assignment {
             target,
             value,
             update,
         } = self.resolve_assignment(written).expect("known names");
-        let reduction = match target.name {
-            Place::Name(index) => self.names[index].class == Class::Reduction,
-            Place::Variable => false,
+        let class = match target.name {
+            Place::Name(index) => self.names[index].class,
+            Place::Variable => unreachable!("v is not assigned"),
         };
         let action = match update {
-            Some(update) if reduction => Action::Update {
+            Some(update) if class == Class::Reduction(update.words.operation()) => Action::Update {
                 target,
                 update,
                 value,

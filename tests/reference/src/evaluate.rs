@@ -3,7 +3,9 @@
 
 use crate::integers::{divide_rounded, divide_truncated};
 use crate::program::{Action, Place, Program, Statement};
-use crate::syntax::{Condition, Expression, Factor, Joint, Named, Relation, Scaling, Term};
+use crate::syntax::{
+    Condition, Expression, Factor, Joint, Named, Operation, Relation, Scaling, Term, Update,
+};
 use crate::Refusal;
 
 /// What cell accesses do. Each may also say that the iteration pauses here.
@@ -13,7 +15,7 @@ pub trait Memory {
     /// An ordinary write.
     fn write(&mut self, cell: usize, value: i32) -> Result<(), Paused>;
     /// "one access that updates"
-    fn update(&mut self, cell: usize, amount: i32) -> Result<(), Paused>;
+    fn update(&mut self, cell: usize, operation: Operation, operand: i32) -> Result<(), Paused>;
 }
 
 /// The iteration goes no further in this step.
@@ -75,7 +77,7 @@ impl<M: Memory> Iteration<'_, M> {
     fn statement(&mut self, statement: &Statement) -> Result<(), Stop> {
         let done = match &statement.action {
             Action::Assign { target, value } => self.assign(target, value),
-            Action::Update { target, update, .. } => self.update(target, &update.added),
+            Action::Update { target, update, .. } => self.update(target, update),
             Action::If {
                 condition,
                 then,
@@ -111,11 +113,12 @@ impl<M: Memory> Iteration<'_, M> {
     }
 
     /// "Its subscript comes first, then the remainder, then one access that updates." (READING 66,
-    /// 67, 68)
-    fn update(&mut self, target: &Named<Place>, added: &Expression<Place>) -> Result<(), NoValue> {
+    /// 67, 68; P6.5)
+    fn update(&mut self, target: &Named<Place>, update: &Update<Place>) -> Result<(), NoValue> {
         let cell = self.cell(target)?;
-        let amount = self.expression(added)?;
-        Ok(self.memory.update(cell, amount)?)
+        let operand = self.expression(&update.operand)?;
+        let operation = update.words.operation();
+        Ok(self.memory.update(cell, operation, operand)?)
     }
 
     /// "`if` works out its left e, then its right, then goes by rel."
@@ -177,6 +180,12 @@ impl<M: Memory> Iteration<'_, M> {
                 let dividend = self.expression(dividend)?;
                 let divisor = self.expression(divisor)?;
                 divide_rounded(dividend, divisor).ok_or(NoValue::Divisor)
+            }
+            // "left first" (P6.8)
+            Factor::Max(one, other) => {
+                let one = self.expression(one)?;
+                let other = self.expression(other)?;
+                Ok(one.max(other))
             }
             Factor::Brackets(inner) => self.expression(inner),
         }

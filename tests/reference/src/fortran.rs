@@ -1,34 +1,51 @@
-//! A loop as a Fortran program, or as a procedure of one: the given cells are set, the loop runs
-//! serially without its directive, and every cell is printed on a line of its own. For
-//! `gfortran -fwrapv -fcheck=bounds`; a subscript outside its array ends the program with status 2, a
-//! zero divisor with status 10.
+//! A loop as a Fortran program, or as a procedure of one: the given cells are set, the loop runs, and every
+//! cell is printed on a line of its own. For `gfortran -fwrapv -fcheck=bounds`; a subscript outside its array
+//! ends the program with status 2, a zero divisor with status 10.
 
+use crate::accesses::Access;
 use crate::program::{Action, Declared, Place, Program, Statement};
 use crate::reader::read;
-use crate::syntax::{Condition, Expression, Factor, Joint, Named, Relation, Scaling, Term};
+use crate::serial::run_serially;
+use crate::syntax::{
+    Class, Condition, Expression, Factor, Grouping, Joint, Named, Operation, Relation, Scaling,
+    Term,
+};
 
-/// The Fortran program for an accepted text and as many cells as it has. `None` for other texts and
-/// where Fortran has no such loop: an end of 2147483647, which the variable would pass
+/// How Fortran runs a loop.
+#[derive(Debug, Clone, Copy, PartialEq, Eq)]
+pub enum Threads {
+    /// Serially, without the directive.
+    One,
+    /// By the directive, with `-fopenmp`.
+    Many,
+}
+
+/// The Fortran program for an accepted text and as many cells as it has, without its directive. `None` for
+/// other texts and where Fortran has no such loop: an end of 2147483647, which the variable would pass
 /// (READING 97), and a variable `concurrent`, for `do concurrent` begins another statement.
 pub fn fortran(text: &[u8], cells: &[i32]) -> Option<String> {
     let program = for_fortran(text, cells)?;
     let main = unused_name("loop", &program);
-    Some(Printer::of(&program).unit("program", &main, cells))
+    Some(Printer::of(&program, Threads::One).unit("program", &main, cells))
 }
 
 /// The loops of several texts in one Fortran program, which prints a line `loop` before each loop's
-/// cells; `None` for a loop that `fortran` refuses.
-pub fn fortran_of_all(loops: &[(&[u8], &[i32])]) -> Option<String> {
+/// cells; `None` for a loop that `fortran` refuses, and with threads for one whose directive means something
+/// else in Fortran.
+pub fn fortran_of_all(loops: &[(&[u8], &[i32])], threads: Threads) -> Option<String> {
     let mut procedures = String::new();
     let mut lines = Lines::default();
     lines.put(0, "program loops");
     for ((text, cells), number) in loops.iter().zip(1..) {
         let program = for_fortran(text, cells)?;
+        if threads == Threads::Many && !means_the_same(&program, cells) {
+            return None;
+        }
         // Longer than any name of a text.
         let name = format!("the_loop_with_the_number_in_this_list_{number}");
         lines.put(1, "write (*, '(a)') 'loop'");
         lines.put(1, &format!("call {name}()"));
-        procedures += &Printer::of(&program).unit("subroutine", &name, cells);
+        procedures += &Printer::of(&program, threads).unit("subroutine", &name, cells);
     }
     lines.put(0, "end program loops");
     Some(lines.text + &procedures)
@@ -42,9 +59,28 @@ fn for_fortran(text: &[u8], cells: &[i32]) -> Option<Program> {
     (cells.len() == program.cell_count() && !has_none).then_some(program)
 }
 
-/// What the printed functions are called: names that the text does not use.
+/// Whether the directive leaves the serial run's cells in Fortran too, whose threads have blocks of their own:
+/// the loop passes by iterations, no name is in `lastprivate`, of which Fortran keeps what the last iteration
+/// has, and cells of `reduction` names are only updated, for a thread reads its own partial result.
+fn means_the_same(program: &Program, cells: &[i32]) -> bool {
+    let by_iterations = Program {
+        grouping: Grouping::Iterations,
+        ..program.clone()
+    };
+    let serial = run_serially(&by_iterations, cells);
+    let classes = program.cell_classes();
+    let is_private = |class: &Class| matches!(class, Class::Lastprivate | Class::CopyIn);
+    let is_ordinary = |access: &Access| {
+        let class = classes[usize::from(access.cell)];
+        matches!(class, Class::Reduction(_)) && access.is_ordinary()
+    };
+    serial.passes() && !classes.iter().any(is_private) && !serial.accesses.iter().any(is_ordinary)
+}
+
+/// A loop to print, and what the printed functions are called: names that the text does not use.
 struct Printer<'a> {
     program: &'a Program,
+    threads: Threads,
     /// `/`, with its zero divisor and the one quotient that traps.
     quotient: String,
     /// The identity, so that the compiler does not fold, and refuse, constants that wrap.
@@ -61,9 +97,10 @@ struct Printed {
 }
 
 impl<'a> Printer<'a> {
-    fn of(program: &'a Program) -> Self {
+    fn of(program: &'a Program, threads: Threads) -> Self {
         Printer {
             program,
+            threads,
             quotient: unused_name("quot", program),
             same: unused_name("same", program),
         }
@@ -81,6 +118,9 @@ impl<'a> Printer<'a> {
         for declared in &self.program.names {
             self.set_cells(declared, cells, &mut lines);
         }
+        if self.threads == Threads::Many {
+            self.directive(&mut lines);
+        }
         let Program { first, last, .. } = self.program;
         lines.put(
             1,
@@ -97,6 +137,25 @@ impl<'a> Printer<'a> {
         lines.text += &SAME.replace("SAME", &self.same);
         lines.put(0, &format!("end {kind} {name}"));
         lines.text
+    }
+
+    /// The directive, a clause for each name on a line of its own.
+    fn directive(&self, lines: &mut Lines) {
+        let mut clauses = vec![format!("num_threads({})", self.program.processors)];
+        if self.program.grouping == Grouping::Blocks {
+            clauses.push("schedule(static)".to_string());
+        }
+        for Declared { name, class, .. } in &self.program.names {
+            clauses.push(match class {
+                Class::Shared => format!("shared({name})"),
+                Class::Reduction(Operation::Sum) => format!("reduction(+:{name})"),
+                Class::Reduction(Operation::Product) => format!("reduction(*:{name})"),
+                Class::Reduction(Operation::Maximum) => format!("reduction(max:{name})"),
+                Class::Lastprivate | Class::CopyIn => unreachable!("a loop without private names"),
+            });
+        }
+        let clauses = clauses.join(" &\n!$omp ");
+        lines.text += &format!("!$omp parallel do {clauses}\n");
     }
 
     fn set_cells(&self, declared: &Declared, cells: &[i32], lines: &mut Lines) {
@@ -213,6 +272,14 @@ impl Printer<'_> {
             Factor::Rdiv(dividend, divisor) => {
                 let arguments = [dividend, divisor].map(|e| self.expression(e).pieces);
                 unfolded(call("rdiv", arguments.to_vec()))
+            }
+            // Fortran's own, which the compiler folds.
+            Factor::Max(one, other) => {
+                let (one, other) = (self.expression(one), self.expression(other));
+                Printed {
+                    pieces: call("max", vec![one.pieces, other.pieces]),
+                    constant: one.constant && other.constant,
+                }
             }
             Factor::Brackets(inner) => {
                 let inner = self.expression(inner);

@@ -1,6 +1,29 @@
 //! Document 01, "Integers". Sum, difference, product and negation are Rust's wrapping ones; here
-//! stand the two divisions. Both take the exact quotient of 64 bits and then keep 32 bits, which
-//! makes −2147483648 divided by −1 be −2147483648, "either way".
+//! stand the two divisions and the operations of `reduction` clauses. Both divisions take the exact quotient
+//! of 64 bits and then keep 32 bits, which makes −2147483648 divided by −1 be −2147483648, "either way".
+
+use crate::syntax::Operation;
+
+impl Operation {
+    /// "a neutral number": document 02, Point 6: "Partial results start at 1 and −2147483648", those of sums
+    /// at 0.
+    pub fn neutral(self) -> i32 {
+        match self {
+            Operation::Sum => 0,
+            Operation::Product => 1,
+            Operation::Maximum => i32::MIN,
+        }
+    }
+
+    /// What an update makes of a cell or a partial result, and the merge of a partial result with a cell.
+    pub fn of(self, one: i32, other: i32) -> i32 {
+        match self {
+            Operation::Sum => one.wrapping_add(other),
+            Operation::Product => one.wrapping_mul(other),
+            Operation::Maximum => one.max(other),
+        }
+    }
+}
 
 /// "`/` truncates toward zero." `None` for a zero divisor.
 pub fn divide_truncated(dividend: i32, divisor: i32) -> Option<i32> {
@@ -28,6 +51,37 @@ pub fn divide_rounded(dividend: i32, divisor: i32) -> Option<i32> {
 #[cfg(test)]
 mod tests {
     use super::*;
+
+    /// Document 02, Point 6: "any operation that is commutative, associative and has a neutral number, and the
+    /// three operations are cases of it".
+    #[test]
+    fn operations_are_commutative_associative_and_have_a_neutral_number() {
+        const NUMBERS: [i32; 11] = [
+            i32::MIN,
+            i32::MIN + 1,
+            -46341,
+            -2,
+            -1,
+            0,
+            1,
+            3,
+            65536,
+            i32::MAX - 1,
+            i32::MAX,
+        ];
+        for operation in [Operation::Sum, Operation::Product, Operation::Maximum] {
+            let of = |one, other| operation.of(one, other);
+            for a in NUMBERS {
+                assert_eq!(of(a, operation.neutral()), a);
+                for b in NUMBERS {
+                    assert_eq!(of(a, b), of(b, a));
+                    for c in NUMBERS {
+                        assert_eq!(of(of(a, b), c), of(a, of(b, c)));
+                    }
+                }
+            }
+        }
+    }
 
     #[test]
     fn examples_of_document_01() {

@@ -1,6 +1,6 @@
-//! An interpreter of document 01 and of document 02, Points 1 to 5, written apart from the product and
+//! An interpreter of document 01 and of document 02, Points 1 to 6, written apart from the product and
 //! for obviousness: bytes, lines, tokens, a tree, names and limits, then evaluation with the whole list
-//! of accesses kept. Marks, obstacles, private values, sums and counts are taken from that list as
+//! of accesses kept. Marks, obstacles, private values, partial results and counts are taken from that list as
 //! the documents word them.
 //!
 //! Comments quote these documents; "READING 44" is the entry of that number in the project's reading
@@ -29,14 +29,12 @@ mod tokens;
 mod trial;
 
 pub use accesses::{Access, Kind};
-pub use fortran::{fortran, fortran_of_all};
+pub use fortran::{fortran, fortran_of_all, Threads};
 pub use integers::{divide_rounded, divide_truncated};
 pub use print::lrpd;
 pub use reader::read;
-pub use serial::Serial;
-pub use services::{
-    check, load, look, run, serial, serial_before_minus_updates, stepped, trial, workspace_needed,
-};
+pub use serial::{run_serially, Serial};
+pub use services::{check, load, look, run, serial, stepped, trial, workspace_needed};
 pub use steps::{share, Processor, Speculation};
 pub use trial::Trial;
 

@@ -63,7 +63,7 @@ impl Draft {
 
 /// The class of a name by all the clauses it stands in, each as often as it does; `None` gives number 3.
 /// Document 02, Point 5: "A name in firstprivate alone is 3 at the directive; two clauses are no fault for
-/// this pair" (P5.1, P5.2).
+/// this pair" (P5.1, P5.2). Two `reduction` clauses are one, of one operation or of two (P6.1).
 pub fn class_of(name: &str, lists: &[(Clause, Vec<String>)]) -> Option<Class> {
     let places = |(clause, names): &(Clause, Vec<String>)| {
         let times = names.iter().filter(|one| *one == name).count();
@@ -75,7 +75,7 @@ pub fn class_of(name: &str, lists: &[(Clause, Vec<String>)]) -> Option<Class> {
         [Clause::Lastprivate] => Some(Class::Lastprivate),
         [Clause::Firstprivate, Clause::Lastprivate]
         | [Clause::Lastprivate, Clause::Firstprivate] => Some(Class::CopyIn),
-        [Clause::Reduction] => Some(Class::Reduction),
+        [Clause::Reduction(operation)] => Some(Class::Reduction(operation)),
         _ => None,
     }
 }
@@ -93,9 +93,9 @@ impl Draft {
             return None;
         }
         let update = match &written.update {
-            Some(Update { sign, added }) => Some(Update {
-                sign: *sign,
-                added: self.resolve_expression(added)?,
+            Some(Update { words, operand }) => Some(Update {
+                words: *words,
+                operand: self.resolve_expression(operand)?,
             }),
             None => None,
         };
@@ -144,6 +144,10 @@ impl Draft {
             Factor::Rdiv(dividend, divisor) => Factor::Rdiv(
                 Box::new(self.resolve_expression(dividend)?),
                 Box::new(self.resolve_expression(divisor)?),
+            ),
+            Factor::Max(one, other) => Factor::Max(
+                Box::new(self.resolve_expression(one)?),
+                Box::new(self.resolve_expression(other)?),
             ),
             Factor::Brackets(inner) => Factor::Brackets(Box::new(self.resolve_expression(inner)?)),
         })

@@ -26,8 +26,8 @@ pub fn has_obstacle(class: Class, visits: &[Visit]) -> bool {
         Class::Lastprivate => used_before_written(visits),
         Class::CopyIn => used_above_a_writer(visits),
         // "reduction: it has an update and an ordinary access, even in one iteration": whatever the
-        // groups, and so with one processor too (P3.8)
-        Class::Reduction => {
+        // groups, and so with one processor too (P3.8), and whatever the operation (P6.7)
+        Class::Reduction(_) => {
             let updated = visits.iter().any(Visit::updates);
             let ordinary = visits.iter().any(|visit| visit.reads() || visit.writes());
             (updated && ordinary) || used_before_written(visits)
@@ -65,6 +65,7 @@ fn written_and_elsewhere(visits: &[Visit], what: impl Fn(&Visit) -> bool) -> boo
 mod tests {
     use super::*;
     use crate::accesses::Kind::{self, Read, Update, Write};
+    use crate::syntax::Operation;
 
     fn of(class: Class, visits: &[&[Kind]]) -> bool {
         let visits: Vec<Visit> = visits
@@ -130,10 +131,13 @@ mod tests {
 
     #[test]
     fn reduction_cells() {
-        assert!(!of(Class::Reduction, &[&[Update], &[Update]]));
-        assert!(!of(Class::Reduction, &[&[Write], &[Write]]));
-        assert!(of(Class::Reduction, &[&[Update, Read]]));
-        assert!(of(Class::Reduction, &[&[Update], &[Write]]));
-        assert!(of(Class::Reduction, &[&[Write], &[Read]]));
+        for operation in [Operation::Sum, Operation::Product, Operation::Maximum] {
+            let class = Class::Reduction(operation);
+            assert!(!of(class, &[&[Update], &[Update]]));
+            assert!(!of(class, &[&[Write], &[Write]]));
+            assert!(of(class, &[&[Update, Read]]));
+            assert!(of(class, &[&[Update], &[Write]]));
+            assert!(of(class, &[&[Write], &[Read]]));
+        }
     }
 }

@@ -4,13 +4,14 @@
 use crate::lines::{Broken, Line};
 use crate::syntax::{
     Assignment, Clause, Condition, Expression, Factor, Form, Grouping, Item, Joint, Named,
-    Relation, Scaling, Signed, Term, Update, Written,
+    Operation, Relation, Scaling, Signed, Term, Update, Words, Written,
 };
 use crate::tokens::{literal_value, same_token, split_tokens, Token};
 
-/// "The words integer, data, do, [...] are no names." Used as one they break the form (READING 21).
-const RESERVED: [&str; 10] = [
-    "integer", "data", "do", "end", "enddo", "endif", "if", "then", "else", "rdiv",
+/// "The words integer, data, do, [...] are no names." Used as one they break the form (READING 21). Document
+/// 02, Point 6: "max is no longer free as a name" (P6.2).
+const RESERVED: [&str; 11] = [
+    "integer", "data", "do", "end", "enddo", "endif", "if", "then", "else", "rdiv", "max",
 ];
 
 /// "Names are a letter and up to 30 letters, digits or underscores." (READING 20)
@@ -24,10 +25,7 @@ pub fn parse_line(line: &Line) -> Result<Option<Written>, Broken> {
         Line::Plain(content) => (content, false),
     };
     let tokens = split_tokens(content);
-    let mut cursor = Cursor {
-        tokens: &tokens,
-        place: 0,
-    };
+    let mut cursor = Cursor::at(&tokens);
     let form = if directive {
         cursor.directive_form()?
     } else {
@@ -65,6 +63,8 @@ fn most_open(tokens: &[Token]) -> usize {
     }
     most
 }
+
+type BoxedExpression = Box<Expression<String>>;
 
 /// The tokens of a line and the place reached in them.
 struct Cursor<'t> {
@@ -272,7 +272,7 @@ impl Cursor<'_> {
         }
     }
 
-    /// An assignment, and what is added if it has the words of an update.
+    /// An assignment, and the update that it has the words of: of one at most, for no name is `max`.
     fn assignment(&mut self) -> Result<Form, Broken> {
         let start = self.place;
         let target = self.reference()?;
@@ -281,10 +281,9 @@ impl Cursor<'_> {
         let right = &self.tokens[self.place..];
         let value = self.expression()?;
         self.expect_end()?;
-        let update = match words_of_update(reference, right) {
-            Some((sign, tokens)) => Some(Cursor { tokens, place: 0 }.update(sign)?),
-            None => None,
-        };
+        let update = sum_update(reference, right)
+            .or_else(|| product_update(reference, right))
+            .or_else(|| maximum_update(reference, right));
         Ok(Form::Assign(Assignment {
             target,
             value,
@@ -306,7 +305,8 @@ impl Cursor<'_> {
     /// "`num_threads(p)` exactly once, and any of `shared(list)`, `lastprivate(list)`,
     /// `reduction(+:list)`, repeated or not. No commas stand between clauses" (READING 26, 27, 32);
     /// document 02, Point 3: "the clause `schedule(static)`, at most once" (P3.1 to P3.3); Point 5:
-    /// `firstprivate(list)` as the others (P5.1).
+    /// `firstprivate(list)` as the others (P5.1); Point 6: "Add `reduction(*:list)` and
+    /// `reduction(max:list)`" (P6.1).
     fn clauses(&mut self) -> Result<Form, Broken> {
         let mut threads = Vec::new();
         let mut lists = Vec::new();
@@ -319,9 +319,9 @@ impl Cursor<'_> {
                 Token::Word("firstprivate") => lists.push((Clause::Firstprivate, self.names()?)),
                 Token::Word("lastprivate") => lists.push((Clause::Lastprivate, self.names()?)),
                 Token::Word("reduction") => {
-                    self.expect_sign("+")?;
+                    let operation = self.operation()?;
                     self.expect_sign(":")?;
-                    lists.push((Clause::Reduction, self.names()?));
+                    lists.push((Clause::Reduction(operation), self.names()?));
                 }
                 Token::Word("schedule") => {
                     self.expect_word("static")?;
@@ -346,46 +346,93 @@ impl Cursor<'_> {
         }
     }
 
+    fn operation(&mut self) -> Result<Operation, Broken> {
+        match self.next() {
+            Some(Token::Sign("+")) => Ok(Operation::Sum),
+            Some(Token::Sign("*")) => Ok(Operation::Product),
+            Some(Token::Word("max")) => Ok(Operation::Maximum),
+            _ => Err(Broken),
+        }
+    }
+
     /// "a list is one or more names parted by commas"
     fn names(&mut self) -> Result<Vec<String>, Broken> {
         self.list(Self::name)
     }
 }
 
-/// The sign after "the same reference, token for token [...], followed by +" or - (READING 62, 63;
-/// P1.1), and the tokens after it.
-fn words_of_update<'t>(
-    reference: &[Token<'t>],
-    right: &'t [Token<'t>],
-) -> Option<(Joint, &'t [Token<'t>])> {
-    if right.len() <= reference.len() {
-        return None;
-    }
-    let (begin, rest) = right.split_at(reference.len());
-    let same = reference
-        .iter()
-        .zip(begin)
-        .all(|(one, other)| same_token(one, other));
-    let sign = match rest[0] {
-        Token::Sign("+") => Joint::Plus,
-        Token::Sign("-") => Joint::Minus,
+/// "the same reference, token for token [...], followed by +" (READING 62, 63), or by - (P1.1), which applies to
+/// the whole first term (P1.2). The right side has been read, so what remains of it is an expression.
+fn sum_update(reference: &[Token], right: &[Token]) -> Option<Update<String>> {
+    let (sign, remainder) = after(reference, right)?.split_first()?;
+    let words = match sign {
+        Token::Sign("+") => Words::Plus,
+        Token::Sign("-") => Words::Minus,
         _ => return None,
     };
-    same.then_some((sign, &rest[1..]))
+    let remainder = Cursor::at(remainder).expression().ok()?;
+    let operand = Expression {
+        negative: words == Words::Minus,
+        ..remainder
+    };
+    Some(Update { words, operand })
+}
+
+/// Document 02, Point 6: "Product updates are `x = x * e`, where the remainder has no +, - or / outside
+/// brackets" (P6.3).
+fn product_update(reference: &[Token], right: &[Token]) -> Option<Update<String>> {
+    let (sign, remainder) = after(reference, right)?.split_first()?;
+    let joined_by_others = outside_brackets(remainder)
+        .iter()
+        .any(|token| matches!(token, Token::Sign("+" | "-" | "/")));
+    if *sign != Token::Sign("*") || joined_by_others {
+        return None;
+    }
+    let operand = Cursor::at(remainder).expression().ok()?;
+    let words = Words::Times;
+    Some(Update { words, operand })
+}
+
+/// Document 02, Point 6: "Maximum updates are `x = max(x, e)`", and nothing else stands on the line (P6.4).
+fn maximum_update(reference: &[Token], right: &[Token]) -> Option<Update<String>> {
+    let arguments = after(&[Token::Word("max"), Token::Sign("(")], right)?;
+    let rest = after(&[Token::Sign(",")], after(reference, arguments)?)?;
+    let mut cursor = Cursor::at(rest);
+    let operand = cursor.expression().ok()?;
+    cursor.expect_sign(")").ok()?;
+    cursor.expect_end().ok()?;
+    let words = Words::Max;
+    Some(Update { words, operand })
+}
+
+/// What follows these tokens, if `tokens` begin with them, "a literal's leading zeros aside".
+fn after<'t>(begin: &[Token], tokens: &'t [Token<'t>]) -> Option<&'t [Token<'t>]> {
+    let (first, rest) = tokens.split_at_checked(begin.len())?;
+    let mut pairs = begin.iter().zip(first);
+    let same = pairs.all(|(one, other)| same_token(one, other));
+    same.then_some(rest)
+}
+
+/// The tokens that stand in no brackets, of whatever kind, and are none.
+fn outside_brackets<'t>(tokens: &[Token<'t>]) -> Vec<Token<'t>> {
+    let mut open = 0;
+    let mut outside = Vec::new();
+    for token in tokens {
+        match token {
+            Token::Sign("(") => open += 1,
+            Token::Sign(")") => open -= 1,
+            _ if open == 0 => outside.push(*token),
+            _ => {}
+        }
+    }
+    outside
 }
 
 /// Expressions.
-impl Cursor<'_> {
-    /// The remainder of an update after its sign. A minus applies to the whole first term (P1.2).
-    fn update(&mut self, sign: Joint) -> Result<Update<String>, Broken> {
-        let remainder = self.expression()?;
-        Ok(Update {
-            sign,
-            added: Expression {
-                negative: sign == Joint::Minus,
-                ..remainder
-            },
-        })
+impl<'t> Cursor<'t> {
+    /// Before the first of these tokens.
+    fn at(tokens: &'t [Token<'t>]) -> Self {
+        Cursor { tokens, place: 0 }
     }
 
     fn expression(&mut self) -> Result<Expression<String>, Broken> {
@@ -434,22 +481,29 @@ impl Cursor<'_> {
     fn factor(&mut self) -> Result<Factor<String>, Broken> {
         match self.peek() {
             Some(Token::Digits(_)) => Ok(Factor::Literal(self.literal()?)),
-            Some(Token::Word("rdiv")) => self.rounded_division(),
+            Some(Token::Word("rdiv")) => {
+                let (dividend, divisor) = self.two_arguments()?;
+                Ok(Factor::Rdiv(dividend, divisor))
+            }
+            Some(Token::Word("max")) => {
+                let (one, other) = self.two_arguments()?;
+                Ok(Factor::Max(one, other))
+            }
             Some(Token::Word(_)) => Ok(Factor::Named(self.reference()?)),
             Some(Token::Sign("(")) => Ok(Factor::Brackets(self.in_brackets()?)),
             _ => Err(Broken),
         }
     }
 
-    /// `rdiv(e, e)`
-    fn rounded_division(&mut self) -> Result<Factor<String>, Broken> {
-        self.expect_word("rdiv")?;
+    /// A word, and `(e, e)` after it.
+    fn two_arguments(&mut self) -> Result<(BoxedExpression, BoxedExpression), Broken> {
+        self.next();
         self.expect_sign("(")?;
-        let dividend = self.expression()?;
+        let one = self.expression()?;
         self.expect_sign(",")?;
-        let divisor = self.expression()?;
+        let other = self.expression()?;
         self.expect_sign(")")?;
-        Ok(Factor::Rdiv(Box::new(dividend), Box::new(divisor)))
+        Ok((Box::new(one), Box::new(other)))
     }
 
     /// A name, and a subscript in brackets if one follows.
@@ -462,7 +516,7 @@ impl Cursor<'_> {
         Ok(Named { name, subscript })
     }
 
-    fn in_brackets(&mut self) -> Result<Box<Expression<String>>, Broken> {
+    fn in_brackets(&mut self) -> Result<BoxedExpression, Broken> {
         self.expect_sign("(")?;
         let inner = self.expression()?;
         self.expect_sign(")")?;

@@ -1,6 +1,6 @@
 //! A loop that has been read: what its names, bounds and statements stand for.
 
-use crate::syntax::{Class, Condition, Expression, Grouping, Joint, Named, Update};
+use crate::syntax::{Class, Condition, Expression, Grouping, Named, Update, Words};
 
 /// A loop without fault of form, name or limit.
 #[derive(Debug, Clone, PartialEq, Eq)]
@@ -95,10 +95,10 @@ impl Program {
         i32::try_from(i64::from(self.first) + i64::from(iteration)).expect("v between m and n")
     }
 
-    /// The loop as document 01 alone reads it: only `+` makes an update.
-    pub fn before_minus_updates(&self) -> Program {
+    /// The loop as it would be read if these words made no update.
+    pub fn without_updates(&self, words: &[Words]) -> Program {
         Program {
-            body: before_minus_updates(&self.body),
+            body: without_updates(&self.body, words),
             ..self.clone()
         }
     }
@@ -123,15 +123,15 @@ impl Program {
     }
 }
 
-fn before_minus_updates(body: &[Statement]) -> Vec<Statement> {
-    let before = |statement: &Statement| Statement {
+fn without_updates(body: &[Statement], words: &[Words]) -> Vec<Statement> {
+    let without = |statement: &Statement| Statement {
         line: statement.line,
         action: match &statement.action {
             Action::Update {
                 target,
                 update,
                 value,
-            } if update.sign == Joint::Minus => Action::Assign {
+            } if words.contains(&update.words) => Action::Assign {
                 target: target.clone(),
                 value: value.clone(),
             },
@@ -141,11 +141,13 @@ fn before_minus_updates(body: &[Statement]) -> Vec<Statement> {
                 otherwise,
             } => Action::If {
                 condition: condition.clone(),
-                then: before_minus_updates(then),
-                otherwise: otherwise.as_deref().map(before_minus_updates),
+                then: without_updates(then, words),
+                otherwise: otherwise
+                    .as_deref()
+                    .map(|otherwise| without_updates(otherwise, words)),
             },
             action => action.clone(),
         },
     };
-    body.iter().map(before).collect()
+    body.iter().map(without).collect()
 }

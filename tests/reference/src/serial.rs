@@ -4,6 +4,7 @@ use crate::accesses::{write_counts, Access, Kind};
 use crate::evaluate::{run_iteration, Memory, Paused, Stop};
 use crate::obstacles::obstacles;
 use crate::program::Program;
+use crate::syntax::Operation;
 use crate::Refusal;
 
 /// How a serial run ended, and its whole list of accesses. After a fault the counts and obstacles
@@ -57,7 +58,7 @@ impl Holding {
 }
 
 /// "A read gives the cell as it now stands, whatever its clause; a write stores in place; an update
-/// adds its remainder to the cell."
+/// adds its remainder to the cell", or does what its operation is (document 02, Point 6).
 impl Memory for Holding {
     fn read(&mut self, cell: usize) -> Result<i32, Paused> {
         let value = self.cells[cell];
@@ -71,9 +72,9 @@ impl Memory for Holding {
         Ok(())
     }
 
-    fn update(&mut self, cell: usize, amount: i32) -> Result<(), Paused> {
-        self.cells[cell] = self.cells[cell].wrapping_add(amount);
-        self.list(Kind::Update, cell, amount);
+    fn update(&mut self, cell: usize, operation: Operation, operand: i32) -> Result<(), Paused> {
+        self.cells[cell] = operation.of(self.cells[cell], operand);
+        self.list(Kind::Update, cell, operand);
         Ok(())
     }
 }

@@ -110,12 +110,6 @@ pub fn serial(text: &[u8], cells: &[i32]) -> Result<Serial, Refusal> {
     Ok(run_serially(&program, cells))
 }
 
-/// The same as document 01 alone reads the text, where only `+` makes an update.
-pub fn serial_before_minus_updates(text: &[u8], cells: &[i32]) -> Result<Serial, Refusal> {
-    let program = read_for(text, cells.len())?;
-    Ok(run_serially(&program.before_minus_updates(), cells))
-}
-
 fn take_steps(program: &Program, cells: &[i32], schedule: &[u8]) -> Trial {
     let mut speculation = Speculation::begin(program, cells);
     speculation.follow(schedule);

@@ -6,7 +6,7 @@ use crate::accesses::{Access, Kind};
 use crate::evaluate::{run_iteration, Memory, Paused, Stop};
 use crate::groups::group_of;
 use crate::program::Program;
-use crate::syntax::Class;
+use crate::syntax::{Class, Operation};
 use crate::Refusal;
 use std::ops::Range;
 
@@ -172,7 +172,7 @@ impl Worker<'_> {
         let value = match kind {
             Kind::Read => self.look_up(cell),
             Kind::Write => self.store(cell, given),
-            // "Updates gather in a sum per processor", taken from the list.
+            // "Updates gather in a sum per processor", or another partial result, taken from the list.
             Kind::Update => given,
         };
         let access = Access {
@@ -223,8 +223,9 @@ impl Memory for Worker<'_> {
         self.access(Kind::Write, cell, value).map(|_| ())
     }
 
-    fn update(&mut self, cell: usize, amount: i32) -> Result<(), Paused> {
-        self.access(Kind::Update, cell, amount).map(|_| ())
+    fn update(&mut self, cell: usize, operation: Operation, operand: i32) -> Result<(), Paused> {
+        assert_eq!(self.classes[cell], Class::Reduction(operation));
+        self.access(Kind::Update, cell, operand).map(|_| ())
     }
 }
 

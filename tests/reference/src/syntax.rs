@@ -7,7 +7,18 @@ pub enum Clause {
     Shared,
     Firstprivate,
     Lastprivate,
-    Reduction,
+    Reduction(Operation),
+}
+
+/// What a `reduction` clause gathers: document 02, Point 6, has `*` and `max` beside `+`.
+#[derive(Debug, Clone, Copy, PartialEq, Eq)]
+pub enum Operation {
+    /// `reduction(+:list)`
+    Sum,
+    /// `reduction(*:list)`
+    Product,
+    /// `reduction(max:list)`
+    Maximum,
 }
 
 /// How the cells of a name are treated, by the clauses it stands in.
@@ -20,7 +31,7 @@ pub enum Class {
     /// Document 02, Point 5: "A name may stand in `firstprivate` and `lastprivate` together."
     CopyIn,
     /// In a `reduction` clause.
-    Reduction,
+    Reduction(Operation),
 }
 
 /// What the test takes as one iteration.
@@ -120,14 +131,38 @@ pub struct Assignment<N> {
     pub update: Option<Update<N>>,
 }
 
-/// "whose right side begins with the same reference, token for token [...], followed by +"; document
-/// 02, Point 1: "the same reference followed by - is now an update too".
+/// What an assignment does to its cell if it is an update.
 #[derive(Debug, Clone, PartialEq, Eq)]
 pub struct Update<N> {
-    /// The sign that follows the reference.
-    pub sign: Joint,
-    /// "the remainder of the line"; Point 1: "with the minus applied to its first term".
-    pub added: Expression<N>,
+    /// The words that it has.
+    pub words: Words,
+    /// What is added, multiplied by or compared with: "the remainder of the line", by Point 1 "with the minus
+    /// applied to its first term"; of a maximum the second argument.
+    pub operand: Expression<N>,
+}
+
+/// The words of an update's right side, of which each operation has its own.
+#[derive(Debug, Clone, Copy, PartialEq, Eq)]
+pub enum Words {
+    /// `x + e`: "begins with the same reference, token for token [...], followed by +"
+    Plus,
+    /// `x - e`: Point 1: "the same reference followed by - is now an update too".
+    Minus,
+    /// `x * e`: Point 6: "Product updates are `x = x * e`".
+    Times,
+    /// `max(x, e)`: Point 6: "Maximum updates are `x = max(x, e)`."
+    Max,
+}
+
+impl Words {
+    /// The clause whose names they update: Point 6: "Each name has the update of its own clause only."
+    pub fn operation(self) -> Operation {
+        match self {
+            Words::Plus | Words::Minus => Operation::Sum,
+            Words::Times => Operation::Product,
+            Words::Max => Operation::Maximum,
+        }
+    }
 }
 
 /// `left rel right`
@@ -180,12 +215,14 @@ pub enum Scaling {
     Over,
 }
 
-/// "A factor is a literal, v, a cell, `rdiv(e, e)`, or an expression in brackets."
+/// "A factor is a literal, v, a cell, `rdiv(e, e)`, or an expression in brackets." Document 02, Point 6:
+/// "`max(e, e)` also becomes a factor".
 #[derive(Debug, Clone, PartialEq, Eq)]
 pub enum Factor<N> {
     Literal(u64),
     Named(Named<N>),
     Rdiv(Box<Expression<N>>, Box<Expression<N>>),
+    Max(Box<Expression<N>>, Box<Expression<N>>),
     Brackets(Box<Expression<N>>),
 }
 

@@ -5,7 +5,7 @@ use crate::groups::group_of;
 use crate::marks::marks;
 use crate::obstacles::has_obstacle;
 use crate::steps::{share, Processor, Speculation};
-use crate::syntax::Class;
+use crate::syntax::{Class, Operation};
 
 /// What speculation leaves.
 #[derive(Debug, Clone, PartialEq, Eq)]
@@ -15,8 +15,9 @@ pub struct Trial {
     /// For each processor and cell, the highest of its iterations that wrote the cell privately, by
     /// index, and the last value that iteration wrote (READING 76).
     pub private: Vec<Vec<Option<(u32, i32)>>>,
-    /// For each processor and cell, the sum of its updates, from 0 (READING 75).
-    pub sums: Vec<Vec<i32>>,
+    /// For each processor and cell of a `reduction` name, the operation and its partial result: all its
+    /// updates, from the neutral number on (READING 75; P6.7).
+    pub partial: Vec<Vec<Option<(Operation, i32)>>>,
     /// The marks of each cell.
     pub marks: Vec<u32>,
     /// The record of each processor.
@@ -40,7 +41,7 @@ impl Trial {
         let visited: Vec<_> = lists.iter().map(|list| visits(list, group)).collect();
         Trial {
             private: each_processor(&speculation, &lists, private_value),
-            sums: each_processor(&speculation, &lists, |_, accesses| sum_of_updates(accesses)),
+            partial: each_processor(&speculation, &lists, partial_result),
             marks: visited.iter().map(|visits| marks(visits)).collect(),
             pairs,
             cells,
@@ -62,7 +63,7 @@ impl Trial {
     }
 
     /// The cells of a passed run: "a privately written cell takes the value of the highest iteration
-    /// that wrote it, updates are added" (READING 86).
+    /// that wrote it, updates are added" (READING 86), or multiplied, or the greatest is taken (P6.7).
     pub fn merged(&self) -> Vec<i32> {
         (0..self.shared.len())
             .map(|cell| {
@@ -70,8 +71,10 @@ impl Trial {
                 let value = written
                     .max_by_key(|&(iteration, _)| iteration)
                     .map_or(self.shared[cell], |(_, value)| value);
-                let sums = self.sums.iter().map(|sums| sums[cell]);
-                sums.fold(value, i32::wrapping_add)
+                let partial = self.partial.iter().filter_map(|partial| partial[cell]);
+                partial.fold(value, |value, (operation, result)| {
+                    operation.of(value, result)
+                })
             })
             .collect()
     }
@@ -112,9 +115,14 @@ fn private_value(class: Class, accesses: &[Access]) -> Option<(u32, i32)> {
         .map(|access| (access.iteration, access.value))
 }
 
-fn sum_of_updates(accesses: &[Access]) -> i32 {
-    accesses
-        .iter()
-        .filter(|access| access.kind == Kind::Update)
-        .fold(0, |sum, access| sum.wrapping_add(access.value))
+/// "Partial results start at 1 and −2147483648", sums at 0.
+fn partial_result(class: Class, accesses: &[Access]) -> Option<(Operation, i32)> {
+    let Class::Reduction(operation) = class else {
+        return None;
+    };
+    let updates = accesses.iter().filter(|access| access.kind == Kind::Update);
+    let result = updates.fold(operation.neutral(), |result, access| {
+        operation.of(result, access.value)
+    });
+    Some((operation, result))
 }

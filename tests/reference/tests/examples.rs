@@ -1,6 +1,9 @@
 //! Document 01's examples as it words them, and the trial's parts by hand.
 
-use reference::{check, load, look, run, serial, trial, workspace_needed, Answer, Kind, Refusal};
+use reference::syntax::Operation::{self, Maximum, Product, Sum};
+use reference::{
+    check, load, look, run, serial, trial, workspace_needed, Answer, Kind, Refusal, Trial,
+};
 
 const ENOUGH: usize = 100_000;
 
@@ -110,6 +113,11 @@ fn the_empty_text_and_the_longest() {
     assert_eq!(check(padded(2049).as_bytes()), refusal(1, 0));
 }
 
+/// The partial result of each processor for a cell.
+fn partial_results(trial: &Trial, cell: usize) -> Vec<Option<(Operation, i32)>> {
+    trial.partial.iter().map(|partial| partial[cell]).collect()
+}
+
 /// Three processors, two iterations each: private values, sums, marks, records and counts.
 #[test]
 fn what_a_trial_leaves() {
@@ -121,14 +129,62 @@ fn what_a_trial_leaves() {
     assert_eq!(tried.shared, [7, 100, 10, 20, 30, 40, 50, 60]);
     let of_z: Vec<_> = tried.private.iter().map(|private| private[0]).collect();
     assert_eq!(of_z, [Some((1, 20)), Some((3, 40)), Some((5, 60))]);
-    let of_s: Vec<_> = tried.sums.iter().map(|sums| sums[1]).collect();
-    assert_eq!(of_s, [3, 7, 11]);
+    assert_eq!(
+        partial_results(&tried, 1),
+        [(Sum, 3), (Sum, 7), (Sum, 11)].map(Some)
+    );
+    assert_eq!(partial_results(&tried, 0), [None; 3]);
     assert_eq!(tried.marks, [1, 8, 1, 1, 1, 1, 1, 1]);
     assert_eq!(tried.obstacles, [false; 8]);
     assert_eq!((tried.pairs, tried.cells), (18, 8));
     let stands: Vec<_> = tried.processors.iter().map(|p| p.iteration).collect();
     assert_eq!(stands, [2, 4, 6]);
     assert_eq!(tried.merged(), [60, 121, 10, 20, 30, 40, 50, 60]);
+}
+
+/// Document 02, Point 6: "Partial results start at 1 and −2147483648", sums at 0; each processor has its own, and
+/// the merge takes in all of them. Processor 0 has iterations 1 and 2, processor 1 has 3 and 4, processor 2 has
+/// 5 and 6 and updates nothing.
+#[test]
+fn what_a_trial_with_three_operations_leaves() {
+    let body = "if (i < 5) then\ns = s - i\np = p * (-i)\nm = max(m, -i)\nend if";
+    let clauses = "num_threads(3) reduction(max:m) reduction(*:p, q) reduction(+:s)";
+    let text = text("s, p, m, q", clauses, "1, 6", body);
+    let lent = [100, 5, -9, 7];
+    for schedule in [vec![], vec![2, 1, 0, 1, 1, 0, 1], vec![1; 40]] {
+        let tried = trial(text.as_bytes(), &lent, ENOUGH, &schedule).unwrap();
+        let of = |cell| partial_results(&tried, cell);
+        assert_eq!(of(0), [(Sum, -3), (Sum, -7), (Sum, 0)].map(Some));
+        let products = [(Product, 2), (Product, 12), (Product, 1)];
+        assert_eq!(of(1), products.map(Some));
+        let maxima = [(Maximum, -1), (Maximum, -3), (Maximum, i32::MIN)];
+        assert_eq!(of(2), maxima.map(Some));
+        assert_eq!(of(3), [(Product, 1); 3].map(Some));
+        // Nothing of it is in place before the merge.
+        assert_eq!(tried.shared, lent);
+        assert_eq!(tried.private, [[None; 4]; 3]);
+        assert_eq!(tried.marks, [8, 8, 8, 0]);
+        assert_eq!(tried.obstacles, [false; 4]);
+        assert_eq!((tried.pairs, tried.cells), (12, 3));
+        assert_eq!(tried.merged(), [90, 120, -1, 7]);
+    }
+}
+
+/// A product that wraps in a partial result and one that wraps in the merge alone.
+#[test]
+fn products_wrap() {
+    let clauses = "num_threads(2) reduction(*:p, q)";
+    let text = text("p, q", clauses, "1, 4", "p = p * 65537\nq = q * 256");
+    let mut cells = [3, 1];
+    let tried = trial(text.as_bytes(), &cells, ENOUGH, &[]).unwrap();
+    // 65537 × 65537 is 2^32 + 131073.
+    let results = [(Product, 131_073); 2].map(Some);
+    assert_eq!(partial_results(&tried, 0), results);
+    let results = [(Product, 65_536); 2].map(Some);
+    assert_eq!(partial_results(&tried, 1), results);
+    // 131073 × 131073 is 2^34 + 262145.
+    assert_eq!(run_on(&text, &mut cells), passed(8, 2));
+    assert_eq!(cells, [786_435, 0]);
 }
 
 /// A processor that a fault stopped counts with the accesses it made.
@@ -164,8 +220,7 @@ fn what_a_trial_by_blocks_leaves() {
     assert_eq!(tried.shared, [7, 100, 10]);
     let of_z: Vec<_> = tried.private.iter().map(|private| private[0]).collect();
     assert_eq!(of_z, [Some((1, 10)), Some((4, 19))]);
-    let of_s: Vec<_> = tried.sums.iter().map(|sums| sums[1]).collect();
-    assert_eq!(of_s, [18, 43]);
+    assert_eq!(partial_results(&tried, 1), [(Sum, 18), (Sum, 43)].map(Some));
     assert_eq!(tried.marks, [5, 8, 1]);
     // Each of two blocks reads z before writing it and writes a(1); s is only updated.
     assert_eq!(tried.obstacles, [true, false, true]);

@@ -5,9 +5,10 @@ use std::process::{Command, Stdio};
 
 use generate::copies::copies;
 use generate::hostile::hostile;
+use generate::reductions::reductions;
 use generate::tables::runs;
-use generate::{lend, Knobs, Loop, Rng};
-use reference::{fortran, serial};
+use generate::{lend, Knobs, Loop, Operation, Rng};
+use reference::{fortran, fortran_of_all, serial, Threads};
 
 fn has_gfortran() -> bool {
     let mut command = Command::new("gfortran");
@@ -23,25 +24,30 @@ fn folder(name: &str) -> PathBuf {
 }
 
 /// What the compiled program prints, or the status it fails with.
-fn compile_and_run(source: &str, folder: &Path) -> Result<Vec<i32>, i32> {
+fn compile_and_run(source: &str, options: &[&str], folder: &Path) -> Result<String, i32> {
     let (file, program) = (folder.join("loop.f90"), folder.join("loop"));
     std::fs::write(&file, source).expect("a written source");
     let compiled = Command::new("gfortran")
+        .args(options)
         .args(["-fwrapv", "-fcheck=bounds", "-w", "-o"])
         .args([&program, &file])
         .output()
         .expect("gfortran");
     let complaint = String::from_utf8_lossy(&compiled.stderr);
     assert!(compiled.status.success(), "{complaint}\n{source}");
-    let ran = Command::new(&program).output().expect("the program");
+    let ran = Command::new(&program)
+        .env("OMP_WAIT_POLICY", "passive")
+        .output()
+        .expect("the program");
     if !ran.status.success() {
         return Err(ran.status.code().expect("a status"));
     }
-    let printed = String::from_utf8(ran.stdout).expect("text");
-    Ok(printed
-        .lines()
-        .map(|line| line.parse().expect("a value"))
-        .collect())
+    Ok(String::from_utf8(ran.stdout).expect("text"))
+}
+
+fn values(printed: &str) -> Vec<i32> {
+    let lines = printed.lines();
+    lines.map(|line| line.parse().expect("a value")).collect()
 }
 
 /// Compares one loop; false if Fortran has no such loop.
@@ -50,7 +56,7 @@ fn compare(text: &[u8], cells: &[i32], folder: &Path) -> bool {
         return false;
     };
     let ran = serial(text, cells).expect("a good text");
-    let printed = compile_and_run(&source, folder);
+    let printed = compile_and_run(&source, &[], folder).map(|printed| values(&printed));
     match ran.outcome {
         Ok(()) => assert_eq!(printed, Ok(ran.cells_after), "{source}"),
         // Which of two faults in one statement comes first is not settled in Fortran.
@@ -99,6 +105,7 @@ fn compare_random(seeds: std::ops::Range<u64>, folder: &Path) -> usize {
         let drawn = match rng.below(10) {
             0 | 1 => hostile(&mut rng),
             2 | 3 => copies(&mut rng),
+            4 | 5 => reductions(&mut rng),
             _ => {
                 let knobs = Knobs::mixed(&mut rng);
                 Loop::random(&mut rng, &knobs)
@@ -119,6 +126,41 @@ fn some_random_loops_run_as_in_fortran() {
     if has_gfortran() {
         assert!(compare_random(0..20, &folder("some")) >= 15);
     }
+}
+
+/// Loops whose directive means the same in Fortran, run by it in threads: sums, products and maxima are
+/// gfortran's own reductions.
+#[test]
+fn reductions_are_fortrans() {
+    if !has_gfortran() {
+        return;
+    }
+    let drawn: Vec<Loop> = (0..400)
+        .map(|seed| reductions(&mut Rng::new(seed)))
+        .filter(|drawn| {
+            let text = drawn.text();
+            fortran_of_all(&[(&text, &drawn.cells)], Threads::Many).is_some()
+        })
+        .collect();
+    let texts: Vec<Vec<u8>> = drawn.iter().map(Loop::text).collect();
+    let loops: Vec<(&[u8], &[i32])> = texts
+        .iter()
+        .zip(&drawn)
+        .map(|(text, drawn)| (&text[..], &drawn.cells[..]))
+        .collect();
+    let source = fortran_of_all(&loops, Threads::Many).expect("loops that Fortran has");
+    let printed = compile_and_run(&source, &["-fopenmp"], &folder("threads"));
+    let printed = printed.expect("no fault");
+    let mut printed = printed.split("loop\n").skip(1);
+    for (text, cells) in &loops {
+        let after = serial(text, cells).expect("a good text").cells_after;
+        let printed = values(printed.next().expect("a loop"));
+        assert_eq!(printed, after, "{}", String::from_utf8_lossy(text));
+    }
+    let count = |operation| drawn.iter().filter(|drawn| drawn.has(operation)).count();
+    let counts = Operation::ALL.map(count);
+    println!("loops with sums, products and maxima: {counts:?}");
+    assert!(counts.iter().all(|&loops| loops > 30));
 }
 
 /// Some minutes; run with `-- --ignored`.
@@ -160,4 +202,37 @@ fn what_fortran_has_no_loop_for() {
     assert_eq!(fortran(b"", &[]), None);
     assert!(fortran(text("i", "1, 2").as_bytes(), &[0]).is_some());
     assert!(fortran(text("i", "2147483647, 1").as_bytes(), &[0]).is_some());
+}
+
+/// Directives that mean something else in Fortran, where each thread has a partial result of its own in place
+/// of the cell, and blocks that are not ours.
+#[test]
+fn what_fortran_has_no_directive_for() {
+    let has = |clauses: &str, body: &str| {
+        let text = format!(
+            "integer x, a(4)\n!$omp parallel do num_threads(2) {clauses}\ndo i = 1, 4\n{body}\nend do\n"
+        );
+        fortran_of_all(&[(text.as_bytes(), &[1; 5])], Threads::Many).is_some()
+    };
+    for (clauses, body) in [
+        ("reduction(+:x)", "x = x - a(i)"),
+        ("reduction(*:x) shared(a)", "x = x*a(i)"),
+        ("reduction(max:x) schedule(static)", "x = max(x, a(i))"),
+        ("", "a(i) = i"),
+    ] {
+        assert!(has(clauses, body), "{clauses} {body}");
+    }
+    for (clauses, body) in [
+        ("reduction(*:x)", "x = i"),
+        ("reduction(max:x)", "a(i) = x"),
+        ("reduction(*:x)", "x = x*a(i)*x"),
+        ("reduction(*:x)", "x = x + a(i)"),
+        ("lastprivate(x)", "x = i"),
+        ("firstprivate(x) lastprivate(x)", "x = i"),
+        ("", "x = i"),
+        ("schedule(static)", "a(max(1, i - 1)) = i"),
+        ("reduction(*:x)", "x = x*(1/(i - 2))"),
+    ] {
+        assert!(!has(clauses, body), "{clauses} {body}");
+    }
 }

@@ -4,10 +4,11 @@ use generate::copies::copies;
 use generate::damage::damage;
 use generate::hostile::hostile;
 use generate::neighbours::neighbours;
-use generate::{lend, noise, Copied, Knobs, Loop, Rng};
-use reference::syntax::Class;
+use generate::reductions::reductions;
+use generate::{lend, noise, Copied, Knobs, Loop, Rng, Turned};
+use reference::syntax::{Class, Operation, Words};
 use reference::{
-    check, load, look, lrpd, read, run, serial, serial_before_minus_updates, share, stepped, trial,
+    check, load, look, lrpd, read, run, run_serially, serial, share, stepped, trial,
     workspace_needed, Answer, Kind, Refusal, Serial, Speculation, Trial,
 };
 
@@ -16,10 +17,11 @@ const LOOPS: u64 = 4000;
 /// A loop and cells to lend for a seed: mostly those of its data, sometimes anything.
 fn draw(seed: u64) -> (Loop, Vec<i32>, Rng) {
     let mut rng = Rng::new(seed);
-    let drawn = match rng.below(20) {
+    let drawn = match rng.below(22) {
         0..=4 => hostile(&mut rng),
         5..=7 => neighbours(&mut rng),
         8..=10 => copies(&mut rng),
+        11..=13 => reductions(&mut rng),
         _ => {
             let knobs = Knobs::mixed(&mut rng);
             Loop::random(&mut rng, &knobs)
@@ -235,15 +237,15 @@ fn the_record_of_a_cell_tells_its_obstacle() {
     assert!(met[0] > 5000 && met[1] > 400);
 }
 
-/// Document 02, Point 1: "their cells are the serial run's as before"; so are counts and faults (P1.8).
-/// A loop that reran may pass, and one that passed may rerun (P1.7).
-#[test]
-fn minus_updates_leave_the_serial_run_as_it_was() {
+/// How often a loop reran without the updates of these words and passes with them, and the other way round.
+/// Nothing else of the serial run differs.
+fn words_without_updates(without: &[Words]) -> [u32; 2] {
     let mut words = [0; 2];
     for (seed, drawn, lent, _) in loops() {
         let text = drawn.text();
-        let now = serial(&text, &lent).unwrap();
-        let before = serial_before_minus_updates(&text, &lent).unwrap();
+        let program = read(&text).unwrap();
+        let now = run_serially(&program, &lent);
+        let before = run_serially(&program.without_updates(without), &lent);
         assert_eq!(
             now.ending(),
             before.ending(),
@@ -253,8 +255,138 @@ fn minus_updates_leave_the_serial_run_as_it_was() {
         words[0] += u32::from(now.passes() && !before.passes());
         words[1] += u32::from(!now.passes() && before.passes());
     }
-    println!("rerun before and passed now, passed before and rerun now: {words:?}");
+    println!("{without:?}: rerun before and passed now, passed before and rerun now: {words:?}");
+    words
+}
+
+/// Document 02, Point 1: "their cells are the serial run's as before"; so are counts and faults (P1.8).
+/// A loop that reran may pass, and one that passed may rerun (P1.7).
+#[test]
+fn minus_updates_leave_the_serial_run_as_it_was() {
+    let words = words_without_updates(&[Words::Minus]);
     assert!(words[0] > 100 && words[1] > 10);
+}
+
+/// The same of document 02, Point 6.
+#[test]
+fn product_and_maximum_updates_leave_the_serial_run_as_it_was() {
+    for new in [Words::Times, Words::Max] {
+        let words = words_without_updates(&[new]);
+        assert!(words[0] > 100 && words[1] > 10);
+    }
+}
+
+/// Document 02, Point 6: "Each name has the update of its own clause only." With the operations of its clauses
+/// exchanged a loop has the same fault, cells and counts; only the word may be another.
+#[test]
+fn operations_change_the_word_alone() {
+    let mut words = [0; 2];
+    for (seed, drawn, lent, _) in loops() {
+        let texts = [Turned::AsDrawn, Turned::Once, Turned::Twice]
+            .map(|turned| drawn.with_turned(turned).text());
+        // Too long with other operations: nothing to compare.
+        if texts.iter().any(|text| text.len() > 2048) {
+            continue;
+        }
+        let [drawn, once, twice] = texts.map(|text| serial(&text, &lent).unwrap());
+        for turned in [&once, &twice] {
+            assert_eq!(turned.ending(), drawn.ending(), "seed {seed}");
+        }
+        let by_others = once.passes() || twice.passes();
+        words[0] += u32::from(drawn.passes() && !by_others);
+        words[1] += u32::from(!drawn.passes() && by_others);
+    }
+    println!("passed by their own operations alone, by others alone: {words:?}");
+    assert!(words[0] > 350 && words[1] > 50);
+}
+
+/// Document 02, Point 6: "The merge of partial results is shown for any operation that is commutative,
+/// associative and has a neutral number". Each processor's result is gathered from its accesses in the order of
+/// the schedule, and in a passed run all of them, merged in any order, give the serial run's cell.
+#[test]
+fn partial_results_merge_in_any_order() {
+    let mut merged = [0; 3];
+    let mut telling = [0; 3];
+    for (seed, drawn, lent, mut rng) in loops() {
+        let text = drawn.text();
+        let program = read(&text).unwrap();
+        let schedule = lend::schedule(&mut rng, drawn.processors);
+        let trial = trial(&text, &lent, usize::MAX, &schedule).unwrap();
+        let cells_after = serial(&text, &lent).unwrap().cells_after;
+        for (cell, class) in program.cell_classes().into_iter().enumerate() {
+            let partial: Vec<_> = trial.partial.iter().map(|partial| partial[cell]).collect();
+            let Class::Reduction(operation) = class else {
+                assert!(partial.iter().all(Option::is_none));
+                continue;
+            };
+            let (combine, neutral): (fn(i32, i32) -> i32, i32) = match operation {
+                Operation::Sum => (i32::wrapping_add, 0),
+                Operation::Product => (i32::wrapping_mul, 1),
+                Operation::Maximum => (i32::max, -2_147_483_648),
+            };
+            let mut results = vec![neutral; drawn.processors];
+            let updates = trial
+                .accesses
+                .iter()
+                .filter(|access| usize::from(access.cell) == cell && access.kind == Kind::Update);
+            let mut updated = false;
+            for access in updates {
+                let mut shares = (0..drawn.processors)
+                    .map(|p| share(program.iteration_count(), p, program.processors));
+                let by = shares.position(|share| share.contains(&access.iteration));
+                let result = &mut results[by.unwrap()];
+                *result = combine(*result, access.value);
+                updated = true;
+            }
+            let kept: Vec<_> = results
+                .iter()
+                .map(|&result| Some((operation, result)))
+                .collect();
+            assert_eq!(partial, kept, "seed {seed}");
+            if updated && trial.passes() {
+                rng.shuffle(&mut results);
+                let after = results.into_iter().fold(lent[cell], combine);
+                assert_eq!(after, cells_after[cell], "seed {seed}\n{}", show(&text));
+                merged[operation as usize] += 1;
+                telling[operation as usize] += u32::from(![0, lent[cell]].contains(&after));
+            }
+        }
+    }
+    println!("cells merged by sums, products and maxima: {merged:?}; to neither 0 nor what they were: {telling:?}");
+    assert!(merged.iter().all(|&cells| cells > 250));
+    assert!(telling.iter().all(|&cells| cells > 150));
+}
+
+/// The updates of each operation are frequent in loops that pass, rerun and fault, and so are all three in one
+/// loop.
+#[test]
+fn updates_of_each_operation_are_frequent() {
+    let mut ends = [[0; 3]; 4];
+    for (_, drawn, lent, _) in loops() {
+        let text = drawn.text();
+        let classes = read(&text).unwrap().cell_classes();
+        let ran = serial(&text, &lent).unwrap();
+        let end = match ran.outcome {
+            Err(_) => 2,
+            Ok(()) if ran.passes() => 0,
+            Ok(()) => 1,
+        };
+        let updates = |operation| {
+            ran.accesses.iter().any(|access| {
+                access.kind == Kind::Update
+                    && classes[usize::from(access.cell)] == Class::Reduction(operation)
+            })
+        };
+        let found = [Operation::Sum, Operation::Product, Operation::Maximum].map(updates);
+        for (operation, found) in found.into_iter().enumerate() {
+            ends[operation][end] += u32::from(found);
+        }
+        ends[3][end] += u32::from(found == [true; 3]);
+    }
+    println!("sums, products, maxima, all three: passed, rerun, faults: {ends:?}");
+    let often = |&[passed, rerun, faults]: &[u32; 3]| passed > 200 && rerun > 100 && faults > 30;
+    assert!(ends[..3].iter().all(often));
+    assert!(ends[3][0] > 60 && ends[3][1] > 30);
 }
 
 /// The mixture has a good share of each end, and of speculation and serial run at odds.
@@ -395,28 +527,42 @@ fn any_bytes_get_an_answer() {
     assert!(refused.iter().all(|&count| count > 10));
 }
 
-/// Damaged directives with `firstprivate` in them end in every way.
-#[test]
-fn damaged_clauses_end_in_every_way() {
+/// How damaged texts with such a line end: good, or with the number that they are refused at that line with.
+fn ends_of_damaged(wanted: impl Fn(&str) -> bool) -> [u32; 5] {
     let mut ends = [0; 5];
     for seed in 0..20_000u64 {
         let (drawn, _, mut rng) = draw(seed);
         let text = damage(&drawn.text(), &mut rng);
         let shown = show(&text).to_lowercase();
-        let place = shown
-            .lines()
-            .position(|line| line.contains("!$omp parallel do") && line.contains("firstprivate"));
-        let Some(place) = place else {
-            continue;
-        };
+        let has = |number: u32| shown.lines().nth(number as usize - 1).is_some_and(&wanted);
         match check(&text) {
-            Ok(_) => ends[0] += 1,
-            Err(refusal) if refusal.line as usize == place + 1 => {
+            Ok(_) if shown.lines().any(&wanted) => ends[0] += 1,
+            Err(refusal) if refusal.line > 0 && has(refusal.line) => {
                 ends[refusal.number as usize] += 1;
             }
-            Err(_) => {}
+            _ => {}
         }
     }
+    ends
+}
+
+/// Damaged directives with `firstprivate` in them end in every way.
+#[test]
+fn damaged_clauses_end_in_every_way() {
+    let ends =
+        ends_of_damaged(|line| line.contains("!$omp parallel do") && line.contains("firstprivate"));
     println!("directives with firstprivate: good, 1, 2, 3, 4: {ends:?}");
     assert!(ends[0] > 1000 && ends[2] > 500 && ends[3] > 500 && ends[4] > 10);
+}
+
+/// Damaged directives with `reduction` in them, and other lines with `max`, end in every way.
+#[test]
+fn damaged_reductions_end_in_every_way() {
+    let is_directive = |line: &str| line.contains("!$omp");
+    let clauses = ends_of_damaged(|line| is_directive(line) && line.contains("reduction"));
+    println!("directives with reduction: good, 1, 2, 3, 4: {clauses:?}");
+    assert!(clauses[0] > 1000 && clauses[2] > 500 && clauses[3] > 500 && clauses[4] > 10);
+    let maxima = ends_of_damaged(|line| !is_directive(line) && line.contains("max"));
+    println!("other lines with max: good, 1, 2, 3, 4: {maxima:?}");
+    assert!(maxima[0] > 1000 && maxima[2] > 1000 && maxima[3] > 40 && maxima[4] > 2);
 }

@@ -218,5 +218,5 @@ fn the_tables_have_many_rows() {
         arguments::rows().len(),
     );
     println!("texts, loads, runs, looks, prints, arguments: {counts:?}");
-    assert!(counts.0 > 2000 && counts.2 > 500 && counts.3 > 300 && counts.5 > 30);
+    assert!(counts.0 > 2600 && counts.2 > 1100 && counts.3 > 480 && counts.5 > 40);
 }

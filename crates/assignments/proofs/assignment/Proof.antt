@@ -1,11 +1,11 @@
 -- `assignments::assignment` meets its contract.
-use mathlib.Core.Path.{refl, _∙_, subst}
+use mathlib.Core.Path.{refl, _∙_}
 use native.Mathlib.Omega.{arith}
 use Rattle.syntax.specs.Bytes.{bytes}
 use borrow.Author.Needs.{needs}
 use Rattle.lexer.proofs.PlaceLaws.{pass-onward}
 use Rattle.parts.proofs.Spans.{within-done}
-use Rattle.assignments.specs.Assignment.{Past}
+use Rattle.updates.proofs.Resting.{past-done}
 use Rattle.assignments.proofs.Assignments.{assign-unread, assign-unset, assign-stores, assign-updates}
 use Rattle.assignments.proofs.assignment.Statement.{statement}
 use Rattle.assignments.proofs.assignment.Tie as tie
@@ -35,20 +35,21 @@ returns : tie.Need-returns
 returns c =
     let c4 = c .before .before .before .before in
     let c8 = c4 .before .before .before .before in
-    assign-unset _ _ _ _ _ _ _ _ _ _ (c8 .reference .ensures) _ _ _ (c4 .n .given .1) (c .before .pass .ensures) (omega arith) refl
+    assign-unset _ _ _ _ _ _ _ _ _ _ (c8 .reference .ensures) _ _ _ (c4 .n .given .1) (c .before .pass .ensures) (omega (arith, c .if1 .taken)) refl
 
-summand-requires : tie.Need-summand-requires
-summand-requires c κs =
+offer-requires : tie.Need-offer-requires
+offer-requires c κs =
     let c5 = c .before .before .before .before .before in
     let c9 = c5 .before .before .before .before in
     let c15 = c9 .before .before .before .before .before .before in
+    let a = c15 .args in
     let w = within-done _ _ _ _ _ _ _ _ (c9 .reference .ensures .within) (c5 .n .given .1) in
-    let on = pass-onward (c15 .args .s .now) (bytes "=") _ _ (c .before .before .pass .ensures) (omega arith) (w .1) (omega arith) in (
+    let on = pass-onward (a .s .now) (bytes "=") _ _ (c .before .before .pass .ensures) (omega arith) (w .1) (omega (arith, c .before .if1 .left)) in (
       record {
-        inside = omega arith;
+        inside = omega (arith, c .before .if1 .left);
         shallow = omega arith;
         short = c15 .pre .0;
-        room = omega (arith, c15 .pre .2, w .0, w .1, w .2, on, c9 .reference .kept .1 .1 .1 .1 .1 .0);
+        room = omega (arith, c15 .pre .2, w .0, w .1, w .2, on, c9 .reference .kept .1 .1 .1 .1 .1 .1 .0);
       },
       (w .1, c15 .pre .1),
     )
@@ -57,34 +58,23 @@ enum-known-a : tie.Need-enum-known-a
 enum-known-a c = search needs
 
 updating-requires : tie.Need-updating-requires
-unfolding Past
 updating-requires c κs =
     let c6 = c .before .before .before .before .before .before in
-    let c9 = c6 .before .before .before in
+    let c8 = c6 .before .before in
+    let c9 = c8 .before in
     let c12 = c9 .before .before .before in
     let c16 = c12 .before .before .before .before in
     let c19 = c16 .before .before .before in
     let c22 = c19 .before .before .before in
+    let a = c22 .args in
     let w = within-done _ _ _ _ _ _ _ _ (c16 .reference .ensures .within) (c12 .n .given .1) in
-    let on = pass-onward (c22 .args .s .now) (bytes "=") _ _ (c9 .pass .ensures) (omega arith) (w .1) (omega arith) in
-    let pa = subst (Past (c22 .args .s .now) _ _) (c .before .before .a .given .1) (c6 .summand .ensures .past) in (
+    let on = pass-onward (a .s .now) (bytes "=") _ _ (c9 .pass .ensures) (omega arith) (w .1) (omega (arith, c8 .if1 .left)) in
+    let pa = past-done _ _ _ _ _ _ _ (c6 .offer .ensures .past) (c .before .before .a .given .1) in (
       record {
         inside = pa .1;
-        shallow = omega arith;
+        shallow = omega (arith, pa .0);
         short = c22 .pre .0;
-        room = omega (
-          arith,
-          c22 .pre .2,
-          w .0,
-          w .1,
-          w .2,
-          on,
-          pa .0,
-          pa .1,
-          pa .2,
-          c16 .reference .kept .1 .1 .1 .1 .1 .0,
-          c6 .summand .kept .1 .1 .1 .1 .1 .1 .0,
-        );
+        room = omega (arith, c22 .pre .2, w .0, w .1, w .2, on, pa .0, pa .1, pa .2, c16 .reference .kept .1 .1 .1 .1 .1 .1 .0, c6 .offer .kept .1 .1 .1 .1 .1 .0);
       },
       (c22 .pre .1, c19 .target-of .ensures),
     )
@@ -95,18 +85,20 @@ enum-told c = search needs
 storing-requires : tie.Need-storing-requires
 storing-requires c κs =
     let c5 = c .before .before .before .before .before in
-    let c8 = c5 .before .before .before in
+    let c7 = c5 .before .before in
+    let c8 = c7 .before in
     let c11 = c8 .before .before .before in
     let c15 = c11 .before .before .before .before in
     let c18 = c15 .before .before .before in
     let c21 = c18 .before .before .before in
+    let a = c21 .args in
     let w = within-done _ _ _ _ _ _ _ _ (c15 .reference .ensures .within) (c11 .n .given .1) in
-    let on = pass-onward (c21 .args .s .now) (bytes "=") _ _ (c8 .pass .ensures) (omega arith) (w .1) (omega arith) in (
+    let on = pass-onward (a .s .now) (bytes "=") _ _ (c8 .pass .ensures) (omega arith) (w .1) (omega (arith, c7 .if1 .left)) in (
       (
         omega (arith, w .0, on),
-        omega arith,
+        omega (arith, c7 .if1 .left),
         c21 .pre .0,
-        omega (arith, c21 .pre .2, c15 .reference .kept .1 .1 .1 .1 .1 .0, c5 .summand .kept .1 .1 .1 .1 .1 .1 .0),
+        omega (arith, c21 .pre .2, c15 .reference .kept .1 .1 .1 .1 .1 .1 .0, c5 .offer .kept .1 .1 .1 .1 .1 .0),
       ),
       (c21 .pre .1, c18 .target-of .ensures),
     )
@@ -121,16 +113,16 @@ returns-2 : tie.Need-returns-2
 returns-2 c =
     let c5 = c .before .before .before .before .before in
     let c9 = c5 .before .before .before .before in
-    let c12 = c9 .before .before .before in
+    let c11 = c9 .before .before in
+    let c12 = c11 .before in
     let c15 = c12 .before .before .before in
     let c19 = c15 .before .before .before .before in
     let c21 = c19 .before .before in
     let c22 = c21 .before in
     let c25 = c22 .before .before .before in
-    assign-updates _ _ _ _ _ _ _ _ _ _ (c19 .reference .ensures) _ _ _ (c15 .n .given .1) (c12 .pass .ensures) (omega arith) _
-    (c22 .target-of .ensures) (c21 .assigned-rank .ensures) _ _ (c9 .summand .ensures) (c25 .pre .2)
-    (c9 .summand .kept .1 .1 .1 .1 .1 .1 .0 ∙ c19 .reference .kept .1 .1 .1 .1 .1 .0) _ _ _ (c5 .a .given .1)
-    (c .before .before .updating .ensures)
+    assign-updates _ _ _ _ _ _ _ _ _ _ (c19 .reference .ensures) _ _ _ (c15 .n .given .1) (c12 .pass .ensures) (omega (arith, c11 .if1 .left)) _
+    (c22 .target-of .ensures) (c21 .assigned-rank .ensures) _ refl refl refl _ _ (c9 .offer .ensures) (c25 .pre .2)
+    (c9 .offer .kept .1 .1 .1 .1 .1 .0 ∙ c19 .reference .kept .1 .1 .1 .1 .1 .1 .0) _ _ _ (c5 .a .given .1) (c .before .before .updating .ensures)
 
 same-length-3 : tie.Need-same-length-3
 same-length-3 c = search needs
@@ -139,16 +131,16 @@ returns-3 : tie.Need-returns-3
 returns-3 c =
     let c4 = c .before .before .before .before in
     let c8 = c4 .before .before .before .before in
-    let c11 = c8 .before .before .before in
+    let c10 = c8 .before .before in
+    let c11 = c10 .before in
     let c14 = c11 .before .before .before in
     let c18 = c14 .before .before .before .before in
     let c20 = c18 .before .before in
     let c21 = c20 .before in
     let c24 = c21 .before .before .before in
-    assign-stores _ _ _ _ _ _ _ _ _ _ (c18 .reference .ensures) _ _ _ (c14 .n .given .1) (c11 .pass .ensures) (omega arith) _
-    (c21 .target-of .ensures) (c20 .assigned-rank .ensures) _ _ (c8 .summand .ensures) (c24 .pre .2)
-    (c8 .summand .kept .1 .1 .1 .1 .1 .1 .0 ∙ c18 .reference .kept .1 .1 .1 .1 .1 .0) (c4 .enum-told .given .1)
-    (c .before .before .storing .ensures)
+    assign-stores _ _ _ _ _ _ _ _ _ _ (c18 .reference .ensures) _ _ _ (c14 .n .given .1) (c11 .pass .ensures) (omega (arith, c10 .if1 .left)) _
+    (c21 .target-of .ensures) (c20 .assigned-rank .ensures) _ refl refl refl _ _ (c8 .offer .ensures) (c24 .pre .2)
+    (c8 .offer .kept .1 .1 .1 .1 .1 .0 ∙ c18 .reference .kept .1 .1 .1 .1 .1 .1 .0) (c4 .enum-told .given .1) (c .before .before .storing .ensures)
 
 same-length-4 : tie.Need-same-length-4
 same-length-4 c = search needs
@@ -168,7 +160,7 @@ assignment-spec =
     pass-requires
     same-length
     returns
-    summand-requires
+    offer-requires
     enum-known-a
     updating-requires
     enum-told

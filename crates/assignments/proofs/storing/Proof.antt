@@ -40,7 +40,7 @@ then-emit-requires c κs =
     let c16 = c11 .before .before .before .before .before in
     let w = within-done _ _ _ _ _ _ _ _ (c11 .expression .ensures .within) (c7 .n .given .1) in
     room-back _ _ _ _ _ _ _ (c4 .reference .ensures .within) (c .before .back .ensures)
-    (omega (arith, c16 .pre .0, w .1, w .2, c11 .expression .kept .1 .1 .1 .1 .1 .1 .0, c4 .reference .kept .1 .1 .1 .1 .1 .0))
+    (omega (arith, c16 .pre .0, w .1, w .2, c11 .expression .kept .1 .1 .1 .1 .1 .1 .0, c4 .reference .kept .1 .1 .1 .1 .1 .1 .0))
 
 enum-told : tie.Need-enum-told
 enum-told c = search needs

@@ -51,6 +51,12 @@ find-requires c κs =
       ap length (c6 .token .ensures .bytes),
     )
 
+is-reduction-requires : tie.Need-is-reduction-requires
+is-reduction-requires c κs = search needs
+
+operator-of-requires : tie.Need-operator-of-requires
+operator-of-requires c κs = search needs
+
 sub-is-named : tie.Need-sub-is-named
 sub-is-named c = search needs
 
@@ -62,16 +68,17 @@ part-is-named-end c = search needs
 
 is-named-requires : tie.Need-is-named-requires
 is-named-requires c κs =
-    let c4 = c .before .before .before .before in
-    let c5 = c4 .before in
-    let c9 = c5 .before .before .before .before in
-    let c11 = c9 .before .before in (
+    let c5 = c .before .before .before .before .before in
+    let c6 = c5 .before in
+    let c10 = c6 .before .before .before .before in
+    let c12 = c10 .before .before in
+    let a = c12 .args in (
       omega arith,
       omega (
         arith,
-        name-short (drop 0 (c11 .args .s .now))
-            (c9 .token .ensures .kinds ∙ eqb-true _ 1 (sym (c5 .same-kind .ensures) ∙ not-false _ (c4 .if1 .left))),
-        ap length (c9 .token .ensures .bytes),
+        name-short (drop 0 (a .s .now))
+            (c10 .token .ensures .kinds ∙ eqb-true _ 1 (sym (c6 .same-kind .ensures) ∙ not-false _ (c5 .if1 .left))),
+        ap length (c10 .token .ensures .bytes),
       ),
     )
 
@@ -80,12 +87,15 @@ operand-of-requires c κs = search needs
 
 returns-2 : tie.Need-returns-2
 returns-2 c =
-    let c4 = c .before .before .before .before in
-    let c8 = c4 .before .before .before .before in
-    let c10 = c8 .before .before in
-    let c11 = c10 .before in
-    targets-some _ _ (c11 .token .ensures) (c10 .token2 .ensures) (c8 .reads .ensures) (c4 .find .result) _ _ (c4 .find .ensures .1)
-    (c .before .is-named .ensures) (c .operand-of .ensures)
+    let c3 = c .before .before .before in
+    let c4 = c3 .before in
+    let c5 = c4 .before in
+    let c9 = c5 .before .before .before .before in
+    let c11 = c9 .before .before in
+    let c12 = c11 .before in
+    targets-some _ _ (c12 .token .ensures) (c11 .token2 .ensures) (c9 .reads .ensures) (c5 .find .result) _ _ _ _ (c5 .find .ensures .1)
+    (c4 .is-reduction .ensures)
+    (c3 .operator-of .ensures) (c .before .is-named .ensures) (c .operand-of .ensures)
 
 pub target-of-spec : {M : Type 1} → statement M
 target-of-spec =
@@ -101,6 +111,8 @@ target-of-spec =
     part-find-start
     part-find-end
     find-requires
+    is-reduction-requires
+    operator-of-requires
     sub-is-named
     part-is-named-start
     part-is-named-end

@@ -11,15 +11,16 @@ test-requires c κs = search needs
 operation-requires : tie.Need-operation-requires
 operation-requires c κs = search needs
 
-expression-requires : tie.Need-expression-requires
-expression-requires c κs =
+remainder-requires : tie.Need-remainder-requires
+remainder-requires c κs =
     let c4 = c .before .before .before .before in
-    let c8 = c4 .before .before .before .before in (
+    let c8 = c4 .before .before .before .before in
+    let r = c8 .pre .0 in (
       record {
-        inside = c8 .pre .0 .inside;
-        shallow = omega arith;
-        short = c8 .pre .0 .short;
-        room = omega (arith, c8 .pre .0 .room, c4 .test .ensures .next, test-few (c8 .args .target .subscripted), c4 .test .kept .0);
+        inside = r .inside;
+        shallow = r .shallow;
+        short = r .short;
+        room = omega (arith, r .room, c4 .test .ensures .next, test-few (c8 .args .target .subscripted), c4 .test .kept .0);
       },
       c8 .pre .1 .0,
     )
@@ -29,14 +30,14 @@ then-emit-requires c κs =
     let c3 = c .before .before .before in
     let c8 = c3 .before .before .before .before .before in
     let c12 = c8 .before .before .before .before in
-    room-after _ _ _ _ _ _ (c3 .expression .ensures .within) (c12 .pre .0 .inside)
+    room-after _ _ _ _ _ _ (c3 .remainder .ensures .within) (c12 .pre .0 .inside)
     (omega (
       arith,
       c12 .pre .0 .room,
       c8 .test .ensures .next,
       test-few (c12 .args .target .subscripted),
       c8 .test .kept .0,
-      c3 .expression .kept .1 .1 .1 .1 .1 .1 .0,
+      c3 .remainder .kept .1 .1 .1 .1 .1 .1 .0,
     ))
 
 same-length : tie.Need-same-length
@@ -48,7 +49,7 @@ returns c =
     let c8 = c6 .before .before in
     let c11 = c8 .before .before .before in
     let c15 = c11 .before .before .before .before in
-    updates-answers _ _ _ _ _ _ _ _ _ _ _ _ _ _ (c15 .pre .1 .1) _ (c8 .operation .ensures) (c11 .test .ensures) (c6 .expression .ensures)
+    updates-answers _ _ _ _ _ _ _ _ _ _ _ _ _ _ _ (c15 .pre .1 .1) _ (c8 .operation .ensures) (c11 .test .ensures) (c6 .remainder .ensures)
     (c .before .before .then-emit .ensures)
 
 pub updating-spec : {M : Type 1} → statement M
@@ -57,7 +58,7 @@ updating-spec =
     (tie.spec
     test-requires
     operation-requires
-    expression-requires
+    remainder-requires
     then-emit-requires
     same-length
     returns)

@@ -39,19 +39,26 @@ class-of-requires c κs = search needs
 
 classify-requires : tie.Need-classify-requires
 classify-requires c κs =
-    let n = c .before .before .before .before .before .find in
-    let (t, tab) = c .before .before .before .before .before .before .before .before .pre .1 in
-    let there = n .ensures .2 t tab (not-false (n .result .known) (c .before .before .before .if1 .left)) in
+    let c3 = c .before .before .before in
+    let c5 = c3 .before .before in
+    let c8 = c5 .before .before .before in
+    let n = c5 .find in
+    let (t, tab) = c8 .pre .1 in
+    let there = n .ensures .2 t tab (not-false (n .result .known) (c3 .if1 .left)) in
     (omega (arith, there .within, tab .few), c .class-of .ensures .1)
 
 returns-3 : tie.Need-returns-3
 returns-3 c =
-    let n = c .before .before .before .before .before .before .find in
-    let known = not-false (n .result .known) (c .before .before .before .before .if1 .left) in
-    let start = c .before .before .before .before .before .before .before .before .before in
+    let c3 = c .before .before .before in
+    let c4 = c3 .before in
+    let c6 = c4 .before .before in
+    let c9 = c6 .before .before .before in
+    let n = c6 .find in
+    let known = not-false (n .result .known) (c4 .if1 .left) in
+    let start = c9 in
     let (t, tab) = start .pre .1 in
     let done = c .classify .ensures in (
-      claims-free _ _ _ (n .result) (n .ensures .1) (n .ensures .2) _ known (c .before .before .before .if2 .left) _ (c .before .class-of .ensures .0) _ done,
+      claims-free _ _ _ (n .result) (n .ensures .1) (n .ensures .2) _ known (c3 .if2 .left) _ (c .before .class-of .ensures .0) _ done,
       (variable-keeps _ _ (done .variable), (_, done .table t (class-by (start .args .kind)) (c .before .class-of .ensures .0) tab (n .ensures .2 t tab known .within))),
     )
 

@@ -63,11 +63,13 @@ claims-returns : (t : ℕ) → claims-lts.Need-returns (
   claims-below t,
   claims.Post,
 ) (claims-at t) claims.Post
-claims-returns t c = (
-  claims-last (c .before .before .before .before .before .before .args .deed) _ _ _ _ _ (c .before .before .before .claim-at .result)
-      (c .before .before .before .claim-at .ensures .0) _ (c .before .pass .ensures) (c .if1 .taken),
-  c .before .before .before .claim-at .ensures .1,
-)
+claims-returns t c =
+    let c3 = c .before .before .before in
+    let c6 = c3 .before .before .before in (
+      claims-last (c6 .args .deed) _ _ _ _ _ (c3 .claim-at .result)
+          (c3 .claim-at .ensures .0) _ (c .before .pass .ensures) (c .if1 .taken),
+      c3 .claim-at .ensures .1,
+    )
 
 claims-claims-requires : (t : ℕ) → claims-lts.Need-claims-requires (
   claim-at-reads.Asked,
@@ -77,13 +79,15 @@ claims-claims-requires : (t : ℕ) → claims-lts.Need-claims-requires (
   claims-below t,
   claims.Post,
 ) (claims-at t) claims.Post
-claims-claims-requires t c κs = (
-  claims-onward (c .before .before .before .before .before .before .before .args .deed) _ _ _ _ _
-      (c .before .before .before .before .claim-at .result) (c .before .before .before .before .claim-at .ensures .0) _
-      (c .before .before .pass .ensures) (c .before .before .before .before .before .before .before .pre .1 .1)
-      (c .before .before .before .before .before .before .before .pre .0) (omega arith),
-  (c .before .before .before .before .before .before .before .pre .1 .0, c .before .before .before .before .claim-at .ensures .1 .1),
-)
+claims-claims-requires t c κs =
+    let c4 = c .before .before .before .before in
+    let c7 = c4 .before .before .before in (
+      claims-onward (c7 .args .deed) _ _ _ _ _
+          (c4 .claim-at .result) (c4 .claim-at .ensures .0) _
+          (c .before .before .pass .ensures) (c7 .pre .1 .1)
+          (c7 .pre .0) (omega arith),
+      (c7 .pre .1 .0, c4 .claim-at .ensures .1 .1),
+    )
 
 claims-returns-2 : (t : ℕ) → claims-lts.Need-returns-2 (
   claim-at-reads.Asked,
@@ -93,12 +97,15 @@ claims-returns-2 : (t : ℕ) → claims-lts.Need-returns-2 (
   claims-below t,
   claims.Post,
 ) (claims-at t) claims.Post
-claims-returns-2 t c = (
-  claims-more (c .before .before .before .before .before .before .before .before .args .deed) _ _ _ _ _
-      (c .before .before .before .before .before .claim-at .result) (c .before .before .before .before .before .claim-at .ensures .0) _
-      (c .before .before .before .pass .ensures) (omega arith) _ _ (c .claims .ensures .0),
-  (keeps-on _ _ _ (c .before .before .before .before .before .claim-at .ensures .1 .0) (c .claims .ensures .1 .0), c .claims .ensures .1 .1),
-)
+claims-returns-2 t c =
+    let c3 = c .before .before .before in
+    let c5 = c3 .before .before in
+    let c8 = c5 .before .before .before in (
+      claims-more (c8 .args .deed) _ _ _ _ _
+          (c5 .claim-at .result) (c5 .claim-at .ensures .0) _
+          (c3 .pass .ensures) (omega arith) _ _ (c .claims .ensures .0),
+      (keeps-on _ _ _ (c5 .claim-at .ensures .1 .0) (c .claims .ensures .1 .0), c .claims .ensures .1 .1),
+    )
 
 pub +claims-spec : {M : Type 1} → statement M
 +claims-spec = close μ-claims λ t. claims-lts.spec (

@@ -63,10 +63,11 @@ clauses-returns-2 : (t : ℕ) → clauses-lts.Need-returns-2 (
   clauses-below t,
   clauses.Post,
 ) (clauses-at t) clauses.Post
-clauses-returns-2 t c = (
-  clauses-done _ _ (c .before .before .before .before .args .before) _ (omega arith) (sym (c .before .is-end .ensures) ∙ c .if2 .taken),
-  (λ h. (h, refl), c .before .before .before .before .pre .1 .1),
-)
+clauses-returns-2 t c =
+    let c4 = c .before .before .before .before in (
+      clauses-done _ _ (c4 .args .before) _ (omega arith) (sym (c .before .is-end .ensures) ∙ c .if2 .taken),
+      (λ h. (h, refl), c4 .pre .1 .1),
+    )
 
 clauses-clause-at-requires : (t : ℕ) → clauses-lts.Need-clause-at-requires (
   is-end-reads.Asked,
@@ -76,7 +77,9 @@ clauses-clause-at-requires : (t : ℕ) → clauses-lts.Need-clause-at-requires (
   clauses-below t,
   clauses.Post,
 ) (clauses-at t) clauses.Post
-clauses-clause-at-requires t c κs = c .before .before .before .before .before .pre .1
+clauses-clause-at-requires t c κs =
+    let c5 = c .before .before .before .before .before in
+    c5 .pre .1
 
 clauses-returns-3 : (t : ℕ) → clauses-lts.Need-returns-3 (
   is-end-reads.Asked,
@@ -87,9 +90,12 @@ clauses-returns-3 : (t : ℕ) → clauses-lts.Need-returns-3 (
   clauses.Post,
 ) (clauses-at t) clauses.Post
 clauses-returns-3 t c =
+    let c4 = c .before .before .before .before in
+    let c5 = c4 .before in
+    let c8 = c5 .before .before .before in
     let one = c .before .before .clause-at in (
-      clauses-broken _ _ (c .before .before .before .before .before .before .before .before .args .before) _ _ (one .result) (omega arith)
-          (sym (c .before .before .before .before .before .is-end .ensures) ∙ c .before .before .before .before .if2 .left) (one .ensures .0)
+      clauses-broken _ _ (c8 .args .before) _ _ (one .result) (omega arith)
+          (sym (c5 .is-end .ensures) ∙ c4 .if2 .left) (one .ensures .0)
           (omega arith),
       one .ensures .1 .0,
     )
@@ -103,9 +109,11 @@ clauses-clauses-requires : (t : ℕ) → clauses-lts.Need-clauses-requires (
   clauses.Post,
 ) (clauses-at t) clauses.Post
 clauses-clauses-requires t c κs =
-    let one = c .before .before .before .clause-at in (
-      omega (arith, c .before .before .before .before .before .before .before .before .before .pre .0, one .ensures .1 .1 (omega arith)),
-      (c .before .before .before .before .before .before .before .before .before .pre .1 .0, one .ensures .1 .0 .1),
+    let c3 = c .before .before .before in
+    let c9 = c3 .before .before .before .before .before .before in
+    let one = c3 .clause-at in (
+      omega (arith, c9 .pre .0, one .ensures .1 .1 (omega arith)),
+      (c9 .pre .1 .0, one .ensures .1 .0 .1),
     )
 
 clauses-returns-4 : (t : ℕ) → clauses-lts.Need-returns-4 (
@@ -117,11 +125,15 @@ clauses-returns-4 : (t : ℕ) → clauses-lts.Need-returns-4 (
   clauses.Post,
 ) (clauses-at t) clauses.Post
 clauses-returns-4 t c =
-    let one = c .before .before .before .before .clause-at in
+    let c4 = c .before .before .before .before in
+    let c6 = c4 .before .before in
+    let c7 = c6 .before in
+    let c10 = c7 .before .before .before in
+    let one = c4 .clause-at in
     let rest = c .clauses .ensures in (
-      clauses-more _ _ (c .before .before .before .before .before .before .before .before .before .before .args .before) _ _ (one .result) (omega arith)
-          (sym (c .before .before .before .before .before .before .before .is-end .ensures)
-          ∙ c .before .before .before .before .before .before .if2 .left)
+      clauses-more _ _ (c10 .args .before) _ _ (one .result) (omega arith)
+          (sym (c7 .is-end .ensures)
+          ∙ c6 .if2 .left)
           (one .ensures .0) (omega arith) (one .ensures .1 .1 (omega arith)) _ _ (rest .0),
       (keeps-on _ _ _ (one .ensures .1 .0 .0) (rest .1 .0), rest .1 .1),
     )

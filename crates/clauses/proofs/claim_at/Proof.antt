@@ -25,8 +25,10 @@ part-dispose-end c = search needs
 
 dispose-requires : tie.Need-dispose-requires
 dispose-requires c κs =
-    let (w, _, _, p) = goes-some (c .before .before .before .name .ensures) (omega arith) in
-    (omega (arith, p .short, ap length (p .bytes)), c .before .before .before .before .before .pre .1)
+    let c3 = c .before .before .before in
+    let c5 = c3 .before .before in
+    let (w, _, _, p) = goes-some (c3 .name .ensures) (omega arith) in
+    (omega (arith, p .short, ap length (p .bytes)), c5 .pre .1)
 
 returns-2 : tie.Need-returns-2
 returns-2 c =

@@ -21,7 +21,8 @@ pass-requires-2 c κs = search needs
 
 returns : tie.Need-returns
 returns c =
-    let word = c .before .before .before .pass .ensures in
+    let c3 = c .before .before .before in
+    let word = c3 .pass .ensures in
     (kind-shared word (omega arith) (c .pass2 .ensures), λ l. strictly-on (goes-onward (c .pass2 .ensures)) l (strictly (bytes "shared") (omega arith) word l))
 
 slice-aggregate-pass-3 : tie.Need-slice-aggregate-pass-3
@@ -80,30 +81,27 @@ slice-aggregate-pass-8 c = search needs
 pass-requires-8 : tie.Need-pass-requires-8
 pass-requires-8 c κs = search needs
 
+operator-at-requires : tie.Need-operator-at-requires
+operator-at-requires c κs = search needs
+
 slice-aggregate-pass-9 : tie.Need-slice-aggregate-pass-9
 slice-aggregate-pass-9 c = search needs
 
 pass-requires-9 : tie.Need-pass-requires-9
 pass-requires-9 c κs = search needs
 
-slice-aggregate-pass-10 : tie.Need-slice-aggregate-pass-10
-slice-aggregate-pass-10 c = search needs
-
-pass-requires-10 : tie.Need-pass-requires-10
-pass-requires-10 c κs = search needs
-
 returns-4 : tie.Need-returns-4
 returns-4 c =
-    let c4 = c .before .before .before .before in
-    let c6 = c4 .before .before in
-    let c9 = c6 .before .before .before in
-    let c12 = c9 .before .before .before in
-    let c15 = c12 .before .before .before in
-    let word = c6 .pass7 .ensures in
-    let on = onward-both (goes-onward (c4 .pass8 .ensures))
-    (onward-both (goes-onward (c .before .before .pass9 .ensures)) (goes-onward (c .pass10 .ensures))) in (
-      kind-reduction (c15 .pass .ensures) (omega arith) (c12 .pass3 .ensures) (omega arith) (c9 .pass5 .ensures) (omega arith) word (c4 .pass8 .ensures)
-          (c .before .before .pass9 .ensures) (c .pass10 .ensures),
+    let c3 = c .before .before .before in
+    let c5 = c3 .before .before in
+    let c8 = c5 .before .before .before in
+    let c11 = c8 .before .before .before in
+    let c14 = c11 .before .before .before in
+    let word = c5 .pass7 .ensures in
+    let operator = c .before .before .operator-at .ensures in
+    let on = onward-both (goes-onward (c3 .pass8 .ensures)) (onward-both (goes-onward operator) (goes-onward (c .pass9 .ensures))) in (
+      kind-reduction (c14 .pass .ensures) (omega arith) (c11 .pass3 .ensures) (omega arith) (c8 .pass5 .ensures) (omega arith) word (c3 .pass8 .ensures)
+          operator (c .pass9 .ensures),
       λ l. strictly-on on l (strictly (bytes "reduction") (omega arith) word l),
     )
 
@@ -130,8 +128,7 @@ kind-at-spec =
     pass-requires-7
     slice-aggregate-pass-8
     pass-requires-8
+    operator-at-requires
     slice-aggregate-pass-9
     pass-requires-9
-    slice-aggregate-pass-10
-    pass-requires-10
     returns-4)

@@ -17,7 +17,9 @@ slice-aggregate-pass : tie.Need-slice-aggregate-pass
 slice-aggregate-pass c = search needs
 
 pass-requires : tie.Need-pass-requires
-pass-requires c κs = c .before .before .before .before .before .before .pre .0
+pass-requires c κs =
+    let c6 = c .before .before .before .before .before .before in
+    c6 .pre .0
 
 returns : tie.Need-returns
 returns c =

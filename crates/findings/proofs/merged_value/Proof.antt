@@ -36,32 +36,36 @@ returns-3 c =
     let e : toZ w32 (ofZ w32 (d .last-value .result)) ≡ d .last-value .result = search needs in
     rw (e, d .last-value .ensures, ne-eqb _ _ (d .before .if1 .left), ne-eqb _ _ (c .before .if2 .left), eq-eqb _ _ (c .if3 .taken))
 
+operator-of-requires : tie.Need-operator-of-requires
+operator-of-requires c κs = search needs
+
 total-requires : tie.Need-total-requires
 total-requires c κs = search needs
 
-add-requires : tie.Need-add-requires
-add-requires c κs = search needs
+combine-requires : tie.Need-combine-requires
+combine-requires c κs = search needs
 
 returns-4 : tie.Need-returns-4
 returns-4 c =
     let c2 = c .before .before in
-    let c3 = c2 .before .before in
-    let c4 = c3 .before in
-    let c5 = c4 .before in
-    let e : toZ w32 (ofZ w32 (c4 .last-value .result)) ≡ c4 .last-value .result = search needs in
+    let c3 = c2 .before in
+    let c5 = c3 .before .before in
+    let c6 = c5 .before in
+    let e : toZ w32 (ofZ w32 (c6 .last-value .result)) ≡ c6 .last-value .result = search needs in
     let f : toZ w32 (ofZ w32 (c .before .total .result)) ≡ c .before .total .result = search needs in
-    let g : toZ w32 (ofZ w32 (c .add .result)) ≡ c .add .result = search needs in
+    let g : toZ w32 (ofZ w32 (c .combine .result)) ≡ c .combine .result = search needs in
     rw (
       g,
-      c .add .ensures,
+      c .combine .ensures,
       e,
       f,
-      c4 .last-value .ensures,
+      c6 .last-value .ensures,
       c .before .total .ensures,
-      ne-eqb _ _ (c5 .if1 .left),
-      ne-eqb _ _ (c3 .if2 .left),
-      ne-eqb _ _ (c2 .before .if3 .left),
-      eq-eqb _ _ (c2 .if4 .taken),
+      c2 .operator-of .ensures,
+      ne-eqb _ _ (c6 .before .if1 .left),
+      ne-eqb _ _ (c5 .if2 .left),
+      ne-eqb _ _ (c3 .before .if3 .left),
+      eq-eqb _ _ (c3 .if4 .taken),
     )
 
 returns-5 : tie.Need-returns-5
@@ -88,7 +92,8 @@ merged-value-spec =
     last-value-requires
     returns-2
     returns-3
+    operator-of-requires
     total-requires
-    add-requires
+    combine-requires
     returns-4
     returns-5)

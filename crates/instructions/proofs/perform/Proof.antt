@@ -67,6 +67,9 @@ jump-unless-requires c κs = search needs
 jump-requires : tie.Need-jump-requires
 jump-requires c κs = search needs
 
+maximum-requires : tie.Need-maximum-requires
+maximum-requires c κs = search needs
+
 stop-requires : tie.Need-stop-requires
 stop-requires c κs = search needs
 
@@ -172,11 +175,17 @@ returns-17 c =
     (c .jump .ensures (a .pending .now) (a .v) (c .before .before .pre .0 .size))
 
 returns-18 : tie.Need-returns-18
-unfolding perform
 returns-18 c =
+    let a = c .before .before .before .args in
+    performs-as (a .place) (a .depth) (a .pending .now) _ (a .v) (decode-as (a .word) (a .arg) 17 (c .before .before .match .keys18))
+    (c .maximum .ensures (a .v))
+
+returns-19 : tie.Need-returns-19
+unfolding perform
+returns-19 c =
     let a = c .before .before .args in
     let p = c .before .before .pre in
-    let k : 17 ≤ a .word % 32 = past-all 17 (a .word % 32) (c .before .match .rest) in
+    let k : 18 ≤ a .word % 32 = past-all 18 (a .word % 32) (c .before .match .rest) in
     performs-as (a .place) (a .depth) (a .pending .now) _ (a .v) (decode-last (a .word) (a .arg) k)
     (ends (does Instr.end (a .place) (a .depth) (a .pending .now) (a .v)) _ _ _ (p .0 .size) (p .0 .most) (c .stop .ensures) (λ go. refl))
 
@@ -202,6 +211,7 @@ perform-spec =
     update-at-requires
     jump-unless-requires
     jump-requires
+    maximum-requires
     stop-requires
     returns
     returns-2
@@ -220,4 +230,5 @@ perform-spec =
     returns-15
     returns-16
     returns-17
-    returns-18)
+    returns-18
+    returns-19)

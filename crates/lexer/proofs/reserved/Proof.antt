@@ -23,7 +23,8 @@ returns-2 : tie.Need-returns-2
 returns-2 c =
     let c3 = c .before .before .before in
     let c4 = c3 .before in
-    sym (or-no (sym (c4 .equal .ensures) ∙ c3 .if1 .left) (or-yes _ (sym (c .before .equal2 .ensures) ∙ c .if2 .taken)))
+    sym (or-no (sym (c4 .equal .ensures) ∙ c3 .if1 .left)
+    (or-yes _ (sym (c .before .equal2 .ensures) ∙ c .if2 .taken)))
 
 slice-aggregate-equal-3 : tie.Need-slice-aggregate-equal-3
 slice-aggregate-equal-3 c = refl
@@ -38,7 +39,8 @@ returns-3 c =
     let c6 = c4 .before .before in
     let c7 = c6 .before in
     sym (or-no (sym (c7 .equal .ensures) ∙ c6 .if1 .left)
-    (or-no (sym (c4 .equal2 .ensures) ∙ c3 .if2 .left) (or-yes _ (sym (c .before .equal3 .ensures) ∙ c .if3 .taken))))
+    (or-no (sym (c4 .equal2 .ensures) ∙ c3 .if2 .left)
+    (or-yes _ (sym (c .before .equal3 .ensures) ∙ c .if3 .taken))))
 
 slice-aggregate-equal-4 : tie.Need-slice-aggregate-equal-4
 slice-aggregate-equal-4 c = refl
@@ -56,7 +58,8 @@ returns-4 c =
     let c10 = c9 .before in
     sym (or-no (sym (c10 .equal .ensures) ∙ c9 .if1 .left)
     (or-no (sym (c7 .equal2 .ensures) ∙ c6 .if2 .left)
-    (or-no (sym (c4 .equal3 .ensures) ∙ c3 .if3 .left) (or-yes _ (sym (c .before .equal4 .ensures) ∙ c .if4 .taken)))))
+    (or-no (sym (c4 .equal3 .ensures) ∙ c3 .if3 .left)
+    (or-yes _ (sym (c .before .equal4 .ensures) ∙ c .if4 .taken)))))
 
 slice-aggregate-equal-5 : tie.Need-slice-aggregate-equal-5
 slice-aggregate-equal-5 c = refl
@@ -77,7 +80,8 @@ returns-5 c =
     sym (or-no (sym (c13 .equal .ensures) ∙ c12 .if1 .left)
     (or-no (sym (c10 .equal2 .ensures) ∙ c9 .if2 .left)
     (or-no (sym (c7 .equal3 .ensures) ∙ c6 .if3 .left)
-    (or-no (sym (c4 .equal4 .ensures) ∙ c3 .if4 .left) (or-yes _ (sym (c .before .equal5 .ensures) ∙ c .if5 .taken))))))
+    (or-no (sym (c4 .equal4 .ensures) ∙ c3 .if4 .left)
+    (or-yes _ (sym (c .before .equal5 .ensures) ∙ c .if5 .taken))))))
 
 slice-aggregate-equal-6 : tie.Need-slice-aggregate-equal-6
 slice-aggregate-equal-6 c = refl
@@ -101,7 +105,8 @@ returns-6 c =
     (or-no (sym (c13 .equal2 .ensures) ∙ c12 .if2 .left)
     (or-no (sym (c10 .equal3 .ensures) ∙ c9 .if3 .left)
     (or-no (sym (c7 .equal4 .ensures) ∙ c6 .if4 .left)
-    (or-no (sym (c4 .equal5 .ensures) ∙ c3 .if5 .left) (or-yes _ (sym (c .before .equal6 .ensures) ∙ c .if6 .taken)))))))
+    (or-no (sym (c4 .equal5 .ensures) ∙ c3 .if5 .left)
+    (or-yes _ (sym (c .before .equal6 .ensures) ∙ c .if6 .taken)))))))
 
 slice-aggregate-equal-7 : tie.Need-slice-aggregate-equal-7
 slice-aggregate-equal-7 c = refl
@@ -128,7 +133,8 @@ returns-7 c =
     (or-no (sym (c13 .equal3 .ensures) ∙ c12 .if3 .left)
     (or-no (sym (c10 .equal4 .ensures) ∙ c9 .if4 .left)
     (or-no (sym (c7 .equal5 .ensures) ∙ c6 .if5 .left)
-    (or-no (sym (c4 .equal6 .ensures) ∙ c3 .if6 .left) (or-yes _ (sym (c .before .equal7 .ensures) ∙ c .if7 .taken))))))))
+    (or-no (sym (c4 .equal6 .ensures) ∙ c3 .if6 .left)
+    (or-yes _ (sym (c .before .equal7 .ensures) ∙ c .if7 .taken))))))))
 
 slice-aggregate-equal-8 : tie.Need-slice-aggregate-equal-8
 slice-aggregate-equal-8 c = refl
@@ -158,7 +164,8 @@ returns-8 c =
     (or-no (sym (c13 .equal4 .ensures) ∙ c12 .if4 .left)
     (or-no (sym (c10 .equal5 .ensures) ∙ c9 .if5 .left)
     (or-no (sym (c7 .equal6 .ensures) ∙ c6 .if6 .left)
-    (or-no (sym (c4 .equal7 .ensures) ∙ c3 .if7 .left) (or-yes _ (sym (c .before .equal8 .ensures) ∙ c .if8 .taken)))))))))
+    (or-no (sym (c4 .equal7 .ensures) ∙ c3 .if7 .left)
+    (or-yes _ (sym (c .before .equal8 .ensures) ∙ c .if8 .taken)))))))))
 
 slice-aggregate-equal-9 : tie.Need-slice-aggregate-equal-9
 slice-aggregate-equal-9 c = refl
@@ -203,6 +210,44 @@ equal-requires-10 c κs = tt
 returns-10 : tie.Need-returns-10
 returns-10 c =
     let c3 = c .before .before .before in
+    let c4 = c3 .before in
+    let c6 = c4 .before .before in
+    let c7 = c6 .before in
+    let c9 = c7 .before .before in
+    let c10 = c9 .before in
+    let c12 = c10 .before .before in
+    let c13 = c12 .before in
+    let c15 = c13 .before .before in
+    let c16 = c15 .before in
+    let c18 = c16 .before .before in
+    let c19 = c18 .before in
+    let c21 = c19 .before .before in
+    let c22 = c21 .before in
+    let c24 = c22 .before .before in
+    let c25 = c24 .before in
+    let c27 = c25 .before .before in
+    let c28 = c27 .before in
+    sym (or-no (sym (c28 .equal .ensures) ∙ c27 .if1 .left)
+    (or-no (sym (c25 .equal2 .ensures) ∙ c24 .if2 .left)
+    (or-no (sym (c22 .equal3 .ensures) ∙ c21 .if3 .left)
+    (or-no (sym (c19 .equal4 .ensures) ∙ c18 .if4 .left)
+    (or-no (sym (c16 .equal5 .ensures) ∙ c15 .if5 .left)
+    (or-no (sym (c13 .equal6 .ensures) ∙ c12 .if6 .left)
+    (or-no (sym (c10 .equal7 .ensures) ∙ c9 .if7 .left)
+    (or-no (sym (c7 .equal8 .ensures) ∙ c6 .if8 .left)
+    (or-no (sym (c4 .equal9 .ensures) ∙ c3 .if9 .left)
+    (or-yes _ (sym (c .before .equal10 .ensures) ∙ c .if10 .taken)))))))))))
+
+slice-aggregate-equal-11 : tie.Need-slice-aggregate-equal-11
+slice-aggregate-equal-11 c = refl
+
+equal-requires-11 : tie.Need-equal-requires-11
+equal-requires-11 c κs = tt
+
+returns-11 : tie.Need-returns-11
+returns-11 c =
+    let c2 = c .before .before in
+    let c3 = c2 .before in
     let c5 = c3 .before .before in
     let c6 = c5 .before in
     let c8 = c6 .before .before in
@@ -219,15 +264,19 @@ returns-10 c =
     let c24 = c23 .before in
     let c26 = c24 .before .before in
     let c27 = c26 .before in
-    sym (or-no (sym (c27 .equal .ensures) ∙ c26 .if1 .left)
-    (or-no (sym (c24 .equal2 .ensures) ∙ c23 .if2 .left)
-    (or-no (sym (c21 .equal3 .ensures) ∙ c20 .if3 .left)
-    (or-no (sym (c18 .equal4 .ensures) ∙ c17 .if4 .left)
-    (or-no (sym (c15 .equal5 .ensures) ∙ c14 .if5 .left)
-    (or-no (sym (c12 .equal6 .ensures) ∙ c11 .if6 .left)
-    (or-no (sym (c9 .equal7 .ensures) ∙ c8 .if7 .left)
-    (or-no (sym (c6 .equal8 .ensures) ∙ c5 .if8 .left)
-    (or-no (sym (c3 .equal9 .ensures) ∙ c .before .before .if9 .left) (or-last (sym (c .equal10 .ensures))))))))))))
+    let c29 = c27 .before .before in
+    let c30 = c29 .before in
+    sym (or-no (sym (c30 .equal .ensures) ∙ c29 .if1 .left)
+    (or-no (sym (c27 .equal2 .ensures) ∙ c26 .if2 .left)
+    (or-no (sym (c24 .equal3 .ensures) ∙ c23 .if3 .left)
+    (or-no (sym (c21 .equal4 .ensures) ∙ c20 .if4 .left)
+    (or-no (sym (c18 .equal5 .ensures) ∙ c17 .if5 .left)
+    (or-no (sym (c15 .equal6 .ensures) ∙ c14 .if6 .left)
+    (or-no (sym (c12 .equal7 .ensures) ∙ c11 .if7 .left)
+    (or-no (sym (c9 .equal8 .ensures) ∙ c8 .if8 .left)
+    (or-no (sym (c6 .equal9 .ensures) ∙ c5 .if9 .left)
+    (or-no (sym (c3 .equal10 .ensures) ∙ c2 .if10 .left)
+    (or-last (sym (c .equal11 .ensures)))))))))))))
 
 pub reserved-spec : {M : Type 1} → statement M
 reserved-spec =
@@ -262,4 +311,7 @@ reserved-spec =
     returns-9
     slice-aggregate-equal-10
     equal-requires-10
-    returns-10)
+    returns-10
+    slice-aggregate-equal-11
+    equal-requires-11
+    returns-11)

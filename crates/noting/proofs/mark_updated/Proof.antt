@@ -18,6 +18,9 @@ mul-flags c = omega arith
 slice-read-flags : tie.Need-slice-read-flags
 slice-read-flags c = omega arith
 
+operator-of-requires : tie.Need-operator-of-requires
+operator-of-requires c κs = search needs
+
 add-of-word : tie.Need-add-of-word
 add-of-word c = omega arith
 
@@ -30,8 +33,8 @@ slice-read-of-word c = omega arith
 of-word-requires : tie.Need-of-word-requires
 of-word-requires c κs = search needs
 
-add-requires : tie.Need-add-requires
-add-requires c κs = search needs
+combine-requires : tie.Need-combine-requires
+combine-requires c κs = search needs
 
 with-update-requires : tie.Need-with-update-requires
 with-update-requires c κs = search needs
@@ -63,11 +66,14 @@ same-length c = search needs
 returns : tie.Need-returns
 unfolding updated
 returns c =
-    let a = c .before .before .before .before .before .before .before .args in
+    let c2 = c .before .before in
+    let c3 = c2 .before in
+    let c5 = c3 .before .before in
+    let a = c5 .before .before .before .args in
     let e : toZ w32 (ofZ w32 (a .value)) ≡ a .value = search needs in
-    let f : toZ w32 (ofZ w32 (c .before .before .before .of-word .result)) ≡ c .before .before .before .of-word .result = search needs in
-    let g : toZ w32 (ofZ w32 (c .before .before .add .result)) ≡ c .before .before .add .result = search needs in
-    rw (c .before .with-update .ensures, c .to-word .ensures, g, c .before .before .add .ensures, e, f, c .before .before .before .of-word .ensures)
+    let f : toZ w32 (ofZ w32 (c3 .of-word .result)) ≡ c3 .of-word .result = search needs in
+    let g : toZ w32 (ofZ w32 (c2 .combine .result)) ≡ c2 .combine .result = search needs in
+    rw (c .before .with-update .ensures, c .to-word .ensures, g, c2 .combine .ensures, e, f, c3 .of-word .ensures, c5 .operator-of .ensures)
 
 pub mark-updated-spec : {M : Type 1} → statement M
 mark-updated-spec =
@@ -76,11 +82,12 @@ mark-updated-spec =
     add-flags
     mul-flags
     slice-read-flags
+    operator-of-requires
     add-of-word
     mul-of-word
     slice-read-of-word
     of-word-requires
-    add-requires
+    combine-requires
     with-update-requires
     add-w
     mul-w

@@ -10,6 +10,7 @@ use lib.IntN.{pos}
 use lib.ListN.{length, getD}
 use Rattle.rules.specs.Cells.{cellOf}
 use Rattle.rules.specs.Loop.{Loop, Partition}
+use Rattle.tables.proofs.Held.{row-small}
 use Rattle.tables.proofs.Start.{Begun}
 use Rattle.trial.specs.Start.{Entry}
 use Rattle.trial.proofs.StandingLaws.{suits-low}
@@ -42,36 +43,42 @@ row-of-requires c κs =
     let (l, δ, h) = c .before .before .before .before .before .before .before .before .pre in
     suits-low (h .suits) (entry-size (a .processors) l δ (a .cells .now) (a .classes .now) (length (a .w .now)) h) (c .before .loop .c) (c .loop-test .taken)
 
-mul-set-entry : tie.Need-mul-set-entry Inv-loop μ-loop
-mul-set-entry c = search needs
+mul-begin-row : tie.Need-mul-begin-row Inv-loop μ-loop
+mul-begin-row c = search needs
 
-shared-slice-copy-out-set-entry : tie.Need-shared-slice-copy-out-set-entry Inv-loop μ-loop
-shared-slice-copy-out-set-entry c = search needs
+shared-slice-copy-out-begin-row : tie.Need-shared-slice-copy-out-begin-row Inv-loop μ-loop
+shared-slice-copy-out-begin-row c = search needs
 
-mul-set-entry-2 : tie.Need-mul-set-entry-2 Inv-loop μ-loop
-mul-set-entry-2 c = search needs
+mul-begin-row-2 : tie.Need-mul-begin-row-2 Inv-loop μ-loop
+mul-begin-row-2 c = search needs
 
-shared-slice-read-set-entry : tie.Need-shared-slice-read-set-entry Inv-loop μ-loop
-shared-slice-read-set-entry c =
+shared-slice-read-begin-row : tie.Need-shared-slice-read-begin-row Inv-loop μ-loop
+shared-slice-read-begin-row c =
     let a = c .before .before .before .before .before .before .before .before .before .before .before .before .args in
     let (l, δ, h) = c .before .before .before .before .before .before .before .before .before .before .before .before .pre in
     entry-class (a .processors) l δ (a .cells .now) (a .classes .now) (length (a .w .now)) h (c .before .before .before .before .before .loop .c)
     (c .before .before .before .before .loop-test .taken) .0
 
-set-entry-requires : tie.Need-set-entry-requires Inv-loop μ-loop
-set-entry-requires c κs =
-    let a = c .before .before .before .before .before .before .before .before .before .before .before .before .args in
-    let (l, δ, h) = c .before .before .before .before .before .before .before .before .before .before .before .before .pre in
-    let n : length (c .before .before .before .before .before .before .before .before .clear .last .0) ≡ length (a .w .now) = search needs in (
+begin-row-requires : tie.Need-begin-row-requires Inv-loop μ-loop
+begin-row-requires c κs =
+    let c3 = c .before .before .before in
+    let c5 = c3 .before .before in
+    let c8 = c5 .before .before .before in
+    let c12 = c8 .before .before .before .before in
+    let a = c12 .args in
+    let (l, δ, h) = c12 .pre in
+    let i = c5 .loop .c in
+    let lt = c3 .before .loop-test .taken in
+    let low = suits-low (h .suits) (entry-size (a .processors) l δ (a .cells .now) (a .classes .now) (length (a .w .now)) h) i lt in
+    let n : length (c8 .clear .last .0) ≡ length (a .w .now) = search needs in (
+      omega (arith, c3 .row-of .ensures, row-small (a .processors) i (low .0) (low .1)),
       omega (
         arith,
-        c .before .before .before .row-of .ensures,
-        c .before .before .before .before .before .loop .inv .1,
-        entry-room (a .processors) l δ (a .cells .now) (a .classes .now) (length (a .w .now)) h (c .before .before .before .before .before .loop .c)
-            (c .before .before .before .before .loop-test .taken),
+        c3 .row-of .ensures,
+        c5 .loop .inv .1,
+        entry-room (a .processors) l δ (a .cells .now) (a .classes .now) (length (a .w .now)) h i lt,
       ),
-      entry-class (a .processors) l δ (a .cells .now) (a .classes .now) (length (a .w .now)) h (c .before .before .before .before .before .loop .c)
-          (c .before .before .before .before .loop-test .taken) .1,
+      entry-class (a .processors) l δ (a .cells .now) (a .classes .now) (length (a .w .now)) h i lt .1,
     )
 
 add-c : tie.Need-add-c Inv-loop μ-loop
@@ -95,9 +102,9 @@ loop-again c =
     let e : toZ w32 (ofZ w32 (getD (a .cells .now) (u .c) (pos 0))) ≡ getD (a .cells .now) (u .c) (pos 0) = search needs in (
       omega arith,
       search needs,
-      λ l δ h. rw (add-one, c .before .before .set-entry .ensures, c6 .row-of .ensures, e)
+      λ l δ h. rw (add-one, c .before .before .begin-row .ensures, c6 .row-of .ensures, e)
           (entry-more (a .processors) l δ (a .cells .now) (a .classes .now) _ h (u .c) (u .w) (c7 .loop-test .taken)
-          (record { sfits = c4 .set-entry-arg2 .given }) (u .inv .2 l δ h)),
+          (record { sfits = c4 .begin-row-arg2 .given }) (u .inv .2 l δ h)),
     )
 
 same-length : tie.Need-same-length Inv-loop μ-loop
@@ -122,11 +129,11 @@ enter-spec =
     clear-requires
     loop-holds
     row-of-requires
-    mul-set-entry
-    shared-slice-copy-out-set-entry
-    mul-set-entry-2
-    shared-slice-read-set-entry
-    set-entry-requires
+    mul-begin-row
+    shared-slice-copy-out-begin-row
+    mul-begin-row-2
+    shared-slice-read-begin-row
+    begin-row-requires
     add-c
     loop-less
     loop-again

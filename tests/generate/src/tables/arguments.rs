@@ -29,6 +29,11 @@ const BLOCKS: &str =
 const COPIED: &str =
     "integer a(3)\n!$omp parallel do num_threads(2) firstprivate(a) lastprivate(a)\n\
      do i = 1, 3\na(i) = i\nend do\n";
+/// The same as products and as maxima: the same workspace (document 02, Point 6, says nothing of it).
+const PRODUCTS: &str = "integer a(3)\n!$omp parallel do num_threads(2) reduction(*:a)\n\
+     do i = 1, 3\na(i) = a(i)*i\nend do\n";
+const MAXIMA: &str = "integer a(3)\n!$omp parallel do num_threads(2) reduction(max:a)\n\
+     do i = 1, 3\na(i) = max(a(i), i)\nend do\n";
 /// N = 4,096 and P = 8: 4,352 + 512 + 4,096 × 68 = 283,392; before 4,352 + 512 + 4,096 × 52 = 217,856.
 const LARGEST: &str = "integer a(4096)\n!$omp parallel do num_threads(8)\ndo i = 1, 3\nend do\n";
 /// N = 1 and P = 1: 4,352 + 64 + 12 = 4,428; before 4,352 + 64 + 10 = 4,426.
@@ -112,6 +117,27 @@ pub fn rows() -> Vec<ArgumentRow> {
             "in both clauses, a cell too few",
             COPIED,
             (2, 4540, &[0], 6),
+            (5, 5, 5),
+        ),
+        row("products", PRODUCTS, (3, 4540, &[0, 1], 6), (0, 0, 0)),
+        row(
+            "products, a word too few",
+            PRODUCTS,
+            (3, 4539, &[0], 6),
+            (0, 6, 6),
+        ),
+        row("products, byte P", PRODUCTS, (3, 4540, &[2], 6), (0, 7, 7)),
+        row("maxima", MAXIMA, (3, 4540, &[0, 1], 6), (0, 0, 0)),
+        row(
+            "maxima, a word too few",
+            MAXIMA,
+            (3, 4539, &[0], 6),
+            (0, 6, 6),
+        ),
+        row(
+            "maxima, a cell too many",
+            MAXIMA,
+            (4, 4540, &[0], 6),
             (5, 5, 5),
         ),
         // document 02, Point 5: the workspace of before is too small, for every text (P5.8)

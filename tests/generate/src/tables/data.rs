@@ -99,6 +99,11 @@ const BROKEN: &[&str] = &[
     "data do /1/",
     "data rdiv /1/",
     "data integer /1/",
+    // P6.2
+    "data max /1/",
+    "data MAX /4*1/",
+    "data s /max/",
+    "data s /max(1, 2)/",
     // READING 20
     "data abcdefghijklmnopqrstuvwxyz123456 /1/",
     // 2 before 3 and 4 (READING 23)

@@ -30,6 +30,8 @@ const GOOD: &[(&str, usize)] = &[
     // P5.10
     ("integer firstprivate", 1),
     ("integer FirstPrivate(4), lastprivate", 5),
+    // document 02, Point 6: other words than max itself
+    ("integer max2, maxi(2), max_, maximum, min, amax", 7),
     (
         "integer elseif, call, program, while, endprogram, stop, rdivs, integer2",
         8,
@@ -103,6 +105,13 @@ const BROKEN: &[&str] = &[
     "integer rdiv",
     "integer a, RDIV(4)",
     "integer do(4)",
+    // document 02, Point 6 (P6.2)
+    "integer max",
+    "integer Max",
+    "integer a, MAX(4)",
+    "integer max(4), a",
+    "integer max, max",
+    "integer max(0)",
     // 32 characters and more (READING 20)
     "integer abcdefghijklmnopqrstuvwxyz123456",
     "integer a23456789_123456789_123456789_123456789_123456789",

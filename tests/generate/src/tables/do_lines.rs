@@ -35,6 +35,8 @@ const GOOD: &[&str] = &[
     "do schedule = 1, 2",
     "do static = 1, 2",
     "do firstprivate = 1, 2",
+    "do max1 = 1, 2",
+    "do min = 1, 2",
     "do while = 1, 2",
     "do concurrent = 1, 2",
     "do do1 = 1, 2",
@@ -89,6 +91,10 @@ const BROKEN: &[&str] = &[
     // READING 20, 21
     "do do = 1, 4",
     "do rdiv = 1, 4",
+    // P6.2
+    "do max = 1, 4",
+    "do MAX = 1, 4",
+    "do i = 1, max(2, 4)",
     "do end = 1, 4",
     "do abcdefghijklmnopqrstuvwxyz123456 = 1, 4",
     // 2 before 3 and 4 (READING 23)

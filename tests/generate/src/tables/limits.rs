@@ -14,6 +14,12 @@ fn with_statement(statement: &str) -> String {
     with_body(&format!("{statement}\n"))
 }
 
+/// A statement on line 4 where s and a are in a `reduction` clause.
+fn reducing(operation: &str, statement: &str) -> String {
+    let clause = format!("num_threads(2) reduction({operation}:s, a)");
+    with_statement(statement).replace("num_threads(2)", &clause)
+}
+
 /// An `if` on line 4, closed on line 5.
 fn with_if(line: &str) -> String {
     with_body(&format!("{line}\nend if\n"))
@@ -112,11 +118,12 @@ fn depth_rows() -> Vec<TextRow> {
 }
 
 /// "brackets open together in a statement 8, those of a subscript on either side and of rdiv
-/// counted, the outer pair of `if` not" (READING 44).
+/// counted, the outer pair of `if` not" (READING 44). Document 02, Point 6: "`max(e, e)` also becomes a factor,
+/// its brackets counted" (P6.8).
 fn bracket_rows() -> Vec<TextRow> {
-    let eight = nest("(", 8, "1");
-    let nine = nest("(", 9, "1");
+    let [seven, eight, nine] = [7, 8, 9].map(|times| nest("(", times, "1"));
     let rdivs = |times: usize| "rdiv(".repeat(times) + "1" + &", 1)".repeat(times);
+    let maxes = |times: usize| "max(".repeat(times) + "1" + &", 1)".repeat(times);
     let good = |name: &str, text: String| TextRow::good(name, text, 5, 2);
     let bad = |name: &str, text: String| TextRow::bad(name, text, 4, 4);
     vec![
@@ -152,6 +159,81 @@ fn bracket_rows() -> Vec<TextRow> {
         bad(
             "rdiv around 8",
             with_statement(&format!("s = rdiv(1, {eight})")),
+        ),
+        good("8 maxes", with_statement(&format!("s = {}", maxes(8)))),
+        bad("9 maxes", with_statement(&format!("s = {}", maxes(9)))),
+        good(
+            "8 maxes in their second argument",
+            with_statement(&format!("s = {}", nest("max(1,", 8, "1"))),
+        ),
+        bad(
+            "9 maxes in their second argument",
+            with_statement(&format!("s = {}", nest("max(1,", 9, "1"))),
+        ),
+        good(
+            "max around 7",
+            with_statement(&format!("s = max(1, {seven})")),
+        ),
+        bad(
+            "max around 8",
+            with_statement(&format!("s = max({eight}, 1)")),
+        ),
+        bad(
+            "max around 8, right",
+            with_statement(&format!("s = max(1, {eight})")),
+        ),
+        good(
+            "max after 8",
+            with_statement(&format!("s = {eight}*max(1, 2)")),
+        ),
+        good(
+            "max, rdiv, subscripts and brackets, 8",
+            with_statement("s = max(rdiv(a((max(a((rdiv(1, 1))), 1))), 1), 1)"),
+        ),
+        bad(
+            "max, rdiv, subscripts and brackets, 9",
+            with_statement("s = max(rdiv(a((max(a((rdiv(1, (1)))), 1))), 1), 1)"),
+        ),
+        good(
+            "8 maxes inside if",
+            with_if(&format!("if ({} == 1) then", maxes(8))),
+        ),
+        bad(
+            "9 maxes inside if",
+            with_if(&format!("if ({} == 1) then", maxes(9))),
+        ),
+        // the brackets of an update
+        good(
+            "a maximum update by 7",
+            reducing("max", &format!("s = max(s, {seven})")),
+        ),
+        bad(
+            "a maximum update by 8",
+            reducing("max", &format!("s = max(s, {eight})")),
+        ),
+        good(
+            "a maximum update of 7 subscripts",
+            reducing("max", &format!("{0} = max({0}, 1)", nest("a(", 7, "1"))),
+        ),
+        bad(
+            "a maximum update of 8 subscripts",
+            reducing("max", &format!("{0} = max({0}, 1)", nest("a(", 8, "1"))),
+        ),
+        good(
+            "a product update by 8",
+            reducing("*", &format!("s = s*{eight}*{eight}")),
+        ),
+        bad(
+            "a product update by 9",
+            reducing("*", &format!("s = s*{eight}*{nine}")),
+        ),
+        good(
+            "a product update of 8 subscripts",
+            reducing("*", &format!("{0} = {0}*2", nest("a(", 8, "1"))),
+        ),
+        bad(
+            "a product update of 9 subscripts",
+            reducing("*", &format!("{0} = {0}*2", nest("a(", 9, "1"))),
         ),
         bad(
             "a subscript around 8",
@@ -241,6 +323,26 @@ pub fn deep_rows() -> Vec<TextRow> {
                 ",1)".repeat(room / 8)
             ),
             4,
+        ),
+        row(
+            "as many maxes as fit",
+            format!("s = {}1{}", "max(".repeat(room / 7), ",1)".repeat(room / 7)),
+            4,
+        ),
+        row(
+            "as many maxes as fit around an unknown name",
+            format!("s = {}t{}", "max(".repeat(room / 7), ",1)".repeat(room / 7)),
+            3,
+        ),
+        row(
+            "as many maxes as fit, in their second argument",
+            format!("s = {}", nest("max(1,", room / 7, "1")),
+            4,
+        ),
+        row(
+            "maxes that never close",
+            format!("s = {}1", "max(".repeat(room / 4)),
+            2,
         ),
         row(
             "signs and brackets",

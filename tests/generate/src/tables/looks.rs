@@ -134,6 +134,11 @@ const ORDERS: &[(&str, &[usize])] = &[
     ("s = a(4) + a(a(2) + 1)", &[4, 2, 3, 0]),
     ("a(a(1) + 1) = a(4)", &[4, 1, 2]),
     ("a(a(3) + 1) = s", &[0, 3, 4]),
+    // P6.8
+    ("s = max(a(3), a(2))", &[3, 2, 0]),
+    ("s = max(a(2), a(3))", &[2, 3, 0]),
+    ("s = max(a(4), 1)/max(1, a(2))*a(3)", &[4, 2, 3, 0]),
+    ("a(max(a(1), 4)) = a(3)", &[3, 1, 4]),
     ("if (a(3) == a(2)) then\nend if", &[3, 2]),
     (
         "if (a(3) == a(2) + 1) then\ns = 1\nend if\na(1) = 1",
@@ -149,6 +154,7 @@ pub fn rows() -> Vec<LookRow> {
     rows.extend(mark_rows());
     rows.extend(super::blocks::look_rows());
     rows.extend(super::copies::look_rows());
+    rows.extend(super::reductions::look_rows());
     rows
 }
 
@@ -225,7 +231,7 @@ fn order_rows() -> Vec<LookRow> {
 fn writes_of(statement: &str) -> &'static [usize] {
     match statement {
         "a(a(1) + 1) = a(4)" => &[2],
-        "a(a(3) + 1) = s" => &[4],
+        "a(a(3) + 1) = s" | "a(max(a(1), 4)) = a(3)" => &[4],
         "if (a(3) == a(2)) then\nend if" => &[],
         "if (a(3) == a(2) + 1) then\ns = 1\nend if\na(1) = 1" => &[0, 1],
         _ => &[0],

@@ -12,6 +12,7 @@ pub mod limits;
 pub mod looks;
 pub mod precedence;
 pub mod prints;
+pub mod reductions;
 pub mod runs;
 pub mod statements;
 pub mod texts;

@@ -52,6 +52,35 @@ pub const ROWS: &[(&str, &str, &str)] = &[
         "! refused 3 3 0\n",
     ),
     (
+        "a product and a maximum (document 02, Point 6)",
+        "integer w, peak, a(4)\ndata w /2/\ndata peak /-9/\ndata a /-3, 5, -7, 1/\n\
+         !$omp parallel do num_threads(2) reduction(*:w) reduction(max:peak)\n\
+         do i = 1, 4\nw = w * a(i)\npeak = max(peak, -a(i))\nend do\n",
+        "! passed 8 2\ndata w /210/\ndata peak /7/\ndata a /-3,5,-7,1/\n",
+    ),
+    (
+        "the same with the operations exchanged",
+        "integer w, peak, a(4)\ndata w /2/\ndata peak /-9/\ndata a /-3, 5, -7, 1/\n\
+         !$omp parallel do num_threads(2) reduction(max:w) reduction(*:peak)\n\
+         do i = 1, 4\nw = w * a(i)\npeak = max(peak, -a(i))\nend do\n",
+        "! rerun 8 2\ndata w /210/\ndata peak /7/\ndata a /-3,5,-7,1/\n",
+    ),
+    (
+        "a name in two reduction clauses",
+        "integer w\n!$omp parallel do num_threads(2) reduction(*:w) reduction(max:w)\ndo i = 1, 4\nend do\n",
+        "! refused 3 2 0\n",
+    ),
+    (
+        "max as a name",
+        "integer max\n!$omp parallel do num_threads(2)\ndo i = 1, 4\nmax = i\nend do\n",
+        "! refused 2 1 0\n",
+    ),
+    (
+        "reduction(min:w)",
+        "integer w\n!$omp parallel do num_threads(2) reduction(min:w)\ndo i = 1, 4\nend do\n",
+        "! refused 2 2 0\n",
+    ),
+    (
         "no iterations, names in upper case",
         "integer Zz, Y(2)\ndata Y /2*-3/\n!$omp parallel do num_threads(8)\ndo i = 1, 0\nend do\n",
         "! passed 0 0\ndata zz /0/\ndata y /-3,-3/\n",

@@ -167,6 +167,45 @@ const VALUES: &[(&str, i32)] = &[
     // READING 60
     ("a(2147483647 + 1 + 2147483647 + 2)", 1),
     ("a(65536*65536 + 3)", 3),
+    // document 02, Point 6: max
+    ("max(3, 7)", 7),
+    ("max(7, 3)", 7),
+    ("max(5, 5)", 5),
+    ("max(-3, -7)", -3),
+    ("max(-7, -3)", -3),
+    ("max(0, -1)", 0),
+    ("max(+1, -1)", 1),
+    ("max(-2147483647 - 1, -2147483647)", -GREATEST),
+    ("max(-2147483647 - 1, 2147483647)", GREATEST),
+    ("max(2147483647, -2147483647 - 1)", GREATEST),
+    ("max(-2147483647 - 1, -2147483647 - 1)", LEAST),
+    ("max(2147483647 + 1, 0)", 0),
+    ("max(65536*65536, -1)", 0),
+    ("max(s, a(4))", 6),
+    ("max(a(4), s)", 6),
+    ("max(-i, i)", 1),
+    ("MAX ( 1 , 2 )", 2),
+    ("max(max(1, 5), max(4, 2))", 5),
+    ("max(1, max(2, max(3, 4)))", 4),
+    ("max((1 + 2)*3, 8)", 9),
+    ("max(1 + 2, 2*2)", 4),
+    ("max(1 - 2 - 3, 7/2*2 - 11)", -4),
+    // a factor: its place in terms
+    ("-max(3, 7)", -7),
+    ("-max(3, 7) + 1", -6),
+    ("-max(-3, -7)*2", 6),
+    ("max(3, 7)*2", 14),
+    ("2*max(3, 7)", 14),
+    ("100/max(3, 7)", 14),
+    ("max(100, 7)/max(3, 7)*2", 28),
+    ("2 - max(3, 7)", -5),
+    ("max(3, 7) - max(7, 3)", 0),
+    ("(max(3, 7))", 7),
+    ("a(max(2, 3))", 3),
+    ("a(max(a(1), a(2)))", 2),
+    ("rdiv(max(7, 5), 2)", 4),
+    ("rdiv(7, max(-2, 2))", 4),
+    ("max(rdiv(7, 2), 7/2)", 4),
 ];
 
 /// A statement on line 4 in the same loop, and its fault.
@@ -211,6 +250,28 @@ const FAULTS: &[(&str, u32)] = &[
     ("if (a(9) == 1/0) then\nend if", 9),
     ("if (1 == 1/0) then\nend if", 10),
     ("if (a(9) /= a(9)) then\nend if", 9),
+    // document 02, Point 6: both arguments, the left one first (P6.8)
+    ("s = max(a(9), 1/0)", 9),
+    ("s = max(1/0, a(9))", 10),
+    ("s = max(1, 1/0)", 10),
+    ("s = max(1/0, 1)", 10),
+    ("s = max(a(9), 1)", 9),
+    ("s = max(1, a(9))", 9),
+    ("s = max(2147483647, a(9))", 9),
+    ("s = max(1, 2)/0", 10),
+    ("s = a(9)*max(1/0, 1)", 9),
+    ("s = max(1/0, 1)*a(9)", 10),
+    ("a(9) = max(a(9), 1/0)", 9),
+    ("a(9) = max(1/0, a(9))", 10),
+    ("a(9) = max(1, 1/0)", 10),
+    ("a(max(4, 5)) = 1", 9),
+    ("a(max(0, -1)) = 1/0", 10),
+    ("s = a(max(0, -1))", 9),
+    ("s = 1/max(-1, 0)", 10),
+    ("s = rdiv(1, max(0, -3))", 10),
+    ("if (max(1/0, a(9)) == 1) then\nend if", 10),
+    ("if (max(a(9), 1/0) == 1) then\nend if", 9),
+    ("if (1 == max(1, a(5))) then\nend if", 9),
 ];
 
 /// The same where s and a are reduction names: updates (READING 67).
@@ -268,6 +329,7 @@ pub fn rows() -> Vec<RunRow> {
     rows.extend(other_rows());
     rows.extend(super::blocks::run_rows());
     rows.extend(super::copies::run_rows());
+    rows.extend(super::reductions::run_rows());
     rows
 }
 

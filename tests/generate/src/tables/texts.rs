@@ -122,6 +122,30 @@ const GOOD: &[(&str, &str, usize, usize)] = &[
         8,
     ),
     (
+        "all three operations, and max in every place of a factor (document 02, Point 6)",
+        "integer s, p, m, a(4)\ndata p /1/\n\
+         !$omp parallel do reduction(+:s) num_threads(2) reduction(*:p) reduction(max:m)\ndo i = 1, 4\n\
+         s = s + max(a(max(i, 1)), -i)\np = p*max(i, 2)*(max(1, 2) - 3)\nm = max(m, max(a(i), i))\n\
+         if (max(i, 2) == 2 + max(0, 0)) then\na(max(1, i)) = -max(1, 2)/max(3, 4)\nend if\nend do\n",
+        7,
+        2,
+    ),
+    (
+        "16 names in the clauses of three operations",
+        "integer a,b,c,d,e,f,g,h,i,j,k,l,m,n,o,p\n!$omp parallel do num_threads(8) \
+         reduction(*:a,b,c,d,e) reduction(max:p,o,n,m,l) reduction(+:f,g,h,i,j,k)\n\
+         do v = 1, 4\nend do\n",
+        16,
+        8,
+    ),
+    (
+        "names that only begin like max",
+        "integer max1, maxi(2)\ndata maxi /2*1/\n!$omp parallel do num_threads(1) reduction(max:max1)\n\
+         do max_ = 1, 4\nmax1 = max(max1, maxi(1) + max_)\nend do\n",
+        3,
+        1,
+    ),
+    (
         "16 names and a v (READING 29)",
         "integer a,b,c,d,e,f,g,h\ninteger i,j,k,l,m,n,o,p\n!$omp parallel do num_threads(1)\n\
          do v = 1, 4\nend do\n",
@@ -369,6 +393,63 @@ const BAD: &[(&str, &str, u32, u32)] = &[
          do i = 1, 4\nend do\n",
         2,
         3,
+    ),
+    (
+        "max declared: at its line, though every use follows (P6.2)",
+        "integer a\ninteger b, max(2)\n!$omp parallel do num_threads(1)\ndo i = 1, 4\n\
+         max(1) = max(2)\nend do\n",
+        2,
+        2,
+    ),
+    (
+        "max given data: at its line",
+        "integer a\ndata a /1/\ndata max /1/\n!$omp parallel do num_threads(1)\ndo i = 1, 4\nend do\n",
+        2,
+        3,
+    ),
+    (
+        "max as v: at the do line",
+        "integer a\n!$omp parallel do num_threads(1)\ndo max = 1, 4\na = max\nend do\n",
+        2,
+        3,
+    ),
+    (
+        "max read: at its line",
+        "integer a\n!$omp parallel do num_threads(1)\ndo i = 1, 4\na = 1\na = a + max\nend do\n",
+        2,
+        5,
+    ),
+    (
+        "max assigned: at its line",
+        "integer a\n!$omp parallel do num_threads(1)\ndo i = 1, 4\na = 1\nmax = a\nend do\n",
+        2,
+        5,
+    ),
+    (
+        "a name in two reduction clauses: at the directive, whatever follows (P6.1)",
+        "integer a\n\n!$omp parallel do num_threads(1) reduction(*:a) reduction(max:a)\ndo a = 1\nend do\n",
+        3,
+        3,
+    ),
+    (
+        "a name in two reduction clauses, and unfinished",
+        "integer a\n!$omp parallel do num_threads(1) reduction(*:a) reduction(max:a)\n",
+        2,
+        2,
+    ),
+    (
+        "the operations in two directives",
+        "integer a, b\n!$omp parallel do num_threads(1) reduction(*:a)\n\
+         !$omp parallel do num_threads(1) reduction(max:b)\ndo i = 1, 4\nend do\n",
+        2,
+        3,
+    ),
+    (
+        "closing directive with Point 6's clause",
+        "integer a\n!$omp parallel do num_threads(1) reduction(*:a)\ndo i = 1, 4\nend do\n\
+         !$omp end parallel do reduction(*:a)\n",
+        2,
+        5,
     ),
     (
         "closing directive run together (READING 18)",

@@ -19,15 +19,18 @@ own-of-requires c κs = omega (
       (omega (arith, c .before .before .before .pre .0 .low)) (c .before .before .before .pre .0 .few),
 )
 
-add-requires : tie.Need-add-requires
-add-requires c κs = search needs
+class-of-requires : tie.Need-class-of-requires
+class-of-requires c κs = search needs
+
+join-in-requires : tie.Need-join-in-requires
+join-in-requires c κs = search needs
 
 note-update-requires : tie.Need-note-update-requires
 note-update-requires c κs =
-    let c4 = c .before .before .before .before in
-    let c5 = c4 .before in
-    let c8 = c5 .before .before .before in
-    (rw (c4 .own-of .ensures, c5 .row-of .ensures) (c8 .pre .0 .ready), omega (arith, c8 .pre .1))
+    let c6 = c .before .before .before .before .before .before in
+    let c7 = c6 .before in
+    let c10 = c7 .before .before .before in
+    (rw (c6 .own-of .ensures, c7 .row-of .ensures) (c10 .pre .0 .ready), omega (arith, c10 .pre .1))
 
 same-length : tie.Need-same-length
 same-length c = search needs
@@ -39,12 +42,13 @@ returns : tie.Need-returns
 returns c =
     let c5 = c .before .before .before .before .before in
     let c7 = c5 .before .before in
-    let c8 = c7 .before in
-    let c11 = c8 .before .before .before in
-    let e : toZ w32 (ofZ w32 (c11 .args .value)) ≡ c11 .args .value = search needs in
+    let c9 = c7 .before .before in
+    let c10 = c9 .before in
+    let c13 = c10 .before .before .before in
+    let e : toZ w32 (ofZ w32 (c13 .args .value)) ≡ c13 .args .value = search needs in
     record {
-      cells = rw e at (c5 .add .ensures);
-      words = rw (e, c7 .own-of .ensures, c8 .row-of .ensures) at (c .before .before .note-update .ensures);
+      cells = rw (e, c7 .class-of .ensures, c10 .row-of .ensures) at (c5 .join-in .ensures);
+      words = rw (e, c9 .own-of .ensures, c10 .row-of .ensures) at (c .before .before .note-update .ensures);
     }
 
 pub update-cell-spec : {M : Type 1} → statement M
@@ -53,7 +57,8 @@ update-cell-spec =
     (tie.spec
     row-of-requires
     own-of-requires
-    add-requires
+    class-of-requires
+    join-in-requires
     note-update-requires
     same-length
     same-length-2

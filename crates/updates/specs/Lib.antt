@@ -1,0 +1,2 @@
+-- The forms of updates, as the code finds them.
+pub mod Forms
