@@ -22,6 +22,19 @@ pub data Repeats : Operator → Ref → Expr → Expr → Type 0 where
       → Repeats Product y (expr bare (term x xs) no-terms) (expr bare (term (cell y) (factors false x xs)) no-terms)
   compares : (y : Ref) (b : Expr) → Repeats Maximum y b (expr bare (term (call Max (only y) b) no-factors) no-terms)
 
+-- a right side of the form repeats its reference
+pub repeats-ref : {o : Operator} {y : Ref} {m e : Expr} → Repeats o y m e → repeated o e ≡ some y
+unfolding summand multiplicand alone rival
+repeats-ref (adds y m t ts) = refl
+repeats-ref (multiplies y x xs h) = ap (λ (b : Bool). cond b (some y) none) h
+repeats-ref (compares y b) = refl
+
+pub repeats-rest : {o : Operator} {y : Ref} {m e : Expr} → Repeats o y m e → remainder o e ≡ m
+unfolding remainder
+repeats-rest (adds y m t ts) = refl
+repeats-rest (multiplies y x xs h) = refl
+repeats-rest (compares y b) = refl
+
 unled-some : (l : Lead) (o : Option Ref) (y : Ref) → unled l o ≡ some y → (l ≡ bare) × (o ≡ some y)
 unled-some bare o y h = (refl, h)
 unled-some plus o y h = absurd (let z : _≡_ {A = ℕ} 0 1 = cc in omega arith)
@@ -48,7 +61,7 @@ compared-some (call Rdiv a b) y h = absurd (let z : _≡_ {A = ℕ} 0 1 = cc in 
 compared-some (call Max a b) y h = (b, ap (λ (e : Expr). call Max e b) (alone-only a y h))
 compared-some (brackets e) y h = absurd (let z : _≡_ {A = ℕ} 0 1 = cc in omega arith)
 
--- where the right side repeats a reference, it has the form
+-- and where one repeats a reference, it has the form
 pub repeats-of : (o : Operator) (e : Expr) (y : Ref) → repeated o e ≡ some y → Repeats o y (remainder o e) e
 unfolding summand multiplicand rival remainder
 repeats-of Sum (expr l (term x xs) no-terms) y h = absurd (let z : _≡_ {A = ℕ} 0 1 = cc in omega arith)
@@ -76,16 +89,3 @@ repeats-of Maximum (expr l (term x no-factors) no-terms) y h =
     let (b, c) = compared-some x y q in
     subst₂ (λ (k : Lead) (f : Factor). Repeats Maximum y (remainder Maximum (expr k (term f no-factors) no-terms)) (expr k (term f no-factors) no-terms))
     (sym p) (sym c) (compares y b)
-
--- and the other way round
-pub repeats-ref : {o : Operator} {y : Ref} {m e : Expr} → Repeats o y m e → repeated o e ≡ some y
-unfolding summand multiplicand alone rival
-repeats-ref (adds y m t ts) = refl
-repeats-ref (multiplies y x xs h) = ap (λ (b : Bool). cond b (some y) none) h
-repeats-ref (compares y b) = refl
-
-pub repeats-rest : {o : Operator} {y : Ref} {m e : Expr} → Repeats o y m e → remainder o e ≡ m
-unfolding remainder
-repeats-rest (adds y m t ts) = refl
-repeats-rest (multiplies y x xs h) = refl
-repeats-rest (compares y b) = refl

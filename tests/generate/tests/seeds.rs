@@ -92,6 +92,19 @@ fn listed(directive: &str, word: &str) -> Vec<String> {
     names
 }
 
+/// The directives of three variants of a loop, in lower case; nothing else of their texts may differ.
+fn only_directives(variants: [Loop; 3]) -> [String; 3] {
+    let split = variants.map(|variant| {
+        let text = String::from_utf8(variant.text()).unwrap().to_lowercase();
+        let is_directive = |line: &&str| line.trim_start().starts_with("!$omp ");
+        let directive = text.lines().find(is_directive).unwrap().to_string();
+        let rest = text.replacen(&directive, "", 1);
+        (directive, rest)
+    });
+    assert!(split[0].1 == split[1].1 && split[1].1 == split[2].1);
+    split.map(|(directive, _)| directive)
+}
+
 /// With all names copied in, the lists of `firstprivate` and `lastprivate` agree; with none there is no
 /// `firstprivate`; as drawn, there are some or all of them. Nothing else of the text changes.
 #[test]
@@ -99,19 +112,13 @@ fn copies_change_one_line() {
     let mut partly = 0;
     for seed in 0..200 {
         for drawn in one_of_each(seed) {
-            let texts = [Copied::None, Copied::AsDrawn, Copied::All].map(|copied| {
-                let text = drawn.with_copied(copied).text();
-                String::from_utf8(text).unwrap().to_lowercase()
-            });
-            let directives = texts.each_ref().map(|text| {
-                let is_directive = |line: &&str| line.trim_start().starts_with("!$omp ");
-                text.lines().find(is_directive).unwrap()
-            });
-            let rest = |place: usize| texts[place].replacen(directives[place], "", 1);
-            assert!(rest(0) == rest(1) && rest(1) == rest(2));
-            let last = directives.map(|line| listed(line, "lastprivate"));
+            let variants = [Copied::None, Copied::AsDrawn, Copied::All];
+            let directives = only_directives(variants.map(|copied| drawn.with_copied(copied)));
+            let last = directives
+                .each_ref()
+                .map(|line| listed(line, "lastprivate"));
             assert!(last[0] == last[1] && last[1] == last[2]);
-            let first = directives.map(|line| listed(line, "firstprivate"));
+            let first = directives.map(|line| listed(&line, "firstprivate"));
             assert_eq!(first[0].len(), 0);
             assert!(first[1].iter().all(|name| last[1].contains(name)));
             assert_eq!(first[2], last[2]);
@@ -183,17 +190,9 @@ fn operations_change_one_line() {
     let mut turned = 0;
     for seed in 0..200 {
         for drawn in one_of_each(seed) {
-            let texts = [Turned::AsDrawn, Turned::Once, Turned::Twice].map(|turned| {
-                let text = drawn.with_turned(turned).text();
-                String::from_utf8(text).unwrap().to_lowercase()
-            });
-            let directives = texts.each_ref().map(|text| {
-                let is_directive = |line: &&str| line.trim_start().starts_with("!$omp ");
-                text.lines().find(is_directive).unwrap()
-            });
-            let rest = |place: usize| texts[place].replacen(directives[place], "", 1);
-            assert!(rest(0) == rest(1) && rest(1) == rest(2));
-            let [first, second, third] = directives.map(operations);
+            let variants = [Turned::AsDrawn, Turned::Once, Turned::Twice];
+            let directives = only_directives(variants.map(|turned| drawn.with_turned(turned)));
+            let [first, second, third] = directives.map(|line| operations(&line));
             for (before, after) in [(&first, &second), (&second, &third), (&third, &first)] {
                 let expected: Vec<_> = before
                     .iter()

@@ -1,5 +1,5 @@
 -- `parts::call_operation` meets its contract, function by function.
-use mathlib.Core.Path.{_≡_, sym, ap}
+use mathlib.Core.Path.{sym, ap}
 use borrow.Author.Needs.{needs}
 use Rattle.code.specs.Instr.{operation}
 use Rattle.code.specs.Compile.{calls}

@@ -1,7 +1,6 @@
 -- `parts::called` meets its contract.
 use mathlib.Core.Path.{sym, ap}
 use mathlib.Core.Bool.{Bool}
-use borrow.Author.Needs.{needs}
 use Rattle.parts.specs.Parts.{calledAt}
 use Rattle.parts.proofs.called.Statement.{statement}
 use Rattle.parts.proofs.called.Tie as tie
