@@ -3,10 +3,11 @@
 !
 ! The lines of a text are parted by new_line('a'). All of the string is the text: of a padded variable pass trim(text).
 module lrpd
-  use, intrinsic :: iso_c_binding, only: c_char, c_int8_t, c_int32_t, c_size_t
+  use, intrinsic :: iso_c_binding, only: c_char, c_int8_t, c_int16_t, c_int32_t, c_size_t
   implicit none
   private
-  public :: lrpd_check_answer, lrpd_done_answer, lrpd_run_answer, lrpd_workspace, lrpd_check, lrpd_load, lrpd_look, lrpd_run
+  public :: lrpd_check_answer, lrpd_done_answer, lrpd_run_answer, lrpd_plan_answer
+  public :: lrpd_workspace, lrpd_check, lrpd_load, lrpd_look, lrpd_run, lrpd_plan
 
   ! The most characters of a text and the most cells of a loop.
   integer, parameter, public :: lrpd_most_bytes = 2048, lrpd_most_cells = 4096
@@ -24,6 +25,11 @@ module lrpd
   ! A refusal's number, or 0, its line and v; then 1 if the loop was run again serially, and both write counts.
   type, bind(C) :: lrpd_run_answer
     integer(c_int32_t) :: number, line, v, rerun, pairs, cells
+  end type
+
+  ! A refusal's number, or 0, its line and v; then the number of stages.
+  type, bind(C) :: lrpd_plan_answer
+    integer(c_int32_t) :: number, line, v, stages
   end type
 
   interface
@@ -61,6 +67,16 @@ module lrpd
       integer(c_int8_t), intent(in) :: schedule(*)
       type(lrpd_run_answer) :: answer
     end function
+
+    function c_plan(text, length, cells, count, workspace, words, list, room) bind(C, name="lrpd_plan") result(answer)
+      import :: c_char, c_int16_t, c_int32_t, c_size_t, lrpd_plan_answer
+      character(kind=c_char), intent(in) :: text(*)
+      integer(c_size_t), value :: length, count, words, room
+      integer(c_int32_t), intent(in) :: cells(*)
+      integer(c_int32_t), intent(inout) :: workspace(*)
+      integer(c_int16_t), intent(inout) :: list(*)
+      type(lrpd_plan_answer) :: answer
+    end function
   end interface
 
 contains
@@ -82,7 +98,7 @@ contains
     answer = c_load(text, len(text, c_size_t), cells, size(cells, kind=c_size_t))
   end function
 
-  ! The words of workspace that lrpd_look and lrpd_run ask for.
+  ! The words of workspace that lrpd_look, lrpd_run and lrpd_plan ask for.
   pure function lrpd_workspace(sizes) result(words)
     type(lrpd_check_answer), intent(in) :: sizes
     integer :: words
@@ -111,6 +127,19 @@ contains
 
     answer = c_run(text, len(text, c_size_t), cells, size(cells, kind=c_size_t), workspace, size(workspace, kind=c_size_t), &
       schedule, size(schedule, kind=c_size_t))
+  end function
+
+  ! Writes each iteration's stage to a list with a number for each. Fortran has no numbers without sign: a stage over 32,767 reads
+  ! negative, and iand(int(list(i)), 65535) gives it.
+  function lrpd_plan(text, cells, workspace, list) result(answer)
+    character(len=*), intent(in) :: text
+    integer(c_int32_t), contiguous, intent(in) :: cells(:)
+    integer(c_int32_t), contiguous, intent(inout) :: workspace(:)
+    integer(c_int16_t), contiguous, intent(inout) :: list(:)
+    type(lrpd_plan_answer) :: answer
+
+    answer = c_plan(text, len(text, c_size_t), cells, size(cells, kind=c_size_t), workspace, size(workspace, kind=c_size_t), &
+      list, size(list, kind=c_size_t))
   end function
 
 end module

@@ -22,7 +22,7 @@ extern "C" {
 #define LRPD_MOST_BYTES 2048
 #define LRPD_MOST_CELLS 4096
 
-/* The words of workspace that Look and Run ask for. */
+/* The words of workspace that Look, Run and Plan ask for. */
 #define LRPD_WORKSPACE(cells, processors) \
     (4352 + 64 * (size_t)(processors) + (size_t)(cells) * (4 + 8 * (size_t)(processors)))
 
@@ -38,7 +38,8 @@ extern "C" {
     7,     0,    0   a schedule byte that names no processor
     8,     0,    0   a view of not exactly two words for each cell
     9,     line, v   the serial run met a subscript outside its array
-   10,     line, v   the serial run met a zero divisor */
+   10,     line, v   the serial run met a zero divisor
+   11,     0,    0   not exactly as many numbers in the list as the loop has iterations */
 
 /* The loop has so many cells and processors; both are 0 after a refusal. */
 struct lrpd_check_answer {
@@ -67,6 +68,14 @@ struct lrpd_run_answer {
     uint32_t cells;
 };
 
+/* The iterations fall into so many stages; 0 after a refusal. */
+struct lrpd_plan_answer {
+    uint32_t number;
+    uint32_t line;
+    int32_t v;
+    uint32_t stages;
+};
+
 /* Check: whether the text is a loop, and how many cells and processors it has. Numbers 1 to 4. */
 struct lrpd_check_answer lrpd_check(const uint8_t *text, size_t length);
 
@@ -86,6 +95,15 @@ struct lrpd_done_answer lrpd_look(const uint8_t *text, size_t length, const int3
    workspace too. Else the workspace is zero afterwards. */
 struct lrpd_run_answer lrpd_run(const uint8_t *text, size_t length, int32_t *cells, size_t count, uint32_t *workspace, size_t words,
                                 const uint8_t *schedule, size_t steps);
+
+/* Plan: writes each iteration's stage to the list, the first iteration's first, and answers how many stages there are, none without
+   iterations. Two iterations depend on each other if both touch a cell in the serial run on these cells and one of them writes or
+   updates it; a stage is 1 more than the highest stage of a lower iteration that its iteration depends on, else 1. Running the stages
+   one after another, the iterations of a stage in any order, gives the serial run's cells. Plan itself leaves the cells as found.
+   Numbers 1 to 6, 11, 9 and 10, in this order; a refusal leaves the list as found, 1 to 6 and 11 the workspace too. Else the
+   workspace is zero afterwards. */
+struct lrpd_plan_answer lrpd_plan(const uint8_t *text, size_t length, const int32_t *cells, size_t count, uint32_t *workspace,
+                                  size_t words, uint16_t *list, size_t room);
 
 #ifdef __cplusplus
 }

@@ -1,7 +1,7 @@
-//! Run's time beside that of two serial interpreters, and how it grows.
+//! Run's time beside that of two serial interpreters, Plan's beside Run's, and how both grow.
 //!
 //!     bench                     the times
-//!     bench WHICH LOOP TIMES    one alone, so many times, for a profiler: WHICH is run, plain or strong,
+//!     bench WHICH LOOP TIMES    one alone, so many times, for a profiler: WHICH is run, plain, strong or plan,
 //!                               LOOP is turns, shortest or forms
 
 mod clock;
@@ -12,7 +12,7 @@ use clock::thread_time;
 use interpreters::postfix::{Fault, Loop};
 use interpreters::reader;
 use interpreters::three_address::{self, Program};
-use loops::{forms, shortest, turns, Timed};
+use loops::{forms, shortest, turns, wide, Timed};
 use std::fmt;
 use std::time::Duration;
 
@@ -48,7 +48,10 @@ fn main() {
 
 /// One alone, so many times, for a profiler.
 fn profile(which: &str, name: &str, times: usize) {
-    let call = named(&CALLS, which);
+    let call = match which {
+        "plan" => time_plan,
+        _ => named(&CALLS, which),
+    };
     let timed = named(&LOOPS, name)(ITERATIONS, CELLS, 1);
     for _ in 0..times {
         call(&timed);
@@ -76,6 +79,12 @@ fn measure() {
     println!("  All left the same cells in every round.");
     println!("\nRun, the loop `turns` as it grows:");
     grow();
+    println!("\nPlan and Run, P = 1, the loop `turns` as it grows, then `wide` with as many accesses in longer iterations:");
+    println!(
+        "{:49}{:>18}{:>18}{:>18}  ns / access",
+        "", "plan", "run", "plan / run"
+    );
+    grow_plans();
 }
 
 /// The interpreters begin a page, or their time would change from build to build.
@@ -112,6 +121,47 @@ fn grow() {
     let times = take_turns(loops.len(), |which| time_run(&loops[which]).0);
     for ((iterations, cells, processors), time) in sizes.iter().zip(times) {
         println!("  {iterations:6} iterations, {cells:5} cells, P = {processors}:{time:.3}");
+    }
+}
+
+/// How many accesses an iteration of `turns` makes, and a statement of `wide`.
+const IN_TURNS: u32 = 4;
+const IN_WIDE: u32 = 2;
+
+/// Times Plan, and Run beside it, on `turns` with other numbers of iterations and cells, and on `wide` with as many
+/// accesses in fewer and longer iterations. An access should take the same time in all of them.
+fn grow_plans() {
+    let mut loops = Vec::new();
+    let grown = [4_096, 16_384, 32_768, ITERATIONS].map(|count| (count, CELLS));
+    let spread = [64, 256, 1_024, CELLS].map(|count| (ITERATIONS, count));
+    for (iterations, cells) in grown.into_iter().chain(spread) {
+        loops.push((turns(iterations, cells, 1), IN_TURNS));
+    }
+    for statements in [1, 10, 100] {
+        let timed = wide(ITERATIONS / statements, CELLS, statements as usize);
+        loops.push((timed, IN_WIDE * statements));
+    }
+    // Each iteration changes a cell that every other changes.
+    for (timed, _) in &loops {
+        assert!(plan(timed)
+            .1
+            .into_iter()
+            .map(u32::from)
+            .eq(1..=timed.iterations));
+    }
+    let times = take_turns(2 * loops.len(), |which| {
+        let (timed, _) = &loops[which / 2];
+        let call = if which % 2 == 0 { time_plan } else { time_run };
+        call(timed).0
+    });
+    for ((timed, accesses), times) in loops.iter().zip(times.chunks(2)) {
+        let (plan, run) = (times[0], times[1]);
+        let ratio = plan.over(run);
+        let each = 1e6 * plan.median / f64::from(timed.iterations * accesses);
+        let (iterations, cells) = (timed.iterations, timed.cells.len());
+        println!(
+            "  {iterations:6} iterations of {accesses:3} accesses, {cells:5} cells:{plan:.3}{run:.3}{ratio:.2}{each:13.1}"
+        );
     }
 }
 
@@ -169,6 +219,27 @@ fn time_run(timed: &Timed) -> (Duration, Vec<i32>) {
     let time = thread_time() - start;
     assert!(answer.number == 0 && answer.rerun == 0, "{answer:?}");
     (time, cells)
+}
+
+/// Plan, which leaves the cells.
+fn time_plan(timed: &Timed) -> (Duration, Vec<i32>) {
+    (plan(timed).0, timed.cells.clone())
+}
+
+/// Plan: its time, and the stages.
+fn plan(timed: &Timed) -> (Duration, Vec<u16>) {
+    let mut workspace = vec![1; product::workspace_words(timed.cells.len(), timed.processors)];
+    let mut list = vec![0; timed.iterations as usize];
+    let start = thread_time();
+    let answer = product::plan(
+        timed.text.as_bytes(),
+        &timed.cells,
+        &mut workspace,
+        &mut list,
+    );
+    let time = thread_time() - start;
+    assert!(answer.number == 0, "{answer:?}");
+    (time, list)
 }
 
 /// The plain interpreter.

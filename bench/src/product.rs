@@ -1,4 +1,4 @@
-//! The product's Run as C calls it (include/lrpd.h).
+//! The product's Run and Plan as C calls them (include/lrpd.h).
 
 #[repr(C)]
 #[derive(Debug, Clone, Copy, PartialEq, Eq)]
@@ -9,6 +9,15 @@ pub struct RunAnswer {
     pub rerun: u32,
     pub pairs: u32,
     pub cells: u32,
+}
+
+#[repr(C)]
+#[derive(Debug, Clone, Copy, PartialEq, Eq)]
+pub struct PlanAnswer {
+    pub number: u32,
+    pub line: u32,
+    pub v: i32,
+    pub stages: u32,
 }
 
 extern "C" {
@@ -22,6 +31,16 @@ extern "C" {
         schedule: *const u8,
         steps: usize,
     ) -> RunAnswer;
+    fn lrpd_plan(
+        text: *const u8,
+        length: usize,
+        cells: *const i32,
+        count: usize,
+        workspace: *mut u32,
+        words: usize,
+        list: *mut u16,
+        room: usize,
+    ) -> PlanAnswer;
 }
 
 /// Run with an empty schedule.
@@ -42,7 +61,24 @@ pub fn run(text: &[u8], cells: &mut [i32], workspace: &mut [u32]) -> RunAnswer {
     }
 }
 
-/// The words of workspace that Run asks for.
+/// Plan.
+pub fn plan(text: &[u8], cells: &[i32], workspace: &mut [u32], list: &mut [u16]) -> PlanAnswer {
+    // SAFETY: each pointer and length are one slice's; the workspace and the list are lent alone.
+    unsafe {
+        lrpd_plan(
+            text.as_ptr(),
+            text.len(),
+            cells.as_ptr(),
+            cells.len(),
+            workspace.as_mut_ptr(),
+            workspace.len(),
+            list.as_mut_ptr(),
+            list.len(),
+        )
+    }
+}
+
+/// The words of workspace that Run and Plan ask for.
 pub fn workspace_words(cells: usize, processors: usize) -> usize {
     4352 + 64 * processors + cells * (4 + 8 * processors)
 }

@@ -1,11 +1,15 @@
--- Document 01, Services and answers: what each service answers, and what it leaves in what is lent, by the verdict on the text.
+-- Document 01, Services and answers, and document 02, Point 7: what each service answers, and what it leaves in what is lent, by the verdict on the text.
 use mathlib.Core.Bool.{cond}
-use mathlib.Core.List.{List}
+use mathlib.Core.List.{List, []}
 use Prim.Native.Nat.{ℕ, zero, suc, _+_, _*_}
 use lib.Dec.{eqb, leb, ltb}
 use lib.ListN.{length, replicate}
 use lib.IntN.{ℤ, pos, _+ℤ_}
+use Rattle.rules.specs.Cells.{listed}
+use Rattle.rules.specs.Loop.{Loop}
+use Rattle.rules.specs.Serial.{Outcome, finished, failed, serial}
 use Rattle.rules.specs.Answer.{look, Answer, passed, rerun, faulted, Ending, settled}
+use Rattle.reorder.specs.Stages.{stage, stage-count}
 use Rattle.syntax.specs.Bytes.{all}
 use Rattle.syntax.specs.Known.{State, cells}
 use Rattle.syntax.specs.Text.{Verdict, refused, good, loaded}
@@ -14,6 +18,8 @@ use Rattle.answers.specs.declared.Checked.{Checked}
 use Rattle.answers.specs.declared.Checked.the-variants.{Sizes, Refused}
 use Rattle.answers.specs.declared.Completed.{Completed}
 use Rattle.answers.specs.declared.Completed.the-variants.{Done, Refused as Rejected}
+use Rattle.answers.specs.declared.Planned.{Planned}
+use Rattle.answers.specs.declared.Planned.the-variants.{Staged, Faulted as Failed, Refused as Unplanned}
 use Rattle.answers.specs.declared.Ran.{Ran}
 use Rattle.answers.specs.declared.Ran.the-variants.{Passed, Rerun, Faulted, Refused as Unfit}
 
@@ -110,3 +116,36 @@ cellsRun (good s) m w ps = taken (runNumber s (length m) w ps) (settles s m .cel
 unfoldable pub runWorkspace : Verdict → List ℤ → List ℕ → List ℕ → List ℕ
 runWorkspace (refused n k) m w ps = w
 runWorkspace (good s) m w ps = taken (runNumber s (length m) (length w) ps) (replicate (length w) 0) w
+
+-- ---- Plan (document 02, Point 7), over the cells m, w words of a workspace and a list of p numbers
+
+-- "11, list length not n, after 6"
+abbrev pub listNumber : State → ℕ → ℕ → ℕ
+listNumber s p zero = cond (eqb p (s .count)) 0 11
+listNumber s p (suc n) = suc n
+
+abbrev pub planNumber : State → ℕ → ℕ → ℕ → ℕ
+planNumber s m w p = listNumber s p (runNumber s m w [])
+
+-- "answers the number of stages"; "Faults are answered as in Run"
+abbrev pub staged : Loop → ℤ → Outcome → Planned
+staged l v finished = Staged (stage-count (serial l .log) (l .iterations))
+staged l v (failed n t i) = Failed n t (v +ℤ pos i)
+
+-- "writes each iteration's stage"; "a refusal leaves the list as found"
+abbrev pub stagesWritten : Loop → List ℕ → Outcome → List ℕ
+stagesWritten l q finished = listed (l .iterations) (stage (serial l .log))
+stagesWritten l q (failed n t i) = q
+
+unfoldable pub planOf : Verdict → List ℤ → ℕ → ℕ → Planned
+planOf (refused n k) m w p = Unplanned n k
+planOf (good s) m w p = let n = planNumber s (length m) w p in taken n (staged (loopOf s m) (s .from) (serial (loopOf s m) .outcome)) (Unplanned n 0)
+
+unfoldable pub listPlanned : Verdict → List ℤ → ℕ → List ℕ → List ℕ
+listPlanned (refused n k) m w q = q
+listPlanned (good s) m w q = taken (planNumber s (length m) w (length q)) (stagesWritten (loopOf s m) q (serial (loopOf s m) .outcome)) q
+
+-- "workspace ends as there"
+unfoldable pub planWorkspace : Verdict → List ℤ → List ℕ → ℕ → List ℕ
+planWorkspace (refused n k) m w p = w
+planWorkspace (good s) m w p = taken (planNumber s (length m) (length w) p) (replicate (length w) 0) w

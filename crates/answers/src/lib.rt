@@ -21,6 +21,13 @@ pub enum Ran {
     Refused { number: u32, line: u32 },
 }
 
+// What Plan answers (document 02, Point 7): the number of stages, a fault with its number, line and v, or a refusal.
+pub enum Planned {
+    Staged { stages: u32 },
+    Faulted { number: u32, line: u32, v: i32 },
+    Refused { number: u32, line: u32 },
+}
+
 // What the serial run answers.
 pub enum Served {
     Finished { pairs: u32, cells: u32 },

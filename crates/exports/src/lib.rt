@@ -3,10 +3,11 @@
 ghost use mathlib.Core.Path.{_≡_};
 ghost use lib.ListN.{length};
 ghost use Rattle.syntax.specs.Text.{read};
-ghost use Rattle.answers.specs.Answers.{checkOf, loadOf, cellsLoaded, lookOf, viewShown, lookWorkspace, runOf, cellsRun, runWorkspace};
-ghost use Rattle.exports.specs.Numbers.{checkNumbers, doneNumbers, runNumbers};
+ghost use Rattle.answers.specs.Answers.{checkOf, loadOf, cellsLoaded, lookOf, viewShown, lookWorkspace, runOf, cellsRun, runWorkspace, planOf, listPlanned, planWorkspace};
+ghost use Rattle.exports.specs.Numbers.{checkNumbers, doneNumbers, runNumbers, planNumbers};
 use answers::Checked;
 use answers::Completed;
+use answers::Planned;
 use answers::Ran;
 
 // Check's answer: a refusal's number (0: none), line and v; N and P (0 after a refusal).
@@ -36,6 +37,15 @@ pub struct RunAnswer {
     pub rerun: u32,
     pub pairs: u32,
     pub cells: u32,
+}
+
+// Plan's answer: a refusal's number (0: none), line and v; the number of stages.
+#[repr(C)]
+pub struct PlanAnswer {
+    pub number: u32,
+    pub line: u32,
+    pub v: i32,
+    pub stages: u32,
 }
 
 #[no_mangle]
@@ -163,4 +173,50 @@ pub extern "C" fn lrpd_run(
 {
     let r = running::run(text, cells, workspace, schedule);
     run_answer(r)
+}
+
+// Plan's answer in numbers.
+fn plan_answer(r: Planned) -> PlanAnswer
+    ensures { λ a. ⌜ a ≡ planNumbers r ⌝ }
+{
+    match r {
+        Planned::Staged { stages: k } => PlanAnswer {
+            number: 0,
+            line: 0,
+            v: 0,
+            stages: k,
+        },
+        Planned::Faulted {
+            number: n,
+            line: k,
+            v: x,
+        } => PlanAnswer {
+            number: n,
+            line: k,
+            v: x,
+            stages: 0,
+        },
+        Planned::Refused { number: n, line: k } => PlanAnswer {
+            number: n,
+            line: k,
+            v: 0,
+            stages: 0,
+        },
+    }
+}
+
+#[no_mangle]
+pub extern "C" fn lrpd_plan(
+    text: &[u8],
+    cells: &[i32],
+    workspace: &mut [u32],
+    list: &mut [u16],
+) -> PlanAnswer
+    ensures { λ r. ⌜ r ≡ planNumbers (planOf (read (now (text .entry))) (now (cells .entry)) (length (now (workspace .entry))) (length (now (list .entry)))) ⌝ }
+    ensures { λ _. ⌜ now (list .exit) ≡ listPlanned (read (now (text .entry))) (now (cells .entry)) (length (now (workspace .entry))) (now (list .entry)) ⌝ }
+    ensures { λ _. ⌜ now (workspace .exit)
+        ≡ planWorkspace (read (now (text .entry))) (now (cells .entry)) (now (workspace .entry)) (length (now (list .entry))) ⌝ }
+{
+    let r = planning::plan(text, cells, workspace, list);
+    plan_answer(r)
 }

@@ -20,6 +20,7 @@ use tables::TOUCHED;
 use tables::WRITERS;
 use tables::WROTE;
 use tables::choose;
+use tables::higher_of;
 
 // The stamp of a group.
 fn group_stamp(g: Group) -> u32
@@ -54,13 +55,6 @@ fn lower_of(stamp: u32, word: u32) -> u32
         return stamp;
     }
     if stamp < word { stamp } else { word }
-}
-
-// The higher of both.
-fn higher_of(stamp: u32, word: u32) -> u32
-    ensures { λ r. ⌜ r ≡ max stamp word ⌝ }
-{
-    if stamp < word { word } else { stamp }
 }
 
 // A group reads the cell.

@@ -29,3 +29,4 @@ pub mod BlocksLaws
 pub mod CellsLaws
 pub mod NumberLaws
 pub mod Likewise
+pub mod SerialFault

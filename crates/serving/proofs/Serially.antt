@@ -1,7 +1,7 @@
 -- The serial run of a text.
 use mathlib.Core.Path.{_≡_, refl, sym, _∙_, ap, subst}
 use mathlib.Core.List.{List, []}
-use Prim.Native.Nat.{ℕ, zero, suc, _+_, _-_, _≤_, _<_}
+use Prim.Native.Nat.{ℕ, zero, suc, _-_, _≤_, _<_}
 use native.Mathlib.Omega.{arith}
 use borrow.Author.Tests.{leb-true}
 use mir.Syntax.{w32}
@@ -9,9 +9,9 @@ use mir.Val.{SFits}
 use lib.ListN.{length, getD, take, drop}
 use lib.IntN.{ℤ, pos, _+ℤ_}
 use Rattle.rules.specs.ChooseLaws.{pick-same, pick-other}
-use Rattle.rules.specs.Loop.{Act, read as readAct, write, update, fault, done, Loop}
-use Rattle.rules.specs.Log.{Log}
-use Rattle.rules.specs.Serial.{Outcome, finished, failed, Result, along, from, serial}
+use Rattle.rules.specs.Loop.{Loop}
+use Rattle.rules.specs.Serial.{finished, failed, serial}
+use Rattle.rules.proofs.SerialFault.{Below, serial-below}
 use Rattle.syntax.specs.Known.{State, cells}
 use Rattle.syntax.specs.Text.{Verdict, refused, good, read}
 use Rattle.syntax.specs.Meaning.{loopOf}
@@ -28,36 +28,6 @@ use Rattle.answers.specs.Numbers.{refusal, servedNumbers}
 use Rattle.serving.specs.Serial.{servedBy, ServesBy, SerialOf, serialNumbers}
 use Rattle.preparing.proofs.Beginning.{Accepted, number-as, begins}
 use Rattle.fitting.proofs.Fits.{Fits, fit-zero}
-
--- ---- a fault lies in an iteration
-
-abbrev Below : ℕ → Outcome → Type 0
-Below b finished = Unit {0}
-Below b (failed n t i) = i < b
-
-module _ (l : Loop) where
-  along-below : (b i : ℕ) (a : Act) (m : ℕ → ℤ) (g : Log) (next : (ℕ → ℤ) → Log → Result) → i < b
-      → ((m : ℕ → ℤ) (g : Log) → Below b (next m g .outcome)) → Below b (along l i a m g next .outcome)
-  unfolding along
-  along-below b i (readAct c k) m g next h f = along-below b i (k (m c)) m _ next h f
-  along-below b i (write c v a) m g next h f = along-below b i a _ _ next h f
-  along-below b i (update c v a) m g next h f = along-below b i a _ _ next h f
-  along-below b i (fault n t) m g next h f = h
-  along-below b i done m g next h f = f m g
-
-  from-below : (k i : ℕ) (m : ℕ → ℤ) (g : Log) → Below (i + k) (from l k i m g .outcome)
-  unfolding from
-  from-below zero i m g = tt
-  from-below (suc k) i m g =
-      let e : suc i + k ≡ i + suc k = omega arith in
-      along-below (i + suc k) i (l .body i) m g (from l k (suc i)) (omega arith)
-      (λ m g. subst (λ (b : ℕ). Below b (from l k (suc i) m g .outcome)) e (from-below k (suc i) m g))
-
-  serial-below : Below (l .iterations) (serial l .outcome)
-  unfolding serial
-  serial-below =
-      let e : 0 + l .iterations ≡ l .iterations = omega arith in
-      subst (λ (b : ℕ). Below b (from l (l .iterations) 0 (l .entry) [] .outcome)) e (from-below (l .iterations) 0 (l .entry) [])
 
 -- ---- the answer's numbers
 

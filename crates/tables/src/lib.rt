@@ -1,7 +1,7 @@
 // The shadow tables in words of a lent workspace: crates/shadow says what they are, specs/Layout.antt where each word stands. Accesses are noted by
 // crates/noting, and crates/findings reads off what they came to.
 ghost use mathlib.Core.Path.{_≡_};
-ghost use Prim.Native.Nat.{_+_, _*_, _≤_, _<_};
+ghost use Prim.Native.Nat.{max, _+_, _*_, _≤_, _<_};
 ghost use lib.ListN.{length, replicate};
 ghost use Rattle.rules.specs.Choose.{pick};
 ghost use Rattle.tables.specs.Layout.{row-at, own-at, class-word};
@@ -62,6 +62,13 @@ pub fn choose(a: u32, b: u32, x: u32, y: u32) -> u32
     ensures { λ r. ⌜ r ≡ pick a b x y ⌝ }
 {
     if a == b { x } else { y }
+}
+
+// The higher of two.
+pub fn higher_of(a: u32, b: u32) -> u32
+    ensures { λ r. ⌜ r ≡ max a b ⌝ }
+{
+    if a < b { b } else { a }
 }
 
 // The number of the cell's class.

@@ -2,7 +2,6 @@
 use mathlib.Core.Path.{_≡_, sym, _∙_, ap, subst}
 use mathlib.Core.List.{List}
 use Prim.Native.Nat.{ℕ, _-_, _*_}
-use native.Mathlib.Omega.{arith}
 use lib.ListN.{length, take, drop}
 use lib.IntN.{ℤ}
 use Rattle.rules.specs.Loop.{Loop, Partition}
@@ -15,6 +14,7 @@ use Rattle.trial.specs.declared.Worker.{Worker}
 use Rattle.trial.specs.Running.{dealt, Run, Follows, CanFollow}
 use Rattle.trial.specs.Start.{Starts, CanTry, Begins}
 use Rattle.trial.specs.Standing.{Stands}
+use Rattle.fitting.proofs.Front.{front-is}
 use Rattle.view.specs.View.{Shown}
 use Rattle.view.specs.View.{ShowsAfter}
 
@@ -47,13 +47,13 @@ module _ (code : List ℕ) (g : Setting) (M : List ℤ) (C ps : List ℕ) (n : �
 
 -- the cells at the front of a longer list
 module _ (own : List ℤ) (M : List ℤ) (e : take (length M) own ≡ M) where
-  pub front-is : take (length M - 0) (drop 0 own) ≡ M
-  front-is = let z : length M - 0 ≡ length M = omega arith in ap (λ (n : ℕ). take n own) z ∙ e
+  same-front : take (length M - 0) (drop 0 own) ≡ M
+  same-front = front-is own M e
 
   pub can-front : (code : List ℕ) (g : Setting) (C ps : List ℕ) (n : ℕ) (U : List ℕ) → CanTry code g M C ps n → length U ≡ 2 * length M
       → CanTry code g (take (length M - 0) (drop 0 own)) C ps n × (length U ≡ 2 * length (take (length M - 0) (drop 0 own)))
-  can-front code g C ps n U c q = (subst (λ (m : List ℤ). CanTry code g m C ps n) (sym front-is) c, q ∙ ap (λ (m : List ℤ). 2 * length m) (sym front-is))
+  can-front code g C ps n U c q = (subst (λ (m : List ℤ). CanTry code g m C ps n) (sym same-front) c, q ∙ ap (λ (m : List ℤ). 2 * length m) (sym same-front))
 
   pub shows-front : (code : List ℕ) (g : Setting) (C ps : List ℕ) (n : ℕ) (U : List ℕ) → ShowsAfter code g (take (length M - 0) (drop 0 own)) C ps n U
       → ShowsAfter code g M C ps n U
-  shows-front code g C ps n U h = subst (λ (m : List ℤ). ShowsAfter code g m C ps n U) front-is h
+  shows-front code g C ps n U h = subst (λ (m : List ℤ). ShowsAfter code g m C ps n U) same-front h

@@ -6,6 +6,7 @@ use reference::Refusal;
 
 use crate::division;
 use crate::fortran;
+use crate::plans;
 use crate::runs;
 use crate::services::{check, check_and_load, load, look, run, Lent};
 use crate::tally::Tally;
@@ -14,13 +15,15 @@ use crate::tally::Tally;
 pub type Group = (&'static str, fn() -> bool);
 
 /// All groups.
-pub const GROUPS: [Group; 13] = [
+pub const GROUPS: [Group; 15] = [
     ("tables", tables),
     ("lent", lent),
     ("run-table", runs::table),
     ("look-table", runs::views),
+    ("plan-table", plans::table),
     ("runs", runs::random_runs),
     ("looks", runs::random_looks),
+    ("plans", plans::random_plans),
     ("refusals", runs::random_refusals),
     ("quotient", division::quotients),
     ("rdiv", division::rounded_quotients),

@@ -1,8 +1,8 @@
 //! Compares the product, linked as C links it, with the reference.
 //!
 //!     compare              every group of texts
-//!     compare GROUP..      some of them: tables, lent, run-table, look-table, runs, looks,
-//!                          refusals, quotient, rdiv, fortran, loops, damaged, noise
+//!     compare GROUP..      some of them: tables, lent, run-table, look-table, plan-table, runs,
+//!                          looks, plans, refusals, quotient, rdiv, fortran, loops, damaged, noise
 //!     compare stack KIB    how much stack the services need; whether it is at most so much
 //!     compare text FILE    what both answer for one text
 //!
@@ -11,6 +11,7 @@
 mod division;
 mod fortran;
 mod groups;
+mod plans;
 mod product;
 mod runs;
 mod services;

@@ -29,6 +29,14 @@ struct RunAnswer {
     cells: u32,
 }
 
+#[repr(C)]
+struct PlanAnswer {
+    number: u32,
+    line: u32,
+    v: i32,
+    stages: u32,
+}
+
 extern "C" {
     fn lrpd_check(text: *const u8, length: usize) -> CheckAnswer;
     fn lrpd_load(text: *const u8, length: usize, cells: *mut i32, count: usize) -> DoneAnswer;
@@ -54,6 +62,16 @@ extern "C" {
         schedule: *const u8,
         steps: usize,
     ) -> RunAnswer;
+    fn lrpd_plan(
+        text: *const u8,
+        length: usize,
+        cells: *const i32,
+        count: usize,
+        workspace: *mut u32,
+        words: usize,
+        list: *mut u16,
+        room: usize,
+    ) -> PlanAnswer;
 }
 
 /// Check: N and P.
@@ -133,6 +151,33 @@ pub fn run(
         assert_eq!(numbers, (0, 0, 0), "counts beside a refusal");
     }
     refused.map(|()| ran)
+}
+
+/// Plan: the number of stages; each iteration's goes to the list.
+pub fn plan(
+    text: &[u8],
+    cells: &[i32],
+    workspace: &mut [u32],
+    list: &mut [u16],
+) -> Result<u32, Refusal> {
+    // SAFETY: each pointer and length are one slice's; the workspace and the list are lent alone.
+    let answer = unsafe {
+        lrpd_plan(
+            text.as_ptr(),
+            text.len(),
+            cells.as_ptr(),
+            cells.len(),
+            workspace.as_mut_ptr(),
+            workspace.len(),
+            list.as_mut_ptr(),
+            list.len(),
+        )
+    };
+    let refused = refusal(answer.number, answer.line, answer.v);
+    if refused.is_err() {
+        assert_eq!(answer.stages, 0, "stages beside a refusal");
+    }
+    refused.map(|()| answer.stages)
 }
 
 /// Number 0 is no refusal, and then line and v are 0.

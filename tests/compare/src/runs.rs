@@ -8,7 +8,8 @@ use reference::syntax::{Class, Operation, Words};
 use reference::{read, run_serially, workspace_needed, Answer, Kind, Refusal, Serial};
 
 use crate::groups::drawn;
-use crate::services::{look, run, Lent};
+use crate::plans::plan_as_reference;
+use crate::services::{look, run, Lent, LentToPlan};
 use crate::tally::{Tally, Text};
 
 /// How many random loops are run and looked at, each for several numbers of processors and under
@@ -22,11 +23,13 @@ const ALL_UPDATING: [(&str, usize); 2] = [("passed", 2_500), ("rerun", 1_200)];
 /// In how many loops at least the word must turn from rerun to passed once the names in `lastprivate` alone
 /// stand in both clauses.
 const TURNED: usize = 700;
-/// How many random texts, damaged or not, are run and looked at with too little lent or too much.
+/// How many random texts, damaged or not, are run, looked at and planned with too little lent or too much.
 const REFUSALS: u64 = 10_000;
+/// How often at least a list must be refused for its length.
+const LISTS: usize = 800;
 
 /// A workspace large enough, with anything in it and at times some words to spare.
-fn workspace(rng: &mut Rng, cells: usize, processors: usize) -> Vec<u32> {
+pub fn workspace(rng: &mut Rng, cells: usize, processors: usize) -> Vec<u32> {
     let spare = rng.below(3);
     lend::workspace(rng, workspace_needed(cells, processors) + spare)
 }
@@ -395,7 +398,7 @@ pub fn random_runs() -> bool {
 }
 
 /// Whether each of these answers was given at least so often.
-fn all_often(tally: &Tally, counted: &str, answers: &[(&str, usize)]) -> bool {
+pub fn all_often(tally: &Tally, counted: &str, answers: &[(&str, usize)]) -> bool {
     let often = |&(answer, least): &(&str, usize)| tally.has_times(counted, answer, least);
     answers.iter().map(often).fold(true, |all, one| all & one)
 }
@@ -444,7 +447,7 @@ fn about(rng: &mut Rng, wanted: usize) -> usize {
 }
 
 /// Random loops, every other one damaged, with what is lent at times too short or too long and schedules
-/// that at times name a processor too many: Look and Run against the reference's.
+/// that at times name a processor too many: Look, Run and Plan against the reference's.
 pub fn random_refusals() -> bool {
     let mut tally = Tally::new(&format!("things lent, seeds 0 to {}", REFUSALS - 1));
     for seed in 0..REFUSALS {
@@ -473,6 +476,14 @@ pub fn random_refusals() -> bool {
         let mut view = vec![0; shown];
         let expected = reference::look(&bytes, lent.cells, &mut left, lent.schedule, &mut view);
         look(&mut text, &lent, shown, expected.map(|()| &view[..]));
+        let iterations = read(&bytes).map_or(5, |program| program.iteration_count() as usize);
+        let numbers = about(&mut rng, iterations);
+        let lent = LentToPlan {
+            cells: lent.cells,
+            workspace: lent.workspace,
+            list: &lend::list(&mut rng, numbers),
+        };
+        plan_as_reference(&mut text, &lent);
     }
-    tally.report()
+    tally.report() & tally.has_times("Plan", "refused 11", LISTS)
 }

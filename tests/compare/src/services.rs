@@ -14,6 +14,7 @@ fn guarded<T: Copy>(elements: &[T], guard: T) -> Vec<T> {
 
 const GUARD: i32 = 0x5eed_5eed;
 const GUARD_WORD: u32 = 0x5eed_5eed;
+const GUARD_NUMBER: u16 = 0x5eed;
 
 /// Check.
 pub fn check(text: &mut Text, expected: Result<(usize, usize), Refusal>) {
@@ -54,10 +55,10 @@ pub struct Lent<'l> {
     pub schedule: &'l [u8],
 }
 
-/// The workspace after an answer: as found after 1 to 8, else zero.
+/// The workspace after an answer: as found after 1 to 8 and 11, else zero.
 fn workspace_after(before: &[u32], number: Option<u32>) -> Vec<u32> {
     match number {
-        Some(1..=8) => before.to_vec(),
+        Some(1..=8 | 11) => before.to_vec(),
         _ => vec![0; before.len()],
     }
 }
@@ -104,4 +105,43 @@ pub fn look(text: &mut Text, lent: &Lent, shown: usize, expected: Result<&[u32],
     let service = format!("Look after {:?}", lent.schedule);
     text.compare(&service, &(answer, view), &(expected.map(|_| ()), seen));
     text.compare("Look's workspace", &workspace, &left);
+}
+
+/// What Plan is lent: cells, words of workspace and a list, both with anything in them.
+pub struct LentToPlan<'l> {
+    pub cells: &'l [i32],
+    pub workspace: &'l [u32],
+    pub list: &'l [u16],
+}
+
+/// A word for a number of stages of so many iterations.
+pub fn stages_word(stages: u32, iterations: usize) -> &'static str {
+    match stages {
+        0 => "no stages",
+        1 => "1 stage",
+        _ if stages as usize == iterations => "a stage for each iteration",
+        _ => "some stages",
+    }
+}
+
+/// Plan, which answers a number of stages and writes a list of them, or leaves the list.
+pub fn plan(text: &mut Text, lent: &LentToPlan, expected: Result<(u32, &[u16]), Refusal>) {
+    let cells = guarded(lent.cells, GUARD);
+    let mut workspace = guarded(lent.workspace, GUARD_WORD);
+    let mut list = guarded(lent.list, GUARD_NUMBER);
+    let answer = product::plan(
+        text.text,
+        &cells[1..=lent.cells.len()],
+        &mut workspace[1..=lent.workspace.len()],
+        &mut list[1..=lent.list.len()],
+    );
+    let word = |stages| stages_word(stages, lent.list.len());
+    text.count("Plan", answer.map(word));
+    let number = expected.err().map(|refusal| refusal.number);
+    let left = guarded(&workspace_after(lent.workspace, number), GUARD_WORD);
+    let written = guarded(expected.map_or(lent.list, |(_, list)| list), GUARD_NUMBER);
+    let stages = expected.map(|(stages, _)| stages);
+    text.compare("Plan", &(answer, list), &(stages, written));
+    text.compare("Plan's cells", &cells, &guarded(lent.cells, GUARD));
+    text.compare("Plan's workspace", &workspace, &left);
 }

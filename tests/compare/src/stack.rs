@@ -3,7 +3,7 @@
 
 use generate::tables::limits::deep_rows;
 use generate::tables::{text_rows, TextRow};
-use reference::{workspace_needed, Refusal};
+use reference::{read, workspace_needed, Refusal};
 use std::io;
 use std::process::{Command, Stdio};
 
@@ -88,9 +88,14 @@ pub fn child(index: usize) -> bool {
     let mut cells = vec![0; count];
     let mut view = vec![0; 2 * count];
     let mut workspace = vec![0; workspace_needed(count, processors)];
+    // A refused text may be too deep for the reference on this stack; any list will do for it.
+    let iterations = |_| read(&row.text).map_or(0, |program| program.iteration_count());
+    let mut list = vec![0; row.expected.map_or(0, iterations) as usize];
     let checked = product::check(&row.text).map_err(numbers);
     let loaded = product::load(&row.text, &mut cells).map_err(numbers);
     let looked = product::look(&row.text, &cells, &mut workspace, &[], &mut view).map_err(numbers);
     let ran = product::run(&row.text, &mut cells, &mut workspace, &[]).map_err(numbers);
-    checked == row.expected && [loaded, looked, ran.map(|_| ())] == [done; 3]
+    let planned = product::plan(&row.text, &cells, &mut workspace, &mut list).map_err(numbers);
+    let answers = [loaded, looked, ran.map(|_| ()), planned.map(|_| ())];
+    checked == row.expected && answers == [done; 4]
 }

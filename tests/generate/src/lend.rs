@@ -1,4 +1,4 @@
-//! What a caller lends: cells, schedules and workspaces.
+//! What a caller lends: cells, schedules, workspaces and lists; and orders for what a plan says.
 
 use crate::rng::Rng;
 
@@ -62,4 +62,17 @@ pub fn backward_turns(processors: usize, rounds: usize) -> Vec<u8> {
 /// A workspace with anything in it.
 pub fn workspace(rng: &mut Rng, length: usize) -> Vec<u32> {
     (0..length).map(|_| rng.bits() as u32).collect()
+}
+
+/// A list with anything in it.
+pub fn list(rng: &mut Rng, length: usize) -> Vec<u16> {
+    (0..length).map(|_| rng.bits() as u16).collect()
+}
+
+/// An order of iterations that have these stages: the stages in turn, the iterations of each in any order.
+pub fn order(rng: &mut Rng, stages: &[u16]) -> Vec<u32> {
+    let mut order: Vec<u32> = (0..stages.len() as u32).collect();
+    rng.shuffle(&mut order);
+    order.sort_by_key(|&iteration| stages[iteration as usize]);
+    order
 }

@@ -16,6 +16,7 @@ pub mod noise;
 pub mod reductions;
 pub mod rng;
 pub mod tables;
+pub mod wavefronts;
 
 pub use lines::Operation;
 pub use loops::{Copied, Knobs, Loop, Turned};

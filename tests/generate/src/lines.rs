@@ -28,12 +28,15 @@ impl Operation {
     }
 }
 
+/// How the directive begins.
+pub const DIRECTIVE: &str = "!$omp parallel do";
+
 /// The directive with these clauses and those of every loop, in any order.
 pub fn directive(rng: &mut Rng, clauses: &[String]) -> String {
     let mut clauses = clauses.to_vec();
     clauses.extend(["num_threads(@)", "%"].map(str::to_string));
     rng.shuffle(&mut clauses);
-    format!("!$omp parallel do {}", clauses.join(" "))
+    format!("{DIRECTIVE} {}", clauses.join(" "))
 }
 
 /// The clauses of a name in `lastprivate`, which is in `firstprivate` too in `copied` percent of the cases.

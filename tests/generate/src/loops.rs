@@ -2,7 +2,7 @@
 
 use crate::builder::Builder;
 use crate::layout::{write_text, Layout};
-use crate::lines::Operation;
+use crate::lines::{Operation, DIRECTIVE};
 use crate::rng::Rng;
 
 /// What kind of loop is wanted.
@@ -85,6 +85,8 @@ pub struct Loop {
     pub copied: Copied,
     /// Which operations its `reduction` clauses have.
     pub turned: Turned,
+    /// Whether it has no clause but `num_threads`.
+    pub bare: bool,
     /// The cells as Load must fill them; their number is N.
     pub cells: Vec<i32>,
 }
@@ -107,6 +109,7 @@ impl Loop {
             by_blocks: rng.chance(CLAUSES),
             copied: Copied::AsDrawn,
             turned: Turned::AsDrawn,
+            bare: false,
             cells,
         }
     }
@@ -149,6 +152,14 @@ impl Loop {
         }
     }
 
+    /// The same loop with no clause but `num_threads`. Its lines stand where they stood.
+    pub fn without_clauses(&self) -> Self {
+        Loop {
+            bare: true,
+            ..self.clone()
+        }
+    }
+
     /// Whether it was drawn with a `reduction` clause of this operation.
     pub fn has(&self, operation: Operation) -> bool {
         let clause = format!("{REDUCTION}{}:", operation.sign());
@@ -177,6 +188,9 @@ impl Loop {
         let number = self.processors.to_string();
         let clause = if self.by_blocks { CLAUSE } else { "" };
         let written = |line: &String| {
+            let bare = format!("{DIRECTIVE} num_threads(@)");
+            let is_bare = self.bare && line.starts_with(DIRECTIVE);
+            let line = if is_bare { &bare } else { line };
             let line = line.replace('@', &number).replace('%', clause);
             let line = with_marked(&line, ['{', '}'], self.copied != Copied::None);
             let line = with_marked(&line, ['[', ']'], self.copied == Copied::All);

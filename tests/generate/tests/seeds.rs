@@ -2,12 +2,12 @@
 
 use generate::layout::split_tokens;
 use generate::{
-    copies, damage, hostile, lend, neighbours, noise, reductions, Copied, Knobs, Loop, Operation,
-    Rng, Turned,
+    copies, damage, hostile, lend, neighbours, noise, reductions, wavefronts, Copied, Knobs, Loop,
+    Operation, Rng, Turned,
 };
 
 /// Texts of all kinds and a schedule, and cells.
-fn draw(seed: u64) -> ([Vec<u8>; 8], Vec<i32>) {
+fn draw(seed: u64) -> ([Vec<u8>; 9], Vec<i32>) {
     let mut rng = Rng::new(seed);
     let knobs = Knobs::mixed(&mut rng);
     let good = Loop::random(&mut rng, &knobs).text();
@@ -16,6 +16,7 @@ fn draw(seed: u64) -> ([Vec<u8>; 8], Vec<i32>) {
         neighbours::neighbours(&mut rng).text(),
         copies::copies(&mut rng).text(),
         reductions::reductions(&mut rng).text(),
+        wavefronts::wavefronts(&mut rng).0.text(),
         damage::damage(&good, &mut rng),
         noise::soup(&mut rng),
         noise::bytes(&mut rng),
@@ -46,7 +47,7 @@ fn most_texts_are_short_enough() {
 }
 
 /// A loop of each kind.
-fn one_of_each(seed: u64) -> [Loop; 5] {
+fn one_of_each(seed: u64) -> [Loop; 6] {
     let mut rng = Rng::new(seed);
     let knobs = Knobs::mixed(&mut rng);
     [
@@ -55,6 +56,7 @@ fn one_of_each(seed: u64) -> [Loop; 5] {
         neighbours::neighbours(&mut rng),
         copies::copies(&mut rng),
         reductions::reductions(&mut rng),
+        wavefronts::wavefronts(&mut rng).0,
     ]
 }
 
@@ -74,6 +76,25 @@ fn the_clause_changes_one_line() {
             let tokens = |line| split_tokens(line).len();
             let (one, other) = differing[0];
             assert_eq!(tokens(one), tokens(other) + 4);
+        }
+    }
+}
+
+/// Without clauses the directive has `num_threads` alone, and nothing else of the text changes.
+#[test]
+fn without_clauses_one_line_is_short() {
+    for seed in 0..200 {
+        for drawn in one_of_each(seed) {
+            let bare = drawn.without_clauses();
+            let eight = bare.with_processors(8).with_blocks(true);
+            let directives = only_directives([drawn, bare, eight.with_copied(Copied::All)]);
+            let tokens = directives.each_ref().map(|line| split_tokens(line));
+            assert_eq!(
+                tokens[1][..5],
+                ["!$omp", "parallel", "do", "num_threads", "("]
+            );
+            assert_eq!((tokens[1].len(), tokens[2].len()), (7, 7));
+            assert_eq!(tokens[2][5].trim_start_matches('0'), "8");
         }
     }
 }

@@ -1,10 +1,10 @@
-//! An interpreter of document 01 and of document 02, Points 1 to 6, written apart from the product and
+//! An interpreter of document 01 and of document 02, Points 1 to 7, written apart from the product and
 //! for obviousness: bytes, lines, tokens, a tree, names and limits, then evaluation with the whole list
-//! of accesses kept. Marks, obstacles, private values, partial results and counts are taken from that list as
-//! the documents word them.
+//! of accesses kept. Marks, obstacles, private values, partial results, counts and stages are taken from that
+//! list as the documents word them.
 //!
 //! Comments quote these documents; "READING 44" is the entry of that number in the project's reading
-//! of document 01, "P1.2" one of document 02, which stand behind every choice they leave.
+//! of document 01, "P1.2" or "7.3" one of document 02, which stand behind every choice they leave.
 
 mod accesses;
 mod draft;
@@ -18,6 +18,7 @@ mod names_limits;
 mod obstacles;
 mod order;
 mod parser;
+mod plan;
 mod print;
 pub mod program;
 mod reader;
@@ -31,10 +32,11 @@ mod trial;
 pub use accesses::{Access, Kind};
 pub use fortran::{fortran, fortran_of_all, Threads};
 pub use integers::{divide_rounded, divide_truncated};
+pub use plan::{depend, touches, Touched};
 pub use print::lrpd;
 pub use reader::read;
-pub use serial::{run_serially, Serial};
-pub use services::{check, load, look, run, serial, stepped, trial, workspace_needed};
+pub use serial::{run_in_order, run_serially, Serial};
+pub use services::{check, load, look, plan, run, serial, stepped, trial, workspace_needed};
 pub use steps::{share, Processor, Speculation};
 pub use trial::Trial;
 
@@ -47,7 +49,7 @@ pub struct Refusal {
 }
 
 impl Refusal {
-    /// A refusal before any iteration, for which v is 0; 1 and 5 to 8 have line 0.
+    /// A refusal before any iteration, for which v is 0; 1, 5 to 8 and 11 have line 0.
     pub(crate) fn of_text(number: u32, line: u32) -> Self {
         Refusal { number, line, v: 0 }
     }

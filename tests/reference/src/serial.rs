@@ -79,14 +79,18 @@ impl Memory for Holding {
     }
 }
 
-/// "Iterations go one after another, index 0 first, v being m + index".
-pub fn run_serially(program: &Program, entry: &[i32]) -> Serial {
+/// Whole iterations one after another, in the order in which their indices come; the first fault ends it.
+fn run_whole(
+    program: &Program,
+    entry: &[i32],
+    mut order: impl Iterator<Item = u32>,
+) -> (Result<(), Refusal>, Holding) {
     let mut holding = Holding {
         cells: entry.to_vec(),
         accesses: Vec::new(),
         iteration: 0,
     };
-    let outcome = (0..program.iteration_count()).try_for_each(|iteration| {
+    let outcome = order.try_for_each(|iteration| {
         holding.iteration = iteration;
         match run_iteration(program, program.variable_at(iteration), &mut holding) {
             Ok(()) => Ok(()),
@@ -94,6 +98,23 @@ pub fn run_serially(program: &Program, entry: &[i32]) -> Serial {
             Err(Stop::Paused) => unreachable!("the serial run does not pause"),
         }
     });
+    (outcome, holding)
+}
+
+/// What whole iterations in another order end in: their first fault, if they meet one, and the cells then.
+/// Accesses are made as in the serial run, in place.
+pub fn run_in_order(
+    program: &Program,
+    entry: &[i32],
+    order: &[u32],
+) -> (Result<(), Refusal>, Vec<i32>) {
+    let (outcome, holding) = run_whole(program, entry, order.iter().copied());
+    (outcome, holding.cells)
+}
+
+/// "Iterations go one after another, index 0 first, v being m + index".
+pub fn run_serially(program: &Program, entry: &[i32]) -> Serial {
+    let (outcome, holding) = run_whole(program, entry, 0..program.iteration_count());
     let (pairs, cells) = write_counts(&holding.accesses);
     Serial {
         outcome,

@@ -1,6 +1,7 @@
 //! Document 01, "Services and answers": Check, Load, Look and Run, with the trial and the serial run
-//! that Run is made of.
+//! that Run is made of. Document 02, Point 7: Plan.
 
+use crate::plan::stages;
 use crate::program::Program;
 use crate::reader::read;
 use crate::serial::{run_serially, Serial};
@@ -82,6 +83,29 @@ pub fn run(
     })
 }
 
+/// Plan "takes text, cells, workspace and a list of n 16-bit numbers. It leaves the cells as found, writes
+/// each iteration's stage and answers the number of stages; a refusal leaves the list as found." (7.1, 7.2)
+pub fn plan(
+    text: &[u8],
+    cells: &[i32],
+    workspace: &mut [u32],
+    list: &mut [u16],
+) -> Result<u32, Refusal> {
+    let program = read_to_run(text, cells.len(), workspace.len())?;
+    // "New: 11, list length not n, after 6, workspace as found."
+    if list.len() != program.iteration_count() as usize {
+        return Err(Refusal::of_text(11, 0));
+    }
+    // "Faults are answered as in Run, and workspace ends as there." (7.7)
+    workspace.fill(0);
+    let serial = run_serially(&program, cells);
+    serial.outcome?;
+    let stages = stages(&serial.accesses, program.iteration_count());
+    list.copy_from_slice(&stages);
+    // "The number of stages is the highest stage", 0 without iterations (7.5).
+    Ok(stages.into_iter().max().map_or(0, u32::from))
+}
+
 /// The trial: the schedule's bytes, then on to the end. It refuses as Run does (READING 93).
 pub fn trial(
     text: &[u8],
@@ -132,6 +156,15 @@ fn read_for(text: &[u8], cells: usize) -> Result<Program, Refusal> {
     Ok(program)
 }
 
+/// Numbers 1 to 6, in their order.
+fn read_to_run(text: &[u8], cells: usize, workspace: usize) -> Result<Program, Refusal> {
+    let program = read_for(text, cells)?;
+    if workspace < workspace_needed(cells, program.processors as usize) {
+        return Err(Refusal::of_text(6, 0));
+    }
+    Ok(program)
+}
+
 /// Numbers 1 to 7, in their order (READING 87).
 fn read_to_step(
     text: &[u8],
@@ -139,10 +172,7 @@ fn read_to_step(
     workspace: usize,
     schedule: &[u8],
 ) -> Result<Program, Refusal> {
-    let program = read_for(text, cells)?;
-    if workspace < workspace_needed(cells, program.processors as usize) {
-        return Err(Refusal::of_text(6, 0));
-    }
+    let program = read_to_run(text, cells, workspace)?;
     // "a schedule byte of P or more", wherever it stands (READING 73)
     if schedule
         .iter()

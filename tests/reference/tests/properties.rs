@@ -5,11 +5,12 @@ use generate::damage::damage;
 use generate::hostile::hostile;
 use generate::neighbours::neighbours;
 use generate::reductions::reductions;
+use generate::wavefronts::wavefronts;
 use generate::{lend, noise, Copied, Knobs, Loop, Rng, Turned};
 use reference::syntax::{Class, Operation, Words};
 use reference::{
-    check, load, look, lrpd, read, run, run_serially, serial, share, stepped, trial,
-    workspace_needed, Answer, Kind, Refusal, Serial, Speculation, Trial,
+    check, depend, load, look, lrpd, plan, read, run, run_in_order, run_serially, serial, share,
+    stepped, touches, trial, workspace_needed, Answer, Kind, Refusal, Serial, Speculation, Trial,
 };
 
 const LOOPS: u64 = 4000;
@@ -355,6 +356,111 @@ fn partial_results_merge_in_any_order() {
     println!("cells merged by sums, products and maxima: {merged:?}; to neither 0 nor what they were: {telling:?}");
     assert!(merged.iter().all(|&cells| cells > 250));
     assert!(telling.iter().all(|&cells| cells > 150));
+}
+
+/// The loops of all seeds, and as many with more iterations.
+fn loops_to_plan() -> impl Iterator<Item = (u64, Loop, Vec<i32>, Rng)> {
+    let longer = (0..LOOPS).map(|seed| {
+        let mut rng = Rng::new(seed);
+        let (drawn, cells) = wavefronts(&mut rng);
+        (seed, drawn, cells, rng)
+    });
+    loops().chain(longer)
+}
+
+/// Plan with as much lent as it asks for.
+fn planned(drawn: &Loop, lent: &[i32]) -> (Result<u32, Refusal>, Vec<u16>) {
+    let text = drawn.text();
+    let mut workspace = vec![1; workspace_needed(lent.len(), drawn.processors)];
+    let mut list = vec![0; read(&text).unwrap().iteration_count() as usize];
+    let answer = plan(&text, lent, &mut workspace, &mut list);
+    (answer, list)
+}
+
+/// Document 02, Point 7: "Running the stages in turn, the iterations of a stage in any order, must give the serial
+/// cells". Backward, a loop with more than one stage often gives others.
+#[test]
+fn stages_in_turn_give_the_serial_cells() {
+    let mut backward = [0; 2];
+    for (seed, drawn, lent, mut rng) in loops_to_plan() {
+        let (Ok(stages), list) = planned(&drawn, &lent) else {
+            continue;
+        };
+        let program = read(&drawn.text()).unwrap();
+        let serial = (Ok(()), run_serially(&program, &lent).cells_after);
+        for _ in 0..4 {
+            let order = lend::order(&mut rng, &list);
+            let ran = run_in_order(&program, &lent, &order);
+            assert_eq!(
+                ran,
+                serial,
+                "seed {seed} {order:?}\n{}",
+                show(&drawn.text())
+            );
+        }
+        let order: Vec<u32> = (0..list.len() as u32).rev().collect();
+        let other = run_in_order(&program, &lent, &order) != serial;
+        assert!(stages > 1 || !other);
+        backward[0] += u32::from(stages > 1);
+        backward[1] += u32::from(other);
+    }
+    println!(
+        "more than one stage: {}, other cells backward: {}",
+        backward[0], backward[1]
+    );
+    assert!(backward[0] > 4000 && backward[1] > 2000);
+}
+
+/// "no plan that stages the higher of two dependent iterations later has fewer stages": such a plan is Plan's own,
+/// and in it each iteration above stage 1 depends on a lower one of the stage before, so that a chain of dependent
+/// iterations goes through all stages.
+#[test]
+fn no_plan_has_fewer_stages() {
+    for (seed, drawn, lent, _) in loops_to_plan() {
+        let (Ok(stages), list) = planned(&drawn, &lent) else {
+            continue;
+        };
+        let accesses = serial(&drawn.text(), &lent).unwrap().accesses;
+        let touches = touches(&accesses, list.len() as u32);
+        for (higher, &stage) in list.iter().enumerate() {
+            let on: Vec<u16> = (0..higher)
+                .filter(|&lower| depend(&touches[lower], &touches[higher]))
+                .map(|lower| list[lower])
+                .collect();
+            assert!(on.iter().all(|&lower| lower < stage), "seed {seed}");
+            assert!(stage == 1 || on.contains(&(stage - 1)), "seed {seed}");
+            assert!(
+                stage >= 1 && usize::from(stage) <= higher + 1,
+                "seed {seed}"
+            );
+        }
+        assert_eq!(
+            list.iter().max().map_or(0, |&stage| u32::from(stage)),
+            stages
+        );
+    }
+}
+
+/// The number of processors and all clauses but those that make updates change nothing (7.4), and those change
+/// nothing in the list: an update touches and changes the cell that its assignment would read and write.
+#[test]
+fn clauses_leave_the_stages() {
+    for (seed, drawn, lent, _) in loops_to_plan().filter(|(seed, ..)| seed % 4 == 0) {
+        let expected = planned(&drawn, &lent);
+        for other in [
+            drawn.with_processors(9 - drawn.processors),
+            drawn.with_blocks(!drawn.by_blocks),
+            drawn.with_copied(Copied::None),
+            drawn.with_copied(Copied::All),
+            drawn.with_turned(Turned::Once),
+            drawn.without_clauses(),
+        ] {
+            if other.text().len() <= 2048 {
+                let text = show(&other.text());
+                assert_eq!(planned(&other, &lent), expected, "seed {seed}\n{text}");
+            }
+        }
+    }
 }
 
 /// The updates of each operation are frequent in loops that pass, rerun and fault, and so are all three in one

@@ -1,9 +1,10 @@
 //! The tables written by hand, row by row.
 
+use generate::tables::plans::{self, Planned};
 use generate::tables::{arguments, data, looks, prints, runs, text_rows};
 use generate::{lend, Rng};
 use reference::{
-    check, load, look, lrpd, run, serial, stepped, trial, workspace_needed, Answer, Refusal,
+    check, load, look, lrpd, plan, run, serial, stepped, trial, workspace_needed, Answer, Refusal,
 };
 
 /// Reports all rows that differ, not just the first.
@@ -46,6 +47,7 @@ fn refused_texts_leave_everything_as_found() {
         let mut cells = vec![77; 3];
         let mut workspace = vec![5; 10];
         let mut view = vec![9; 6];
+        let mut list = vec![8; 4];
         let expected = check(&row.text).unwrap_err();
         assert_eq!(load(&row.text, &mut cells), Err(expected));
         assert_eq!(
@@ -57,8 +59,12 @@ fn refused_texts_leave_everything_as_found() {
             expected
         );
         assert_eq!(
-            (cells, workspace, view),
-            (vec![77; 3], vec![5; 10], vec![9; 6])
+            plan(&row.text, &cells, &mut workspace, &mut list).unwrap_err(),
+            expected
+        );
+        assert_eq!(
+            (cells, workspace, view, list),
+            (vec![77; 3], vec![5; 10], vec![9; 6], vec![8; 4])
         );
     }
 }
@@ -153,6 +159,41 @@ fn look_shows_what_the_table_says() {
     assert_none(wrong);
 }
 
+/// Looking at every pair of so many iterations takes too long; `compare` has the rows with more.
+const PAIRED: usize = 1000;
+
+#[test]
+fn plan_answers_as_the_table_says() {
+    let mut wrong = Vec::new();
+    let long =
+        |row: &plans::PlanRow| row.list > PAIRED && matches!(row.expected, Planned::Stages(..));
+    for row in plans::rows().iter().filter(|row| !long(row)) {
+        let enough = || {
+            let (needed, processors) = check(&row.text).expect("a good text");
+            workspace_needed(needed, processors) + 1
+        };
+        let lent = vec![3; row.workspace.unwrap_or_else(enough)];
+        let (mut workspace, mut list) = (lent.clone(), vec![9; row.list]);
+        let answer = plan(&row.text, &row.cells, &mut workspace, &mut list);
+        let zero = vec![0; lent.len()];
+        let (expected, left) = match &row.expected {
+            Planned::Stages(stages, list) => ((Ok(*stages), list.clone()), zero),
+            &Planned::Fault(number, line, v) => {
+                ((Err(Refusal { number, line, v }), vec![9; row.list]), zero)
+            }
+            &Planned::Refused(number, line) => {
+                let refusal = Refusal { number, line, v: 0 };
+                ((Err(refusal), vec![9; row.list]), lent)
+            }
+        };
+        let planned = (answer, list);
+        if planned != expected || workspace != left {
+            wrong.push(format!("{}: {planned:?}, not {expected:?}", row.name));
+        }
+    }
+    assert_none(wrong);
+}
+
 #[test]
 fn lrpd_prints_what_the_table_says() {
     for (name, input, output) in prints::ROWS {
@@ -216,7 +257,9 @@ fn the_tables_have_many_rows() {
         looks::rows().len(),
         prints::ROWS.len(),
         arguments::rows().len(),
+        plans::rows().len(),
     );
-    println!("texts, loads, runs, looks, prints, arguments: {counts:?}");
+    println!("texts, loads, runs, looks, prints, arguments, plans: {counts:?}");
     assert!(counts.0 > 2600 && counts.2 > 1100 && counts.3 > 480 && counts.5 > 40);
+    assert!(counts.6 > 130);
 }

@@ -10,6 +10,7 @@ pub mod directives;
 pub mod do_lines;
 pub mod limits;
 pub mod looks;
+pub mod plans;
 pub mod precedence;
 pub mod prints;
 pub mod reductions;

@@ -1,0 +1,72 @@
+-- `planning::stages_of` meets its contract.
+use mathlib.Core.Path.{_≡_, _∙_, ap}
+use Prim.Native.Nat.{ℕ}
+use native.Mathlib.Omega.{arith}
+use mir.Syntax.{w32}
+use mir.Val.{toZ, ofZ}
+use lib.ListN.{length, replicate}
+use Rattle.planning.proofs.Parts.{then-sweep, plans-stages, fault-value, plans-fault}
+use borrow.Author.Needs.{needs}
+use Rattle.planning.proofs.stages_of.Statement.{statement}
+use Rattle.planning.proofs.stages_of.Tie as tie
+
+run-copied-requires : tie.Need-run-copied-requires
+run-copied-requires c κs = search needs
+
+value-at-requires : tie.Need-value-at-requires
+value-at-requires c κs =
+    let a = c .before .before .before .before .before .before .before .before .before .before .before .before .before .before .args in
+    let t = c .before .before .before .before .before .before .before .run-copied in
+    let e : toZ w32 (ofZ w32 (a .setting .from)) ≡ a .setting .from = search (needs, c .struct-told) in
+    fault-value (a .code .now) (a .setting) (a .cells .now) (a .classes .now) (length (a .w .now)) (t .result) (t .ensures .0) (c .before .before .if1 .taken) _ e _ (c .before .before .before .before .before .before .before .before .before .before .before .before .before .before .pre .0)
+
+same-length : tie.Need-same-length
+same-length c = search needs
+
+same-length-2 : tie.Need-same-length-2
+same-length-2 c = search needs
+
+returns : tie.Need-returns
+returns c =
+    let a = c .before .before .before .before .before .before .before .before .before .before .before .before .before .before .before .args in
+    let t = c .before .before .before .before .before .before .before .before .run-copied in
+    let e : toZ w32 (ofZ w32 (a .setting .from)) ≡ a .setting .from = search (needs, c .before .struct-told) in
+    let u : toZ w32 (ofZ w32 (c .value-at .result)) ≡ c .value-at .result = search needs in
+    (plans-fault (a .code .now) (a .setting) (a .cells .now) (a .classes .now) (length (a .w .now)) (t .result) (t .ensures .0) (c .before .before .before .if1 .taken) (a .list .now) _ _ _ e (c .value-at .ensures) u, t .ensures .1)
+
+sweep-copied-requires : tie.Need-sweep-copied-requires
+sweep-copied-requires c κs =
+    let a = c .before .before .before .before .before .before .before .before .before .before .before .before .before .before .before .args in
+    let t = c .before .before .before .before .before .before .before .before .run-copied in
+    (then-sweep (a .code .now) (a .setting) (a .cells .now) (a .classes .now) (length (a .w .now)) (t .result) (t .ensures .0) (c .before .before .before .if1 .left) _ _ (t .ensures .1) (search needs) (c .before .before .before .before .before .before .before .before .before .before .before .before .before .before .before .pre .0), search (needs, c .before .before .before .before .before .before .before .before .before .before .before .before .before .before .before .pre .1))
+
+same-length-3 : tie.Need-same-length-3
+same-length-3 c = search needs
+
+same-length-4 : tie.Need-same-length-4
+same-length-4 c = search needs
+
+same-length-5 : tie.Need-same-length-5
+same-length-5 c = search needs
+
+returns-2 : tie.Need-returns-2
+returns-2 c =
+    let a = c .before .before .before .before .before .before .before .before .before .before .before .before .before .before .before .before .before .before .before .before .before .args in
+    let t = c .before .before .before .before .before .before .before .before .before .before .before .before .before .before .run-copied in
+    let k = t .kept .1 .1 .1 .1 .1 .0 in
+    (plans-stages (a .code .now) (a .setting) (a .cells .now) (a .classes .now) (length (a .w .now)) (t .result) (t .ensures .0) (c .before .before .before .before .before .before .before .before .before .if1 .left) (a .list .now) _ _ _ k (c .before .before .before .before .before .sweep-copied .ensures .0), c .before .before .before .before .before .sweep-copied .ensures .1 ∙ ap (λ (n : ℕ). replicate {A = ℕ} n 0) k)
+
+pub stages-of-spec : {M : Type 1} → statement M
+stages-of-spec =
+    tie.close
+    (tie.spec
+    run-copied-requires
+    value-at-requires
+    same-length
+    same-length-2
+    returns
+    sweep-copied-requires
+    same-length-3
+    same-length-4
+    same-length-5
+    returns-2)

@@ -1,0 +1,2 @@
+-- What Plan's parts promise.
+pub mod Plan

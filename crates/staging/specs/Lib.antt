@@ -1,0 +1,4 @@
+-- The stage table in words.
+pub mod Rows
+-- What the words and the list stand for.
+pub mod Kept
