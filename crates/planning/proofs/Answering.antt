@@ -45,7 +45,8 @@ module _ (text : List ℕ) (M : List ℤ) (W L : List ℕ) where
         → L′ ≡ taken n (stagesWritten l L (serial l .outcome)) L → W′ ≡ taken n (replicate (length W) 0) W → Answers p L′ W′
     unfolding planOf listPlanned planWorkspace
     by-number p L′ W′ ep el ew = (
-      ep ∙ ap (λ (k : ℕ). taken k (staged l (s .from) (serial l .outcome)) (Refused k 0)) (sym en) ∙ sym (ap (λ (v : Verdict). planOf v M (length W) (length L)) e),
+      ep ∙ ap (λ (k : ℕ). taken k (staged l (s .from) (serial l .outcome)) (Refused k 0)) (sym en)
+          ∙ sym (ap (λ (v : Verdict). planOf v M (length W) (length L)) e),
       (
         el ∙ ap (λ (k : ℕ). taken k (stagesWritten l L (serial l .outcome)) L) (sym en) ∙ sym (ap (λ (v : Verdict). listPlanned v M (length W) L) e),
         ew ∙ ap (λ (k : ℕ). taken k (replicate (length W) 0) W) (sym en) ∙ sym (ap (λ (v : Verdict). planWorkspace v M W (length L)) e),

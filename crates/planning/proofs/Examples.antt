@@ -98,18 +98,18 @@ rows =
     ∷ row (planned (by-cases ("if (i <= 2) then" ∷ "y = x" ∷ "else" ∷ "x = 1" ∷ "end if" ∷ [])) zeros 4) (stages-are 4 (1 ∷ 2 ∷ 3 ∷ 4 ∷ []))
     ∷ row (planned (loop "integer x, a(3)" "" "do i = 1, 3" ("if (i <= 2) then" ∷ "a(i) = x" ∷ "else" ∷ "x = 1" ∷ "end if" ∷ [])) zeros 3)
     (stages-are 2 (1 ∷ 1 ∷ 2 ∷ []))
-    ∷ row (planned (loop "integer k, a(3)" "" "do i = 1, 2" ("if (i == 1) then" ∷ "a(k) = 1" ∷ "else" ∷ "k = 2" ∷ "end if" ∷ [])) (pos 1 ∷ pos 0 ∷ pos 0 ∷ pos 0 ∷ []) 2)
-    (stages-are 2 (1 ∷ 2 ∷ []))
+    ∷ row (planned (loop "integer k, a(3)" "" "do i = 1, 2" ("if (i == 1) then" ∷ "a(k) = 1" ∷ "else" ∷ "k = 2" ∷ "end if" ∷ []))
+    (pos 1 ∷ pos 0 ∷ pos 0 ∷ pos 0 ∷ []) 2) (stages-are 2 (1 ∷ 2 ∷ []))
     -- an iteration does not depend on itself; one that reads early and writes late comes after the lower readers of what it writes
     ∷ row (planned (loop "integer x" "" "do i = 1, 1" ("x = x * 2" ∷ [])) (pos 5 ∷ []) 1) (stages-are 1 (1 ∷ []))
-    ∷ row (planned (by-cases ("if (i == 1) then" ∷ "y = x" ∷ "end if" ∷ "if (i == 2) then" ∷ "y = y + 1" ∷ "end if" ∷ "if (i == 3) then" ∷ "z = x" ∷ "x = y" ∷ "end if"
-    ∷ "if (i == 4) then" ∷ "t = z" ∷ "end if" ∷ [])) zeros 4)
+    ∷ row (planned (by-cases ("if (i == 1) then" ∷ "y = x" ∷ "end if" ∷ "if (i == 2) then" ∷ "y = y + 1" ∷ "end if"
+    ∷ "if (i == 3) then" ∷ "z = x" ∷ "x = y" ∷ "end if" ∷ "if (i == 4) then" ∷ "t = z" ∷ "end if" ∷ [])) zeros 4)
     (stages-are 4 (1 ∷ 2 ∷ 3 ∷ 4 ∷ []))
     -- an `if` not taken touches nothing
     ∷ row (planned (loop "integer x" "" "do i = 1, 3" ("if (i == 2) then" ∷ "x = i" ∷ "end if" ∷ [])) (pos 5 ∷ []) 3) (stages-are 1 (1 ∷ 1 ∷ 1 ∷ []))
     -- the cells as lent decide, and not the text's data
-    ∷ row (planned (text ("integer k, a(2)" ∷ "data k /9/" ∷ "!$omp parallel do num_threads(2)" ∷ "do i = 1, 2" ∷ "a(k) = i" ∷ "end do" ∷ [])) (pos 1 ∷ pos 0 ∷ pos 0 ∷ []) 2)
-    (stages-are 2 (1 ∷ 2 ∷ []))
+    ∷ row (planned (text ("integer k, a(2)" ∷ "data k /9/" ∷ "!$omp parallel do num_threads(2)" ∷ "do i = 1, 2" ∷ "a(k) = i" ∷ "end do" ∷ []))
+    (pos 1 ∷ pos 0 ∷ pos 0 ∷ []) 2) (stages-are 2 (1 ∷ 2 ∷ []))
     -- no iterations
     ∷ row (planned (loop "integer a" "" "do i = 1, 0" ("a = i" ∷ [])) (pos 5 ∷ []) 0) (stages-are 0 [])
     -- "Faults are answered as in Run, and workspace ends as there"; "a refusal leaves the list as found"
@@ -132,6 +132,6 @@ unfolding rows word value wrap sum difference negation product greater larger qu
     find then-do values class-in after mentions inTerms inTerm inFactors inFactor inRef inLine names limits stands
     readExpr readTerms readTerm readFactors readFactor readRef readMore readDeclare readGive readClauses readDirective readLoop readAssign readWhen
     readEnd readStart readLine parse
-    judged judge-line judge read no-zeros alike summand multiplicand alone rival is-update remainder located divides called eval evalTerms evalTerm evalFactors evalFactor
-    place assigned exec class-of loopOf planOf listPlanned planWorkspace
+    judged judge-line judge read no-zeros alike summand multiplicand alone rival is-update remainder located divides called
+    eval evalTerms evalTerm evalFactors evalFactor place assigned exec class-of loopOf planOf listPlanned planWorkspace
 examples = refl

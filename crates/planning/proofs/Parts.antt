@@ -9,17 +9,16 @@ use lib.ListN.{length, take, drop, replicate}
 use lib.IntN.{ℤ, pos, _+ℤ_}
 use Rattle.rules.specs.ChooseLaws.{pick-same, pick-other}
 use Rattle.rules.specs.Loop.{Loop}
-use Rattle.rules.specs.Serial.{Outcome, finished, failed, serial}
+use Rattle.rules.specs.Serial.{finished, failed, serial}
 use Rattle.rules.proofs.SerialFault.{Below, serial-below}
 use Rattle.stepping.specs.declared.Point.{Point}
 use Rattle.trial.specs.declared.Setting.{Setting}
 use Rattle.serial.specs.Serving.{Serials, CanSerial, RunsSerially, outcome-of}
 use Rattle.sweeping.specs.Sweep.{Faultless, CanSweep, Sweeps}
-use Rattle.answers.specs.declared.Planned.{Planned}
 use Rattle.answers.specs.declared.Planned.the-variants.{Staged, Faulted}
 use Rattle.answers.specs.Answers.{staged, stagesWritten}
 use Rattle.fitting.proofs.Front.{front-is}
-use Rattle.planning.specs.Plan.{Ends, CanPlan, Plan, Plans}
+use Rattle.planning.specs.Plan.{Ends, CanPlan, Plans}
 
 -- ---- over a copy
 

@@ -1,6 +1,6 @@
 -- Document 02, Point 7: what Plan's list is good for, of every accepted text whose serial run meets no fault, over any cells. The definitions are in
 -- crates/reorder/specs; crates/reorder/proofs/Theorem.antt has the same for any loop, and what a stage is.
-use mathlib.Core.Path.{_≡_, sym, _∙_, ap, subst}
+use mathlib.Core.Path.{_≡_, sym, _∙_, ap}
 use mathlib.Core.List.{List}
 use Prim.Native.Nat.{ℕ, _≤_, _<_}
 use native.Mathlib.Omega.{arith}
@@ -9,7 +9,7 @@ use lib.IntN.{ℤ}
 use Rattle.rules.specs.Cells.{listed}
 use Rattle.rules.proofs.CellsLaws.{listed-at}
 use Rattle.rules.specs.Loop.{Loop}
-use Rattle.rules.specs.Serial.{Outcome, finished, serial}
+use Rattle.rules.specs.Serial.{finished, serial}
 use Rattle.reorder.specs.Stages.{stage, stage-count, Plan, plan-count}
 use Rattle.reorder.specs.Orders.{Staged}
 use Rattle.reorder.specs.Whole.{whole, in-order, Agrees}
@@ -18,7 +18,6 @@ use Rattle.reorder.proofs.OrderLaws.{in-first, in-second}
 use Rattle.syntax.specs.Known.{State}
 use Rattle.syntax.specs.Text.{Verdict, good, read}
 use Rattle.syntax.specs.Meaning.{loopOf}
-use Rattle.answers.specs.declared.Planned.{Planned}
 use Rattle.answers.specs.declared.Planned.the-variants.{Refused, Staged as Answered}
 use Rattle.answers.specs.Answers.{planNumber, taken, staged, stagesWritten, planOf, listPlanned}
 
@@ -53,8 +52,8 @@ module _ (text : List ℕ) (s : State) (e : read text ≡ good s) (m : List ℤ)
       ap (λ (v : Verdict). planOf v m w (length q)) e
       ∙ ap (λ (n : ℕ). taken n (staged l (s .from) (serial l .outcome)) (Refused n 0)) z ∙ ap (staged l (s .from)) f
 
-  -- "Running the stages in turn, the iterations of a stage in any order, must give the serial cells": every such order ends without a fault, in the serial cells, each
-  -- iteration with the accesses that it has in the serial run.
+  -- "Running the stages in turn, the iterations of a stage in any order, must give the serial cells": every such order ends without a fault, in the serial
+  -- cells, each iteration with the accesses that it has in the serial run.
   pub stages-in-turn : (o : List ℕ) → Staged (l .iterations) stage-of o → Agrees (serial l) (in-order (whole l) o (l .entry))
   stages-in-turn o h = any-loop.stages-in-turn l f o (staged-same (l .iterations) stage-of (stage (serial l .log)) stage-is o h)
 

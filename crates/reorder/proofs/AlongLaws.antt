@@ -9,7 +9,7 @@ use lib.IntN.{ℤ}
 use Rattle.rules.specs.Choose.{put}
 use Rattle.rules.specs.ChooseLaws.{put-same, put-other}
 use Rattle.rules.specs.Loop.{Act, read, write, update, fault, done, Loop, joining}
-use Rattle.rules.specs.Log.{reads, writes, updates, Access, access, Log, newest}
+use Rattle.rules.specs.Log.{reads, updates, Access, access, Log, newest}
 use Rattle.rules.specs.LogLaws.{Extends, same, more, extends-trans, has-more}
 use Rattle.rules.specs.Serial.{Outcome, finished, failed, Result, along}
 use Rattle.reorder.specs.Depends.{Touches, Changes}
@@ -48,7 +48,9 @@ module _ (l : Loop) (x : ℕ) where
   later : (a : Act) (m : ℕ → ℤ) (e : Access) (g : Log) (next : (ℕ → ℤ) → Log → Result)
       → ((g : Log) (next : (ℕ → ℤ) → Log → Result) → along l x a m g next ≡ resumed (alone a m .outcome) (alone a m) g next)
       → along l x a m (e ∷ g) next ≡ resumed (along l x a m (e ∷ []) ended .outcome) (along l x a m (e ∷ []) ended) g next
-  later a m e g next h = h (e ∷ g) next ∙ sym (ap (λ (r : Result). resumed (r .outcome) r g next) (h (e ∷ []) ended) ∙ resumed-more (alone a m .outcome) (alone a m) e g next)
+  later a m e g next h =
+      h (e ∷ g) next
+      ∙ sym (ap (λ (r : Result). resumed (r .outcome) r g next) (h (e ∷ []) ended) ∙ resumed-more (alone a m .outcome) (alone a m) e g next)
 
   -- what was listed before matters only to the list
   pub along-is : (a : Act) (m : ℕ → ℤ) (g : Log) (next : (ℕ → ℤ) → Log → Result) → along l x a m g next ≡ resumed (alone a m .outcome) (alone a m) g next
@@ -87,11 +89,16 @@ module _ (l : Loop) (x : ℕ) where
   along-frame done m g c h = refl
 
   -- it goes only by the cells that it touches
-  along-same : (a : Act) (m n : ℕ → ℤ) (g : Log) → ((c : ℕ) → Touches c (along l x a m g ended .log) → n c ≡ m c) → Same (along l x a m g ended) (along l x a n g ended)
+  along-same : (a : Act) (m n : ℕ → ℤ) (g : Log) → ((c : ℕ) → Touches c (along l x a m g ended .log) → n c ≡ m c)
+      → Same (along l x a m g ended) (along l x a n g ended)
   unfolding along
-  along-same (read d k) m n g h = subst (λ (y : ℤ). Same (along l x (k (m d)) m (access reads x d (m d) ∷ g) ended) (along l x (k y) n (access reads x d y ∷ g) ended)) (sym (h d (touches-more (along-extends (k (m d)) m _) (reads, newest)))) (along-same (k (m d)) m n _ h)
+  along-same (read d k) m n g h = subst
+      (λ (y : ℤ). Same (along l x (k (m d)) m (access reads x d (m d) ∷ g) ended) (along l x (k y) n (access reads x d y ∷ g) ended))
+      (sym (h d (touches-more (along-extends (k (m d)) m _) (reads, newest))))
+      (along-same (k (m d)) m n _ h)
   along-same (write d v a) m n g h = along-same a _ _ _ (λ c t. put-agree m n d c v v refl (h c t))
-  along-same (update d v a) m n g h = along-same a _ _ _ (λ c t. put-agree m n d c _ _ (ap (λ (y : ℤ). joining l d .join y v) (h d (touches-more (along-extends a _ _) (updates, newest)))) (h c t))
+  along-same (update d v a) m n g h = along-same a _ _ _
+      (λ c t. put-agree m n d c _ _ (ap (λ (y : ℤ). joining l d .join y v) (h d (touches-more (along-extends a _ _) (updates, newest)))) (h c t))
   along-same (fault n t) m k g h = record { log = refl; outcome = refl; cells = h }
   along-same done m n g h = record { log = refl; outcome = refl; cells = h }
 
@@ -99,4 +106,8 @@ module _ (l : Loop) (x : ℕ) where
 
 pub whole-local : (l : Loop) (i : ℕ) → Local i (whole l i)
 unfolding whole
-whole-local l i = record { own = λ m. along-own l i (l .body i) m [] of-nil; frame = λ m. along-frame l i (l .body i) m []; same = λ m n. along-same l i (l .body i) m n [] }
+whole-local l i = record {
+  own = λ m. along-own l i (l .body i) m [] of-nil;
+  frame = λ m. along-frame l i (l .body i) m [];
+  same = λ m n. along-same l i (l .body i) m n [];
+}

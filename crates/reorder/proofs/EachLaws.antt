@@ -5,7 +5,7 @@ use mathlib.Core.List.{[], _∷_, _++_}
 use Prim.Native.Nat.{ℕ}
 use native.Mathlib.Decide.{ℕ-discrete}
 use lib.IntN.{ℤ}
-use Rattle.rules.specs.Log.{Kind, Access, access, iteration, Log, only, each}
+use Rattle.rules.specs.Log.{Kind, access, iteration, Log, only, each}
 use Rattle.rules.specs.LogLaws.{only-same, only-other}
 
 -- all accesses are of iteration x

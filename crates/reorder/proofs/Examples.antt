@@ -57,6 +57,6 @@ rows =
 -- every row gives what is wanted
 pub examples : map (λ (r : Row). r .got) rows ≡ map (λ (r : Row). r .want) rows
 unfolding rows tasks word value wrap sum pick put listed only along from serial change either? both? find kind? has? weight ℕ-discrete changes? touches?
-    at? meet? depends? greatest behind stages stage stage-count used? different plan-count whole joined followed in-order latest opened needs marked note close noted
-    swept
+    at? meet? depends? greatest behind stages stage stage-count used? different plan-count whole joined followed in-order latest opened needs marked note
+    close noted swept
 examples = refl

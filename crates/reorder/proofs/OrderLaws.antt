@@ -59,7 +59,8 @@ before-append (k ∷ o) p b = elim (before-cases b) [
 
 pub once-append : (o p : List ℕ) → Once o → Once p → ((i : ℕ) → In i o → ¬ In i p) → Once (o ++ p)
 once-append [] p a b h = b
-once-append (j ∷ o) p (once-cons n a) b h = once-cons (λ (x : In j (o ++ p)). elim (in-append o p x) [ inl u ↦ n u | inr u ↦ h j at u ]) (once-append o p a b (λ i x. h i (after x)))
+once-append (j ∷ o) p (once-cons n a) b h = once-cons (λ (x : In j (o ++ p)). elim (in-append o p x) [ inl u ↦ n u | inr u ↦ h j at u ])
+    (once-append o p a b (λ i x. h i (after x)))
 
 -- ---- orders that keep a relation
 
@@ -101,4 +102,8 @@ range-before (suc k) s i j x g h = elim (in-cases h) [
 ]
 
 pub range-order : (n : ℕ) → Order n (range n 0)
-range-order n = record { once = range-once n 0; has = λ i h. range-in n 0 i (omega arith) (omega arith); small = λ i h. let b = range-bounds n 0 i h in omega arith }
+range-order n = record {
+  once = range-once n 0;
+  has = λ i h. range-in n 0 i (omega arith) (omega arith);
+  small = λ i h. let b = range-bounds n 0 i h in omega arith;
+}

@@ -64,7 +64,8 @@ module _ (t : ℕ → (ℕ → ℤ) → Result) (n : ℕ) (entry : ℕ → ℤ) 
   abbrev Stands : List ℕ → (ℕ → ℤ) → Type 0
   Stands r m = (c e : ℕ) → e ≤ n → ((j : ℕ) → j < n → Changes c (own j .log) → (j < e) ↔ (¬ In j r)) → m c ≡ cells-at e c
 
-  module _ (i : ℕ) (r : List ℕ) (m : ℕ → ℤ) (y : i < n) (h : (j : ℕ) → j < i → In j r → ¬ Dep j i) (out : ¬ In i r) (closed : Closed (i ∷ r)) (stands : Stands (i ∷ r) m) where
+  module _ (i : ℕ) (r : List ℕ) (m : ℕ → ℤ) (y : i < n) (h : (j : ℕ) → j < i → In j r → ¬ Dep j i) (out : ¬ In i r)
+      (closed : Closed (i ∷ r)) (stands : Stands (i ∷ r) m) where
     touched : (c : ℕ) → Touches c (own i .log) → m c ≡ cells-at i c
     touched c x = stands c i (omega arith) (λ j z w. (
       λ b q. elim (in-cases q) [ inl p ↦ omega arith | inr u ↦ h j b u (record { cell = c; left = changes-touches w; right = x; change = inl w }) ],
@@ -83,13 +84,19 @@ module _ (t : ℕ → (ℕ → ℤ) → Result) (n : ℕ) (entry : ℕ → ℤ) 
     here = law i y .same (cells-at i) m touched
 
     closed-next : Closed r
-    closed-next j k z x u v = elim (ℕ-discrete j i) [ yes p ↦ rw p (h k (omega arith) u) | no p ↦ closed j k z (λ q. elim (in-cases q) [ inl e ↦ p e | inr w ↦ x w ]) (after u) v ]
+    closed-next j k z x u v = elim (ℕ-discrete j i) [
+      | yes p ↦ rw p (h k (omega arith) u)
+      | no p ↦ closed j k z (λ q. elim (in-cases q) [ inl e ↦ p e | inr w ↦ x w ]) (after u) v
+    ]
 
     stands-next : Stands r (t i m .cells)
     unfolding own cells-at
     stands-next c e z f = elim (changes? c (own i .log)) [
-      | yes w ↦ here .cells c (changes-touches w)
-          ∙ sym (steady c (suc i) e (f i y w .1 out) z (λ j a b v. closed j i (omega arith) (λ q. elim (in-cases q) [ inl p ↦ omega arith | inr u ↦ f j (omega arith) v .0 b u ]) at (omega arith) (record { cell = c; left = changes-touches w; right = changes-touches v; change = inl w })))
+      | yes w ↦
+          here .cells c (changes-touches w)
+          ∙ sym (steady c (suc i) e (f i y w .1 out) z (λ j a b v. closed j i (omega arith)
+          (λ q. elim (in-cases q) [ inl p ↦ omega arith | inr u ↦ f j (omega arith) v .0 b u ])
+          at (omega arith) (record { cell = c; left = changes-touches w; right = changes-touches v; change = inl w })))
       | no w ↦ law i y .frame m c (λ v. w (rw (here .log) at v)) ∙ stands c e z (λ j a v. (
         λ b q. elim (in-cases q) [ inl p ↦ w (rw p at v) | inr u ↦ f j a v .0 b u ],
         λ x. f j a v .1 (λ u. x (after u)),
@@ -111,23 +118,31 @@ module _ (t : ℕ → (ℕ → ℤ) → Result) (n : ℕ) (entry : ℕ → ℤ) 
       mine = λ j h. absurd (in-nil h);
       others = λ j h. refl;
     }
-    ends (i ∷ r) m (keeps-cons h out ks) small closed stands = step (small i at) (ends r (t i m .cells) ks (λ j u. small j (after u)) (closed-next i r m (small i at) h out closed stands) (stands-next i r m (small i at) h out closed stands))
+    ends (i ∷ r) m (keeps-cons h out ks) small closed stands = step (small i at)
+        (ends r (t i m .cells) ks (λ j u. small j (after u)) (closed-next i r m (small i at) h out closed stands)
+        (stands-next i r m (small i at) h out closed stands))
       where
         step : i < n → Ends r (in-order t r (t i m .cells)) → Ends (i ∷ r) (followed (t i m) (in-order t r))
         step y e = rw (followed-finished (t i m) (in-order t r) (a .outcome ∙ fine i y)) (record {
           outcome = e .outcome;
           cells = e .cells;
           mine = λ j u. elim (ℕ-discrete i j) [
-            | yes p ↦ rw (← p) (each-append i (in-order t r (t i m .cells) .log) (t i m .log) ∙ ap (λ (g : Log). g ++ each i (t i m .log)) (e .others i out) ∙ of-each (law i y .own m) ∙ a .log)
-            | no p ↦ each-append j (in-order t r (t i m .cells) .log) (t i m .log) ∙ ap (λ (g : Log). each j (in-order t r (t i m .cells) .log) ++ g) (of-other p (law i y .own m)) ∙ append-nil (each j (in-order t r (t i m .cells) .log))
-                ∙ e .mine j (elim (in-cases u) [ inl q ↦ absurd (p (sym q)) | inr v ↦ v ])
+            | yes p ↦ rw (← p)
+                (each-append i rest (t i m .log) ∙ ap (λ (g : Log). g ++ each i (t i m .log)) (e .others i out) ∙ of-each (law i y .own m) ∙ a .log)
+            | no p ↦ elsewhere j p ∙ e .mine j (elim (in-cases u) [ inl q ↦ absurd (p (sym q)) | inr v ↦ v ])
           ];
-          others = λ j u. each-append j (in-order t r (t i m .cells) .log) (t i m .log) ∙ ap (λ (g : Log). each j (in-order t r (t i m .cells) .log) ++ g) (of-other (λ p. u (rw p at)) (law i y .own m)) ∙ append-nil (each j (in-order t r (t i m .cells) .log))
-              ∙ e .others j (λ v. u (after v));
+          others = λ j u. elsewhere j (λ p. u (rw p at)) ∙ e .others j (λ v. u (after v));
         })
           where
             a : Same (own i) (t i m)
             a = here i r m y h out closed stands
+
+            rest : Log
+            rest = in-order t r (t i m .cells) .log
+
+            elsewhere : (j : ℕ) → ¬ (i ≡ j) → each j (rest ++ t i m .log) ≡ each j rest
+            elsewhere j p =
+                each-append j rest (t i m .log) ∙ ap (λ (g : Log). each j rest ++ g) (of-other p (law i y .own m)) ∙ append-nil (each j rest)
 
     -- the whole of an order
     all : (o : List ℕ) → Order n o → Keeps Dep o → Ends o (in-order t o entry)
@@ -149,9 +164,12 @@ module _ (t : ℕ → (ℕ → ℤ) → Result) (n : ℕ) (entry : ℕ → ℤ) 
       well : own i .outcome ≡ finished
       well = finished-first (own i) (in-order t (range k (suc i))) h
 
-      go : Dec (i ≡ j) → (in-order t (range k (suc i)) (cells-at (suc i)) .outcome ≡ finished → (j : ℕ) → suc i ≤ j → j < suc i + k → own j .outcome ≡ finished) → own j .outcome ≡ finished
+      go : Dec (i ≡ j)
+          → (in-order t (range k (suc i)) (cells-at (suc i)) .outcome ≡ finished → (j : ℕ) → suc i ≤ j → j < suc i + k → own j .outcome ≡ finished)
+          → own j .outcome ≡ finished
       go (yes p) ih = subst (λ (x : ℕ). own x .outcome ≡ finished) p well
-      go (no p) ih = ih (ap (λ (r : Result). r .outcome) (sym (followed-finished (own i) (in-order t (range k (suc i))) well)) ∙ h) j (omega arith) (omega arith)
+      go (no p) ih =
+          ih (ap (λ (r : Result). r .outcome) (sym (followed-finished (own i) (in-order t (range k (suc i))) well)) ∙ h) j (omega arith) (omega arith)
 
   module _ (f : natural .outcome ≡ finished) where
     fine : (j : ℕ) → j < n → own j .outcome ≡ finished
@@ -179,4 +197,5 @@ module _ (t : ℕ → (ℕ → ℤ) → Result) (n : ℕ) (entry : ℕ → ℤ) 
     }
       where
         e : Ends o (in-order t o entry)
-        e = all fine o (q .order) (keeps Dep (q .order .once) (λ i j x a b d. q .keeps i j x (q .order .small j b) (rw (natural-log i (q .order .small i a), natural-log j (q .order .small j b)) d)))
+        e = all fine o (q .order) (keeps Dep (q .order .once)
+            (λ i j x a b d. q .keeps i j x (q .order .small j b) (rw (natural-log i (q .order .small i a), natural-log j (q .order .small j b)) d)))

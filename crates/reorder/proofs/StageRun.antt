@@ -16,7 +16,10 @@ use Rattle.reorder.proofs.StageLaws.{greatest-least, stage-suc}
 pub plan-respects : (g : Log) (n : ℕ) (s : ℕ → ℕ) → Plan g n s → (o : List ℕ) → Staged n s o → Respects n g o
 plan-respects g n s p o t = record {
   order = t .order;
-  keeps = λ i j x y d. elim (before-or (λ e. omega arith) (t .order .has i (omega arith)) (t .order .has j y)) [ inl b ↦ b | inr b ↦ absurd (omega (arith, t .turn j i b, p i j x y d)) ];
+  keeps = λ i j x y d. elim (before-or (λ e. omega arith) (t .order .has i (omega arith)) (t .order .has j y)) [
+    | inl b ↦ b
+    | inr b ↦ absurd (omega (arith, t .turn j i b, p i j x y d))
+  ];
 }
 
 -- ---- there is such an order
@@ -36,7 +39,10 @@ module _ (s : ℕ → ℕ) where
   unfolding having
   having-in k i [] h = absurd (in-nil h)
   having-in k i (j ∷ o) h = elim (ℕ-discrete (s j) k) [
-    | yes p ↦ elim (in-cases (rw (pick-same p (j ∷ having k o) (having k o)) at h)) [ inl e ↦ rw e (p, at) | inr t ↦ let r = having-in k i o t in (r .0, after (r .1)) ]
+    | yes p ↦ elim (in-cases (rw (pick-same p (j ∷ having k o) (having k o)) at h)) [
+      | inl e ↦ rw e (p, at)
+      | inr t ↦ let r = having-in k i o t in (r .0, after (r .1))
+    ]
     | no p ↦ let r = having-in k i o (rw (pick-other p (j ∷ having k o) (having k o)) at h) in (r .0, after (r .1))
   ]
 
@@ -67,12 +73,16 @@ module _ (s : ℕ → ℕ) where
   in-turns : (c k i : ℕ) (o : List ℕ) → k ≤ s i → s i < k + c → In i o → In i (turns c k o)
   unfolding turns
   in-turns zero k i o x y h = absurd (omega arith)
-  in-turns (suc c) k i o x y h = elim (ℕ-discrete (s i) k) [ yes p ↦ in-left (turns c (suc k) o) (in-having k i o p h) | no p ↦ in-right (having k o) (in-turns c (suc k) i o (omega arith) (omega arith) h) ]
+  in-turns (suc c) k i o x y h = elim (ℕ-discrete (s i) k) [
+    | yes p ↦ in-left (turns c (suc k) o) (in-having k i o p h)
+    | no p ↦ in-right (having k o) (in-turns c (suc k) i o (omega arith) (omega arith) h)
+  ]
 
   turns-once : (c k : ℕ) (o : List ℕ) → Once o → Once (turns c k o)
   unfolding turns
   turns-once zero k o h = once-nil
-  turns-once (suc c) k o h = once-append (having k o) (turns c (suc k) o) (having-once k h) (turns-once c (suc k) o h) (λ i x y. omega (arith, having-in k i o x .0, turns-in c (suc k) i o y .0))
+  turns-once (suc c) k o h = once-append (having k o) (turns c (suc k) o) (having-once k h) (turns-once c (suc k) o h)
+      (λ i x y. omega (arith, having-in k i o x .0, turns-in c (suc k) i o y .0))
 
   turns-turn : (c k : ℕ) (o : List ℕ) (i j : ℕ) → Before i j (turns c k o) → s i ≤ s j
   unfolding turns

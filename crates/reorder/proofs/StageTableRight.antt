@@ -44,13 +44,13 @@ module _ (g : Log) where
 
   opened-fresh : (i c : ℕ) (h : Log) (s : ℕ → ℕ) (r : Row) → ((¬ Touches c h) × Settled i c s r) ⊎ (Touches c h × Fresh i c h r) → Fresh i c h (opened s i r)
   unfolding opened
-  opened-fresh i c h s r (inl (n, w)) = rw (pick-other (λ (p : r .last ≡ suc i). omega (arith, w .last)) r (record { last = suc i; changes = false; changed = cond (r .changes) (max (r .changed) (latest s (r .last))) (r .changed); touched = max (r .touched) (latest s (r .last)) })) (record {
+  opened-fresh i c h s r (inl (n, w)) = rw (pick-other (λ (p : r .last ≡ suc i). omega (arith, w .last)) r _) (record {
     last = refl;
     changed-is = w .changed-is;
     touched-is = w .touched-is;
     changes-is = (λ (e : false ≡ true). absurd (let z : _≡_ {A = ℕ} 0 1 = cc in omega arith), λ x. absurd (n (changes-touches x)));
   })
-  opened-fresh i c h s r (inr (x, w)) = rw (pick-same (w .last) r (record { last = suc i; changes = false; changed = cond (r .changes) (max (r .changed) (latest s (r .last))) (r .changed); touched = max (r .touched) (latest s (r .last)) })) w
+  opened-fresh i c h s r (inr (x, w)) = rw (pick-same (w .last) r _) w
 
   needs-fresh : (i c : ℕ) (h : Log) (r : Row) (k : Kind) → Fresh i c h r → needs k r ≡ asks g i k c
   unfolding needs asks
@@ -68,29 +68,59 @@ module _ (g : Log) where
 
   marked-fresh : (i c : ℕ) (h : Log) (v : ℤ) (r : Row) (k : Kind) → Fresh i c h r → Fresh i c (access k i c v ∷ h) (marked k r)
   unfolding marked
-  marked-fresh i c h v r reads w = record { last = w .last; changed-is = w .changed-is; touched-is = w .touched-is; changes-is = (λ e. changes-older (w .changes-is .0 e), λ x. w .changes-is .1 (changes-read x)) }
-  marked-fresh i c h v r writes w = record { last = w .last; changed-is = w .changed-is; touched-is = w .touched-is; changes-is = (λ e. inl newest, λ x. refl) }
-  marked-fresh i c h v r updates w = record { last = w .last; changed-is = w .changed-is; touched-is = w .touched-is; changes-is = (λ e. inr newest, λ x. refl) }
+  marked-fresh i c h v r reads w = record {
+    last = w .last;
+    changed-is = w .changed-is;
+    touched-is = w .touched-is;
+    changes-is = (λ e. changes-older (w .changes-is .0 e), λ x. w .changes-is .1 (changes-read x));
+  }
+  marked-fresh i c h v r writes w = record {
+    last = w .last;
+    changed-is = w .changed-is;
+    touched-is = w .touched-is;
+    changes-is = (λ e. inl newest, λ x. refl);
+  }
+  marked-fresh i c h v r updates w = record {
+    last = w .last;
+    changed-is = w .changed-is;
+    touched-is = w .touched-is;
+    changes-is = (λ e. inr newest, λ x. refl);
+  }
 
   -- an access to another cell
   past : (i c d : ℕ) (h : Log) (v : ℤ) (k : Kind) (s : ℕ → ℕ) (r : Row) → d ≢ c → ((¬ Touches c h) × Settled i c s r) ⊎ (Touches c h × Fresh i c h r)
       → ((¬ Touches c (access k i d v ∷ h)) × Settled i c s r) ⊎ (Touches c (access k i d v ∷ h) × Fresh i c (access k i d v ∷ h) r)
   past i c d h v k s r p (inl (n, w)) = inl (λ x. n (touches-past p x), w)
-  past i c d h v k s r p (inr (x, w)) = inr ((x .0, older (x .1)), record { last = w .last; changed-is = w .changed-is; touched-is = w .touched-is; changes-is = (λ e. changes-older (w .changes-is .0 e), λ y. w .changes-is .1 (changes-past p y)) })
+  past i c d h v k s r p (inr (x, w)) = inr (
+    (x .0, older (x .1)),
+    record {
+      last = w .last;
+      changed-is = w .changed-is;
+      touched-is = w .touched-is;
+      changes-is = (λ e. changes-older (w .changes-is .0 e), λ y. w .changes-is .1 (changes-past p y));
+    },
+  )
 
   note-amid : (i c : ℕ) (h : Log) (v : ℤ) (k : Kind) (t : Table) → Amid i h t → Amid i (access k i c v ∷ h) (note (access k i c v) t)
   unfolding note over
   note-amid i c h v k t a = record {
     stages = a .stages;
     rows = λ d. elim (ℕ-discrete c d) [
-      | yes p ↦ inr ((k, rw p newest), rw (put-same p (t .rows) (marked k (opened (t .stages) i (t .rows c)))) (subst (λ (x : ℕ). Fresh i x (access k i c v ∷ h) (marked k (opened (t .stages) i (t .rows c)))) p (marked-fresh i c h v (opened (t .stages) i (t .rows c)) k fresh)))
-      | no p ↦ rw (put-other p (t .rows) (marked k (opened (t .stages) i (t .rows c)))) (past i d c h v k (t .stages) (t .rows d) p (a .rows d))
+      | yes p ↦ inr (
+        (k, rw p newest),
+        rw (put-same p (t .rows) (marked k r))
+            (subst (λ (x : ℕ). Fresh i x (access k i c v ∷ h) (marked k r)) p (marked-fresh i c h v r k fresh)),
+      )
+      | no p ↦ rw (put-other p (t .rows) (marked k r)) (past i d c h v k (t .stages) (t .rows d) p (a .rows d))
     ];
-    over-is = rw (a .over-is, needs-fresh i c h (opened (t .stages) i (t .rows c)) k fresh);
+    over-is = rw (a .over-is, needs-fresh i c h r k fresh);
     count = a .count;
   }
     where
-      fresh : Fresh i c h (opened (t .stages) i (t .rows c))
+      r : Row
+      r = opened (t .stages) i (t .rows c)
+
+      fresh : Fresh i c h r
       fresh = opened-fresh i c h (t .stages) (t .rows c) (a .rows c)
 
   noted-amid : {i : ℕ} {h : Log} (t : Table) → Of i h → Amid i [] t → Amid i h (noted h t)
@@ -116,19 +146,27 @@ module _ (g : Log) where
   closed-changes false x y (yes a) f = absurd (let e = f .1 a in let z : _≡_ {A = ℕ} 0 1 = cc in omega arith)
   closed-changes false x y (no n) f = omega arith
 
-  closed-row : (i c : ℕ) (s : ℕ → ℕ) (r : Row) → ((¬ Touches c (each i g)) × Settled i c s r) ⊎ (Touches c (each i g) × Fresh i c (each i g) r) → Settled (suc i) c (put s i (stage g i)) r
+  closed-row : (i c : ℕ) (s : ℕ → ℕ) (r : Row) → ((¬ Touches c (each i g)) × Settled i c s r) ⊎ (Touches c (each i g) × Fresh i c (each i g) r)
+      → Settled (suc i) c (put s i (stage g i)) r
   unfolding changed touched greatest
   closed-row i c s r (inl (n, w)) = record {
     last = omega (arith, w .last);
-    changed-is = ap (λ (x : ℕ). cond (r .changes) (max (r .changed) x) (r .changed)) (latest-put s i (r .last) (stage g i) (w .last)) ∙ w .changed-is
-        ∙ (let e : weight (changes? c (each i g)) (stage g i) ≡ 0 = weight-fails (changes? c (each i g)) (stage g i) (λ x. n (changes-touches x)) in omega arith);
-    touched-is = ap (λ (x : ℕ). max (r .touched) x) (latest-put s i (r .last) (stage g i) (w .last)) ∙ w .touched-is
-        ∙ (let e : weight (touches? c (each i g)) (stage g i) ≡ 0 = weight-fails (touches? c (each i g)) (stage g i) n in omega arith);
+    changed-is =
+        ap (λ (x : ℕ). cond (r .changes) (max (r .changed) x) (r .changed)) (latest-put s i (r .last) (stage g i) (w .last)) ∙ w .changed-is
+        ∙ omega (arith, weight-fails (changes? c (each i g)) (stage g i) (λ x. n (changes-touches x)));
+    touched-is =
+        ap (λ (x : ℕ). max (r .touched) x) (latest-put s i (r .last) (stage g i) (w .last)) ∙ w .touched-is
+        ∙ omega (arith, weight-fails (touches? c (each i g)) (stage g i) n);
   }
   closed-row i c s r (inr (t, w)) = record {
     last = omega (arith, w .last);
-    changed-is = ap (λ (x : ℕ). cond (r .changes) (max (r .changed) x) (r .changed)) now ∙ closed-changes (r .changes) (r .changed) (stage g i) (changes? c (each i g)) (w .changes-is) ∙ ap (λ (x : ℕ). max x (weight (changes? c (each i g)) (stage g i))) (w .changed-is);
-    touched-is = ap (λ (x : ℕ). max (r .touched) x) (now ∙ sym (weight-holds (touches? c (each i g)) (stage g i) t)) ∙ ap (λ (x : ℕ). max x (weight (touches? c (each i g)) (stage g i))) (w .touched-is);
+    changed-is =
+        ap (λ (x : ℕ). cond (r .changes) (max (r .changed) x) (r .changed)) now
+        ∙ closed-changes (r .changes) (r .changed) (stage g i) (changes? c (each i g)) (w .changes-is)
+        ∙ ap (λ (x : ℕ). max x (weight (changes? c (each i g)) (stage g i))) (w .changed-is);
+    touched-is =
+        ap (λ (x : ℕ). max (r .touched) x) (now ∙ sym (weight-holds (touches? c (each i g)) (stage g i) t))
+        ∙ ap (λ (x : ℕ). max x (weight (touches? c (each i g)) (stage g i))) (w .touched-is);
   }
     where
       now : latest (put s i (stage g i)) (r .last) ≡ stage g i
@@ -137,7 +175,10 @@ module _ (g : Log) where
   close-amid : (i : ℕ) (t : Table) → Amid i (each i g) t → Amid (suc i) [] (close i t)
   unfolding close over greatest
   close-amid i t a = record {
-    stages = λ j b. elim (ℕ-discrete i j) [ yes p ↦ put-same p (t .stages) (suc (t .over)) ∙ is ∙ ap (stage g) p | no p ↦ put-other p (t .stages) (suc (t .over)) ∙ a .stages j (omega arith) ];
+    stages = λ j b. elim (ℕ-discrete i j) [
+      | yes p ↦ put-same p (t .stages) (suc (t .over)) ∙ is ∙ ap (stage g) p
+      | no p ↦ put-other p (t .stages) (suc (t .over)) ∙ a .stages j (omega arith)
+    ];
     rows = λ c. inl (touches-nil, rw is (closed-row i c (t .stages) (t .rows c) (a .rows c)));
     over-is = refl;
     count = rw (a .count, is);
@@ -177,13 +218,22 @@ module _ (g : Log) where
     pub changed : (c : ℕ) → t .rows c .changed ≤ i
     pub touched : (c : ℕ) → t .rows c .touched ≤ i
 
-  row-small : (i c : ℕ) (h : Log) (s : ℕ → ℕ) (r : Row) → ((¬ Touches c h) × Settled i c s r) ⊎ (Touches c h × Fresh i c h r) → (r .last ≤ suc i) × (r .changed ≤ i) × (r .touched ≤ i)
-  row-small i c h s r (inl (n, w)) = (omega (arith, w .last), omega (arith, least (r .changes), w .changed-is, changed-small g c i), omega (arith, w .touched-is, touched-small g c i))
+  row-small : (i c : ℕ) (h : Log) (s : ℕ → ℕ) (r : Row) → ((¬ Touches c h) × Settled i c s r) ⊎ (Touches c h × Fresh i c h r)
+      → (r .last ≤ suc i) × (r .changed ≤ i) × (r .touched ≤ i)
+  row-small i c h s r (inl (n, w)) = (
+    omega (arith, w .last),
+    omega (arith, least (r .changes), w .changed-is, changed-small g c i),
+    omega (arith, w .touched-is, touched-small g c i),
+  )
     where
       least : (b : Bool) → r .changed ≤ cond b (max (r .changed) (latest s (r .last))) (r .changed)
       least true = omega arith
       least false = omega arith
-  row-small i c h s r (inr (x, w)) = (omega (arith, w .last), omega (arith, w .changed-is, changed-small g c i), omega (arith, w .touched-is, touched-small g c i))
+  row-small i c h s r (inr (x, w)) = (
+    omega (arith, w .last),
+    omega (arith, w .changed-is, changed-small g c i),
+    omega (arith, w .touched-is, touched-small g c i),
+  )
 
   amid-small : (i : ℕ) (h : Log) (t : Table) → Amid i h t → Small i t
   amid-small i h t a = record {
@@ -204,12 +254,16 @@ during-small g i = amid-small g i (each i g) (noted (each i g) (swept g i)) (not
 swept-past : (e : Access) (g : Log) (n : ℕ) → n ≤ iteration e → swept (e ∷ g) n ≡ swept g n
 unfolding swept
 swept-past e g zero b = refl
-swept-past e g (suc i) b = ap (λ (h : Log). close i (noted h (swept (e ∷ g) i))) (only-other (λ j. j) e (λ (p : iteration e ≡ i). omega arith) g) ∙ ap (λ (t : Table). close i (noted (each i g) t)) (swept-past e g i (omega arith))
+swept-past e g (suc i) b =
+    ap (λ (h : Log). close i (noted h (swept (e ∷ g) i))) (only-other (λ j. j) e (λ (p : iteration e ≡ i). omega arith) g)
+    ∙ ap (λ (t : Table). close i (noted (each i g) t)) (swept-past e g i (omega arith))
 
 -- at an access of the iteration one step is made
 pub during-access : (e : Access) (g : Log) → during (e ∷ g) (iteration e) ≡ note e (during g (iteration e))
 unfolding during noted
-during-access e g = ap (λ (h : Log). noted h (swept (e ∷ g) (iteration e))) (only-same (λ j. j) e refl g) ∙ ap (λ (t : Table). note e (noted (each (iteration e) g) t)) (swept-past e g (iteration e) (omega arith))
+during-access e g =
+    ap (λ (h : Log). noted h (swept (e ∷ g) (iteration e))) (only-same (λ j. j) e refl g)
+    ∙ ap (λ (t : Table). note e (noted (each (iteration e) g) t)) (swept-past e g (iteration e) (omega arith))
 
 -- and one at its end, before the next has an access
 pub during-end : (g : Log) (i : ℕ) → each (suc i) g ≡ [] → during g (suc i) ≡ close i (during g i)

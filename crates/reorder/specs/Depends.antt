@@ -75,10 +75,20 @@ meet? [] h = no (λ m. touches-nil (m .left))
 meet? (access q i d v ∷ g) h = elim (at? d (access q i d v ∷ g) h) [
   | yes a ↦ yes (record { cell = d; left = (q, newest); right = a .0; change = a .1 })
   | no n ↦ elim (meet? g h) [
-    | yes m ↦ yes (record { cell = m .cell; left = (m .left .0, older (m .left .1)); right = m .right; change = elim (m .change) [ inl (inl x) ↦ inl (inl (older x)) | inl (inr x) ↦ inl (inr (older x)) | inr x ↦ inr x ] })
+    | yes m ↦ yes (record {
+      cell = m .cell;
+      left = (m .left .0, older (m .left .1));
+      right = m .right;
+      change = elim (m .change) [ inl (inl x) ↦ inl (inl (older x)) | inl (inr x) ↦ inl (inr (older x)) | inr x ↦ inr x ];
+    })
     | no r ↦ no (λ m. elim (ℕ-discrete d (m .cell)) [
       | yes p ↦ n (subst (λ (c : ℕ). At c (access q i d v ∷ g) h) (sym p) (m .right, m .change))
-      | no p ↦ r (record { cell = m .cell; left = touches-past p (m .left); right = m .right; change = elim (m .change) [ inl x ↦ inl (changes-past p x) | inr x ↦ inr x ] })
+      | no p ↦ r (record {
+        cell = m .cell;
+        left = touches-past p (m .left);
+        right = m .right;
+        change = elim (m .change) [ inl x ↦ inl (changes-past p x) | inr x ↦ inr x ];
+      })
     ])
   ]
 ]

@@ -1,6 +1,6 @@
 -- The stages from the accesses in serial order, a few steps for each: what is kept of a cell are the iteration that touched it last and two numbers of the
--- iterations before that one (src/lib.rt, Row). The stage of the last toucher is known only when that iteration has ended, so it enters the two numbers when the next
--- iteration touches the cell.
+-- iterations before that one (src/lib.rt, Row). The stage of the last toucher is known only when that iteration has ended, so it enters the two numbers when
+-- the next iteration touches the cell.
 use mathlib.Core.List.{[], _∷_}
 use mathlib.Core.Bool.{true, false, cond}
 use Prim.Native.Nat.{ℕ, zero, suc, max}
@@ -21,7 +21,12 @@ latest s (suc i) = s i
 
 -- the row as iteration i finds it: at its first touch the last toucher becomes one of the lower iterations
 unfoldable pub opened : (ℕ → ℕ) → ℕ → Row → Row
-opened s i r = pick (r .last) (suc i) r (record { last = suc i; changes = false; changed = cond (r .changes) (max (r .changed) (latest s (r .last))) (r .changed); touched = max (r .touched) (latest s (r .last)) })
+opened s i r = pick (r .last) (suc i) r (record {
+  last = suc i;
+  changes = false;
+  changed = cond (r .changes) (max (r .changed) (latest s (r .last))) (r .changed);
+  touched = max (r .touched) (latest s (r .last));
+})
 
 -- what an access has to come after: a read after what changes the cell, a write or an update after all that touches it
 unfoldable pub needs : Kind → Row → ℕ

@@ -3,19 +3,18 @@ use mathlib.Core.Path.{_≡_, refl, sym, _∙_, ap}
 use mathlib.Core.Logic.{_≢_}
 use mathlib.Core.Bool.{false, cond}
 use mathlib.Core.List.{List}
-use Prim.Native.Nat.{ℕ, zero, suc, max, _+_, _-_, _*_, _≤_, _<_}
+use Prim.Native.Nat.{ℕ, zero, suc, max, _+_, _-_, _≤_, _<_}
 use native.Mathlib.Decide.{ℕ-discrete}
 use native.Mathlib.Numerals.{add-one}
 use native.Mathlib.Omega.{arith}
-use lib.ListN.{length, set, length-set}
+use lib.ListN.{set, length-set}
 use lib.Seq.{getD-set-same, getD-set-other}
 use lib.IntN.{ℤ}
-use Rattle.rules.specs.Choose.{put}
 use Rattle.rules.specs.ChooseLaws.{pick-same, pick-other, put-same, put-other}
 use Rattle.rules.specs.Log.{Kind, writes, updates, access}
 use Rattle.reorder.specs.declared.Row.{Row}
 use Rattle.reorder.specs.StageTable.{Table, latest, opened, needs, marked, note, close}
-use Rattle.staging.specs.Rows.{stage-in, row-in, row-set, found, noted-in, over-in, Notable, Noted}
+use Rattle.staging.specs.Rows.{stage-in, found, noted-in, over-in, Notable, Noted}
 use Rattle.staging.specs.Kept.{Kept}
 use Rattle.staging.proofs.RowLaws.{length-row, row-same, row-other}
 

@@ -1,9 +1,7 @@
 -- The sweep at its start, between iterations, and at its end.
 use mathlib.Core.Path.{_≡_, refl, sym, _∙_, ap, subst}
-use mathlib.Core.Bool.{false}
 use mathlib.Core.List.{List, []}
 use Prim.Native.Nat.{ℕ, zero, suc, max, _+_, _*_, _-_, _≤_, _<_}
-use native.Mathlib.Decide.{ℕ-discrete}
 use native.Mathlib.Numerals.{add-one}
 use native.Mathlib.Omega.{arith}
 use lib.ListN.{length, getD, set, replicate, length-replicate}
@@ -13,11 +11,13 @@ use Rattle.rules.specs.Cells.{listed}
 use Rattle.rules.proofs.CellsLaws.{listed-length, listed-at}
 use Rattle.rules.specs.Loop.{Loop}
 use Rattle.rules.specs.Log.{Log, only, each}
-use Rattle.rules.specs.Serial.{finished, Result, along, from, serial}
-use Rattle.operands.specs.Pending.{pendings, Holding}
+use Rattle.rules.specs.Serial.{Result, along, from, serial}
+use Rattle.operands.specs.Pending.{pendings}
 use Rattle.trial.specs.declared.Setting.{Setting}
 use Rattle.reorder.specs.Stages.{greatest, stage, stage-count}
 use Rattle.reorder.specs.StageTable.{close, noted, swept, during}
+use Rattle.tables.proofs.Start.{getD-zeros}
+use Rattle.reorder.proofs.StageLaws.{greatest-same}
 use Rattle.reorder.proofs.StageTableRight.{swept-stages, during-small, during-end}
 use Rattle.staging.specs.Rows.{stage-in, row-in}
 use Rattle.staging.proofs.Keeping.{kept-close}
@@ -26,11 +26,6 @@ use Rattle.sweeping.specs.Sweep.{Faultless, Planned, Serves, Before, Aft
 use Rattle.sweeping.proofs.Stepping.{Under}
 
 -- ---- the start
-
-getD-zero : (n j : ℕ) → _≡_ {A = ℕ} (getD (replicate n 0) j 0) 0
-getD-zero zero j = refl
-getD-zero (suc n) zero = refl
-getD-zero (suc n) (suc j) = getD-zero n j
 
 module _ (code : List ℕ) (s : Setting) (l : Loop) (M : List ℤ) (C : List ℕ) (w : ℕ) (f : Faultless code s l M C w) where
   pub sweep-start : (W L : List ℕ) → W ≡ replicate w 0 → length L ≡ s .iterations → Before l 0 M W L
@@ -41,7 +36,7 @@ module _ (code : List ℕ) (s : Setting) (l : Loop) (M : List ℤ) (C : List ℕ
     stands = record {
       cells = f .serials .entry .cells;
       kept = record {
-        rows = λ c b. rw (e, getD-zero w (c * 4), getD-zero w (c * 4 + 1), getD-zero w (c * 4 + 2), getD-zero w (c * 4 + 3));
+        rows = λ c b. rw (e, getD-zeros w (c * 4), getD-zeros w (c * 4 + 1), getD-zeros w (c * 4 + 2), getD-zeros w (c * 4 + 3));
         stages = λ j b. absurd (omega arith);
         room = omega (arith, f .serials .entry .room, ap length e, length-replicate {A = ℕ} w 0);
         numbers = n ∙ sym (f .serials .iterations);
@@ -107,7 +102,8 @@ module _ (l : Loop) (i : ℕ) (M : List ℤ) (W L : List ℕ) where
         g = a .g;
         stands = record {
           cells = a .stands .cells;
-          kept = rw (e, during-end (a .g) i fresh) (kept-close (l .size) (l .iterations) i W L (during (a .g) i) (a .stands .kept) (during-small (a .g) i .last) b);
+          kept = rw (e, during-end (a .g) i fresh)
+              (kept-close (l .size) (l .iterations) i W L (during (a .g) i) (a .stands .kept) (during-small (a .g) i .last) b);
           upto = λ j y. a .stands .upto j (omega arith);
         };
         fresh = fresh;
@@ -131,11 +127,6 @@ highest-next L i x b = rw (add-one i) (rw (getD-set-same L i x 0 b, below i (ome
     below zero h = unfold greatest in refl
     below (suc k) h = unfold greatest in rw (below k (omega arith), getD-set-other L i k x 0 (omega arith))
 
-greatest-same : (k : ℕ) (f h : ℕ → ℕ) → ((j : ℕ) → j < k → f j ≡ h j) → greatest k f ≡ greatest k h
-unfolding greatest
-greatest-same zero f h e = refl
-greatest-same (suc k) f h e = rw (greatest-same k f h (λ j b. e j (omega arith)), e k (omega arith))
-
 -- ---- the end
 
 pub sweep-end : (l : Loop) (M : List ℤ) (W L : List ℕ) (r i : ℕ) → i ≡ l .iterations → Before l i M W L → r ≡ greatest i (stage-in L) → Planned l L r
@@ -145,8 +136,8 @@ sweep-end l M W L r i q b e =
     let z : n - i ≡ 0 = omega arith in
     let log : serial l .log ≡ b .g = ap (λ (x : Result). x .log) (b .result ∙ ap (λ (k : ℕ). from l k i (b .m) (b .g)) z) in
     let at : (j : ℕ) → j < n → stage-in L j ≡ stage (serial l .log) j
-    = (λ j y. b .stands .kept .stages j (omega arith) ∙ ap (λ (t : _). t .stages j) (during-fresh l i M W L (b .g) (b .fresh)) ∙ swept-stages (b .g) i j (omega arith)
-    ∙ ap (λ (g : Log). stage g j) (sym log)) in
+    = (λ j y. b .stands .kept .stages j (omega arith) ∙ ap (λ (t : _). t .stages j) (during-fresh l i M W L (b .g) (b .fresh))
+    ∙ swept-stages (b .g) i j (omega arith) ∙ ap (λ (g : Log). stage g j) (sym log)) in
     record {
       stages = ext-getD 0 L (listed n (stage (serial l .log))) (b .stands .kept .numbers ∙ sym (listed-length n (stage (serial l .log))))
           (λ j y. let y′ : j < n = omega (arith, y, b .stands .kept .numbers) in at j y′ ∙ sym (listed-at n (stage (serial l .log)) j 0 y′));

@@ -1,17 +1,16 @@
 -- An iteration of the sweep, step by step: its cells and accesses are those of the serial run, and words and list keep the stage table.
 use mathlib.Core.Path.{_≡_, refl, sym, _∙_, ap, subst}
 use mathlib.Core.Bool.{Bool, true, false}
-use mathlib.Core.List.{List, [], _∷_}
-use Prim.Native.Nat.{ℕ, zero, suc, _+_, _-_, _≤_, _<_}
+use mathlib.Core.List.{List, _∷_}
+use Prim.Native.Nat.{ℕ, suc, _+_, _-_, _<_}
 use native.Mathlib.Omega.{arith}
-use lib.ListN.{length, getD, set, length-set}
+use lib.ListN.{length, set, length-set}
 use lib.IntN.{ℤ}
 use Rattle.rules.specs.Choose.{put}
 use Rattle.rules.specs.Cells.{cellOf, listed}
 use Rattle.rules.proofs.CellsLaws.{listed-length, cell-listed}
-use Rattle.rules.specs.Operation.{operation}
-use Rattle.rules.specs.Loop.{Act, read, write, update, fault, done, Loop, joining}
-use Rattle.rules.specs.Log.{Kind, reads, writes, updates, access, Log, each}
+use Rattle.rules.specs.Loop.{Act, done, Loop, joining}
+use Rattle.rules.specs.Log.{Kind, reads, writes, updates, access, Log}
 use Rattle.rules.specs.LogLaws.{only-other}
 use Rattle.rules.specs.Proper.{Sized}
 use Rattle.rules.specs.Serial.{finished, failed, Result, along, from, serial}
@@ -27,7 +26,6 @@ use Rattle.machine.specs.declared.Advanced.{Advanced}
 use Rattle.reorder.specs.StageTable.{note, during}
 use Rattle.reorder.proofs.StageTableRight.{during-small, during-access}
 use Rattle.staging.specs.Rows.{noted-in, over-in}
-use Rattle.staging.specs.Kept.{Kept}
 use Rattle.staging.proofs.Keeping.{kept-notable, kept-note, kept-over}
 use Rattle.sweeping.specs.Moves.{Scene, joined-in, moved, Accessible, CanMove, Comes, CanGo, Goes}
 use Rattle.sweeping.specs.Sweep.{Serves, Stands, After}
@@ -135,7 +133,8 @@ module _ (code C L : List ℕ) (v : ℤ) (i : ℕ) (l : Loop) where
           let y = sized-as _ e in
           let x : cellOf (z .cells) c ≡ u .m c = stands-at l i (z .cells) (z .words) L (u .m) (u .g) (u .stands) c (y .0) in
           let low : w .reached .depth < 32 = omega (arith, rw q at (w .comes .room)) in
-          let f : pendings (set (w .pending) (w .reached .depth) (cellOf (z .cells) c)) (w .reached .depth + 1) ≡ u .m c ∷ pendings (w .pending) (w .reached .depth)
+          let f : pendings (set (w .pending) (w .reached .depth) (cellOf (z .cells) c)) (w .reached .depth + 1)
+          ≡ u .m c ∷ pendings (w .pending) (w .reached .depth)
           = pendings-push (w .pending) (w .reached .depth) (cellOf (z .cells) c) (omega (arith, w .comes .size)) ∙ rw x in
           rw h (record {
             m = u .m;

@@ -1,9 +1,8 @@
 // The sweep that finds the stages (document 02, Point 7): the serial run of a loop that is known to meet no fault, once more, with its accesses noted in the stage
 // table (crates/staging) in place of the shadow tables. An iteration's stage is written to the list at its end.
 ghost use mathlib.Core.Path.{_≡_};
-ghost use Prim.Native.Nat.{_+_, _≤_, _<_};
+ghost use Prim.Native.Nat.{_+_, _<_};
 ghost use lib.ListN.{length};
-ghost use lib.IntN.{pos, _+ℤ_};
 ghost use Rattle.sweeping.specs.Moves.{scene, joined-in, CanMake, moved, CanGo, Goes};
 ghost use Rattle.sweeping.specs.Sweep.{CanIterate, Iterates, CanSweep, Sweeps};
 use machine::Advanced;
@@ -50,33 +49,33 @@ fn make(
     let done = r.done;
     match done {
         Move::Read { cell } => {
-            let after = note_read(w, list, i, cell, over);
+            let after_read = note_read(w, list, i, cell, over);
             let x = cells[cell];
             let d = operands::put(pending, r.depth, x);
             Standing {
                 depth: d,
                 place: r.place,
-                over: after,
+                over: after_read,
                 going: true,
             }
         }
         Move::Write { cell, value } => {
-            let after = note_change(w, list, i, cell, over);
+            let after_write = note_change(w, list, i, cell, over);
             cells[cell] = value;
             Standing {
                 depth: r.depth,
                 place: r.place,
-                over: after,
+                over: after_write,
                 going: true,
             }
         }
         Move::Update { cell, value } => {
-            let after = note_change(w, list, i, cell, over);
+            let after_update = note_change(w, list, i, cell, over);
             join_in(classes, cells, cell, value);
             Standing {
                 depth: r.depth,
                 place: r.place,
-                over: after,
+                over: after_update,
                 going: true,
             }
         }

@@ -39,7 +39,7 @@ pub record Begun (n p : ℕ) (class : ℕ → Class) (entry : ℕ → ℤ) (k : 
   pub rest : (j : ℕ) → (j < 2 ⊎ row-at p k ≤ j) → getD W j 0 ≡ 0
 
 -- a word of zeros
-getD-zeros : (m j : ℕ) → _≡_ {A = ℕ} (getD (replicate m 0) j 0) 0
+pub getD-zeros : (m j : ℕ) → _≡_ {A = ℕ} (getD (replicate m 0) j 0) 0
 getD-zeros zero j = refl
 getD-zeros (suc m) zero = refl
 getD-zeros (suc m) (suc j) = getD-zeros m j

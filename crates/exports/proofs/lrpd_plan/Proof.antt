@@ -19,7 +19,8 @@ same-length-2 c = search needs
 
 returns : tie.Need-returns
 returns c =
-    let e = c .before .before .before .before .before .plan .ensures in
+    let c5 = c .before .before .before .before .before in
+    let e = c5 .plan .ensures in
     (c .plan-answer .ensures ∙ ap planNumbers (e .0), e .1)
 
 pub lrpd-plan-spec : {M : Type 1} → statement M

@@ -1,6 +1,6 @@
 -- `planning::plan` meets its contract.
 use native.Mathlib.Omega.{arith}
-use mathlib.Core.Path.{sym, _∙_}
+use mathlib.Core.Path.{_≡_, sym, _∙_}
 use mathlib.Core.List.{[]}
 use lib.ListN.{length}
 use Rattle.preparing.proofs.Beginning.{ready-bad, ready-fine, ready-few}
@@ -21,28 +21,41 @@ prepare-requires c κs = search needs
 
 returns : tie.Need-returns
 returns c =
-    let a = c .before .before .before .before .before .before .before .before .before .before .args in
-    plan-refused (a .text .now) (a .cells .now) (a .workspace .now) (a .list .now) _ _ (ready-bad _ _ _ _ (c .before .before .before .before .prepare .ensures) (c .if1 .taken))
+    let c4 = c .before .before .before .before in
+    let c10 = c4 .before .before .before .before .before .before in
+    let a = c10 .args in
+    plan-refused (a .text .now) (a .cells .now) (a .workspace .now) (a .list .now) _ _ (ready-bad _ _ _ _ (c4 .prepare .ensures) (c .if1 .taken))
 
 slice-aggregate-unfit : tie.Need-slice-aggregate-unfit
 slice-aggregate-unfit c = search needs
 
 unfit-requires : tie.Need-unfit-requires
 unfit-requires c κs =
-    ready-few _ _ _ _ (c .before .before .before .before .before .before .prepare .ensures) (ready-fine _ _ _ _ (c .before .before .before .before .before .before .prepare .ensures) (c .before .before .if1 .left))
+    let c6 = c .before .before .before .before .before .before in
+    ready-few _ _ _ _ (c6 .prepare .ensures) (ready-fine _ _ _ _ (c6 .prepare .ensures) (c .before .before .if1 .left))
 
 returns-2 : tie.Need-returns-2
 returns-2 c =
-    let a = c .before .before .before .before .before .before .before .before .before .before .before .before .before .before .args in
-    plan-unfit _ (a .cells .now) (a .workspace .now) (a .list .now) _ _ _ (ready-fine _ _ _ _ (c .before .before .before .before .before .before .before .before .prepare .ensures) (c .before .before .before .before .if1 .left)) _ (c .before .unfit .ensures) (c .if2 .taken)
+    let c4 = c .before .before .before .before in
+    let c8 = c4 .before .before .before .before in
+    let c14 = c8 .before .before .before .before .before .before in
+    let a = c14 .args in
+    plan-unfit _ (a .cells .now) (a .workspace .now) (a .list .now) _ _ _ (ready-fine _ _ _ _ (c8 .prepare .ensures) (c4 .if1 .left)) _
+    (c .before .unfit .ensures) (c .if2 .taken)
 
 cast-if3 : tie.Need-cast-if3
 cast-if3 c = search needs
 
 returns-3 : tie.Need-returns-3
 returns-3 c =
-    let a = c .before .before .before .before .before .before .before .before .before .before .before .before .before .before .before .before .args in
-    plan-list _ (a .cells .now) (a .workspace .now) (a .list .now) _ _ _ (ready-fine _ _ _ _ (c .before .before .before .before .before .before .before .before .before .before .prepare .ensures) (c .before .before .before .before .before .before .if1 .left)) _ (c .before .before .before .unfit .ensures) (c .before .before .if2 .left) (c .if3 .taken)
+    let c3 = c .before .before .before in
+    let c6 = c3 .before .before .before in
+    let c10 = c6 .before .before .before .before in
+    let c16 = c10 .before .before .before .before .before .before in
+    let r = c10 .prepare .result in
+    let a = c16 .args in
+    plan-list _ (a .cells .now) (a .workspace .now) (a .list .now) _ _ _ (ready-fine _ _ _ _ (c10 .prepare .ensures) (c6 .if1 .left)) _ (c3 .unfit .ensures)
+    (c .before .before .if2 .left) (λ (z : length (a .list .now) ≡ r .setting .iterations). omega (arith, c .if3 .taken, z))
 
 sub-stages-of : tie.Need-sub-stages-of
 sub-stages-of c = search needs
@@ -52,7 +65,9 @@ part-stages-of-start c = search needs
 
 part-stages-of-end : tie.Need-part-stages-of-end
 part-stages-of-end c =
-    omega (arith, (ready-fine _ _ _ _ (c .before .before .before .before .before .before .before .before .before .before .before .prepare .ensures) (c .before .before .before .before .before .before .before .if1 .left)) .prepares .short)
+    let c7 = c .before .before .before .before .before .before .before in
+    let c11 = c7 .before .before .before .before in
+    omega (arith, (ready-fine _ _ _ _ (c11 .prepare .ensures) (c7 .if1 .left)) .prepares .short)
 
 slice-aggregate-stages-of : tie.Need-slice-aggregate-stages-of
 slice-aggregate-stages-of c = search needs
@@ -62,11 +77,19 @@ slice-aggregate-stages-of-2 c = search needs
 
 stages-of-requires : tie.Need-stages-of-requires
 stages-of-requires c κs =
-    let a = c .before .before .before .before .before .before .before .before .before .before .before .before .before .before .before .before .before .before .before .before .before .before .args in
-    let r = c .before .before .before .before .before .before .before .before .before .before .before .before .before .before .before .before .prepare .result in
-    let f = fit-zero (r .cells) (r .setting .processors) (length (a .cells .now)) (length (a .workspace .now)) [] (sym (c .before .before .before .before .before .before .before .before .before .unfit .ensures) ∙ c .before .before .before .before .before .before .before .before .if2 .left) in (
-      can-plan _ (a .cells .now) (a .workspace .now) (a .list .now) _ _ _ (ready-fine _ _ _ _ (c .before .before .before .before .before .before .before .before .before .before .before .before .before .before .before .before .prepare .ensures) (c .before .before .before .before .before .before .before .before .before .before .before .before .if1 .left)) _ (c .before .before .before .before .before .before .before .before .before .unfit .ensures) (c .before .before .before .before .before .before .before .before .if2 .left) (c .before .before .before .before .before .before .if3 .left),
-      omega (arith, f .cells-are, ready-few _ _ _ _ (c .before .before .before .before .before .before .before .before .before .before .before .before .before .before .before .before .prepare .ensures) (ready-fine _ _ _ _ (c .before .before .before .before .before .before .before .before .before .before .before .before .before .before .before .before .prepare .ensures) (c .before .before .before .before .before .before .before .before .before .before .before .before .if1 .left)) .0),
+    let c6 = c .before .before .before .before .before .before in
+    let c8 = c6 .before .before in
+    let c9 = c8 .before in
+    let c12 = c9 .before .before .before in
+    let c16 = c12 .before .before .before .before in
+    let c22 = c16 .before .before .before .before .before .before in
+    let a = c22 .args in
+    let r = c16 .prepare .result in
+    let f = fit-zero (r .cells) (r .setting .processors) (length (a .cells .now)) (length (a .workspace .now)) []
+    (sym (c9 .unfit .ensures) ∙ c8 .if2 .left) in (
+      can-plan _ (a .cells .now) (a .workspace .now) (a .list .now) _ _ _ (ready-fine _ _ _ _ (c16 .prepare .ensures) (c12 .if1 .left)) _ (c9 .unfit .ensures)
+          (c8 .if2 .left) (let z : length (a .list .now) ≡ r .setting .iterations = omega (arith, c6 .if3 .left) in z),
+      omega (arith, f .cells-are, ready-few _ _ _ _ (c16 .prepare .ensures) (ready-fine _ _ _ _ (c16 .prepare .ensures) (c12 .if1 .left)) .0),
     )
 
 same-length : tie.Need-same-length
@@ -77,8 +100,18 @@ same-length-2 c = search needs
 
 returns-4 : tie.Need-returns-4
 returns-4 c =
-    let a = c .before .before .before .before .before .before .before .before .before .before .before .before .before .before .before .before .before .before .before .before .before .before .before .before .before .before .before .before .args in
-    plan-done _ (a .cells .now) (a .workspace .now) (a .list .now) _ _ _ (ready-fine _ _ _ _ (c .before .before .before .before .before .before .before .before .before .before .before .before .before .before .before .before .before .before .before .before .before .before .prepare .ensures) (c .before .before .before .before .before .before .before .before .before .before .before .before .before .before .before .before .before .before .if1 .left)) _ (c .before .before .before .before .before .before .before .before .before .before .before .before .before .before .before .unfit .ensures) (c .before .before .before .before .before .before .before .before .before .before .before .before .before .before .if2 .left) (c .before .before .before .before .before .before .before .before .before .before .before .before .if3 .left) _ _ _ (c .before .before .before .before .before .stages-of .ensures .0) (c .before .before .before .before .before .stages-of .ensures .1)
+    let c5 = c .before .before .before .before .before in
+    let c12 = c5 .before .before .before .before .before .before .before in
+    let c14 = c12 .before .before in
+    let c15 = c14 .before in
+    let c18 = c15 .before .before .before in
+    let c22 = c18 .before .before .before .before in
+    let c28 = c22 .before .before .before .before .before .before in
+    let r = c22 .prepare .result in
+    let a = c28 .args in
+    plan-done _ (a .cells .now) (a .workspace .now) (a .list .now) _ _ _ (ready-fine _ _ _ _ (c22 .prepare .ensures) (c18 .if1 .left)) _ (c15 .unfit .ensures)
+    (c14 .if2 .left) (let z : length (a .list .now) ≡ r .setting .iterations = omega (arith, c12 .if3 .left) in z) _ _ _ (c5 .stages-of .ensures .0)
+    (c5 .stages-of .ensures .1)
 
 pub plan-spec : {M : Type 1} → statement M
 plan-spec =

@@ -21,8 +21,10 @@ part-run-end c = search needs
 
 run-requires : tie.Need-run-requires
 run-requires c κs =
-    let a = c .before .before .before .before .before .before .before .before .args in
-    can-run (c .before .before .before .copy-front .last .0) (a .cells .now) (c .before .before .before .copy-front .ensures) (a .code .now) (a .setting) (a .classes .now) _ (c .before .before .before .before .before .before .before .before .pre .0)
+    let c3 = c .before .before .before in
+    let c8 = c3 .before .before .before .before .before in
+    let a = c8 .args in
+    can-run (c3 .copy-front .last .0) (a .cells .now) (c3 .copy-front .ensures) (a .code .now) (a .setting) (a .classes .now) _ (c8 .pre .0)
 
 clear-requires : tie.Need-clear-requires
 clear-requires c κs = search needs
@@ -35,8 +37,13 @@ same-length-2 c = search needs
 
 returns : tie.Need-returns
 returns c =
-    let a = c .before .before .before .before .before .before .before .before .before .before .before .before .before .before .before .before .args in
-    (ends-front (c .before .before .before .before .before .before .before .before .before .before .before .copy-front .last .0) (a .cells .now) (c .before .before .before .before .before .before .before .before .before .before .before .copy-front .ensures) (a .code .now) (a .setting) (a .classes .now) _ _ _ _ (c .before .before .before .before .before .before .before .run .ensures), c .before .before .clear .ensures ∙ ap (λ (n : ℕ). replicate {A = ℕ} n 0) (c .before .before .before .before .before .before .before .run .kept .1 .1 .1 .1 .0))
+    let c7 = c .before .before .before .before .before .before .before in
+    let c11 = c7 .before .before .before .before in
+    let c16 = c11 .before .before .before .before .before in
+    let a = c16 .args in (
+      ends-front (c11 .copy-front .last .0) (a .cells .now) (c11 .copy-front .ensures) (a .code .now) (a .setting) (a .classes .now) _ _ _ _ (c7 .run .ensures),
+      c .before .before .clear .ensures ∙ ap (λ (n : ℕ). replicate {A = ℕ} n 0) (c7 .run .kept .1 .1 .1 .1 .0),
+    )
 
 pub run-copied-spec : {M : Type 1} → statement M
 run-copied-spec =

@@ -1,5 +1,6 @@
 -- `planning::stages_of` meets its contract.
 use mathlib.Core.Path.{_≡_, _∙_, ap}
+use mathlib.Core.Logic.{_≢_}
 use Prim.Native.Nat.{ℕ}
 use native.Mathlib.Omega.{arith}
 use mir.Syntax.{w32}
@@ -15,10 +16,13 @@ run-copied-requires c κs = search needs
 
 value-at-requires : tie.Need-value-at-requires
 value-at-requires c κs =
-    let a = c .before .before .before .before .before .before .before .before .before .before .before .before .before .before .args in
-    let t = c .before .before .before .before .before .before .before .run-copied in
+    let c7 = c .before .before .before .before .before .before .before in
+    let c14 = c7 .before .before .before .before .before .before .before in
+    let a = c14 .args in
+    let t = c7 .run-copied in
     let e : toZ w32 (ofZ w32 (a .setting .from)) ≡ a .setting .from = search (needs, c .struct-told) in
-    fault-value (a .code .now) (a .setting) (a .cells .now) (a .classes .now) (length (a .w .now)) (t .result) (t .ensures .0) (c .before .before .if1 .taken) _ e _ (c .before .before .before .before .before .before .before .before .before .before .before .before .before .before .pre .0)
+    fault-value (a .code .now) (a .setting) (a .cells .now) (a .classes .now) (length (a .w .now)) (t .result) (t .ensures .0)
+    (λ (z : t .result .fault ≡ 0). omega (arith, c .before .before .if1 .taken, z)) _ e _ (c14 .pre .0)
 
 same-length : tie.Need-same-length
 same-length c = search needs
@@ -28,17 +32,34 @@ same-length-2 c = search needs
 
 returns : tie.Need-returns
 returns c =
-    let a = c .before .before .before .before .before .before .before .before .before .before .before .before .before .before .before .args in
-    let t = c .before .before .before .before .before .before .before .before .run-copied in
-    let e : toZ w32 (ofZ w32 (a .setting .from)) ≡ a .setting .from = search (needs, c .before .struct-told) in
+    let e : toZ w32 (ofZ w32 (c .before .before .before .before .before .before .before .before .before .before .before .before .before .before .before
+    .args .setting .from))
+    ≡ c .before .before .before .before .before .before .before .before .before .before .before .before .before .before .before
+    .args .setting .from = search (needs, c .before .struct-told) in
+    let c3 = c .before .before .before in
+    let c8 = c3 .before .before .before .before .before in
+    let c15 = c8 .before .before .before .before .before .before .before in
+    let a = c15 .args in
+    let t = c8 .run-copied in
     let u : toZ w32 (ofZ w32 (c .value-at .result)) ≡ c .value-at .result = search needs in
-    (plans-fault (a .code .now) (a .setting) (a .cells .now) (a .classes .now) (length (a .w .now)) (t .result) (t .ensures .0) (c .before .before .before .if1 .taken) (a .list .now) _ _ _ e (c .value-at .ensures) u, t .ensures .1)
+    let nz : t .result .fault ≢ 0 = (λ (z : t .result .fault ≡ 0). omega (arith, c3 .if1 .taken, z)) in (
+      plans-fault (a .code .now) (a .setting) (a .cells .now) (a .classes .now) (length (a .w .now)) (t .result) (t .ensures .0)
+          nz (a .list .now) _ _ _ e (c .value-at .ensures) u,
+      t .ensures .1,
+    )
 
 sweep-copied-requires : tie.Need-sweep-copied-requires
 sweep-copied-requires c κs =
-    let a = c .before .before .before .before .before .before .before .before .before .before .before .before .before .before .before .args in
-    let t = c .before .before .before .before .before .before .before .before .run-copied in
-    (then-sweep (a .code .now) (a .setting) (a .cells .now) (a .classes .now) (length (a .w .now)) (t .result) (t .ensures .0) (c .before .before .before .if1 .left) _ _ (t .ensures .1) (search needs) (c .before .before .before .before .before .before .before .before .before .before .before .before .before .before .before .pre .0), search (needs, c .before .before .before .before .before .before .before .before .before .before .before .before .before .before .before .pre .1))
+    let c3 = c .before .before .before in
+    let c8 = c3 .before .before .before .before .before in
+    let c15 = c8 .before .before .before .before .before .before .before in
+    let a = c15 .args in
+    let t = c8 .run-copied in
+    let z : t .result .fault ≡ 0 = omega (arith, c3 .if1 .left) in (
+      then-sweep (a .code .now) (a .setting) (a .cells .now) (a .classes .now) (length (a .w .now)) (t .result) (t .ensures .0) z _ _ (t .ensures .1)
+          (t .kept .1 .1 .1 .1 .1 .0) (c15 .pre .0),
+      omega (arith, c15 .pre .1, t .kept .1 .1 .1 .1 .0),
+    )
 
 same-length-3 : tie.Need-same-length-3
 same-length-3 c = search needs
@@ -51,10 +72,18 @@ same-length-5 c = search needs
 
 returns-2 : tie.Need-returns-2
 returns-2 c =
-    let a = c .before .before .before .before .before .before .before .before .before .before .before .before .before .before .before .before .before .before .before .before .before .args in
-    let t = c .before .before .before .before .before .before .before .before .before .before .before .before .before .before .run-copied in
+    let c5 = c .before .before .before .before .before in
+    let c9 = c5 .before .before .before .before in
+    let c14 = c9 .before .before .before .before .before in
+    let c21 = c14 .before .before .before .before .before .before .before in
+    let a = c21 .args in
+    let t = c14 .run-copied in
     let k = t .kept .1 .1 .1 .1 .1 .0 in
-    (plans-stages (a .code .now) (a .setting) (a .cells .now) (a .classes .now) (length (a .w .now)) (t .result) (t .ensures .0) (c .before .before .before .before .before .before .before .before .before .if1 .left) (a .list .now) _ _ _ k (c .before .before .before .before .before .sweep-copied .ensures .0), c .before .before .before .before .before .sweep-copied .ensures .1 ∙ ap (λ (n : ℕ). replicate {A = ℕ} n 0) k)
+    let z : t .result .fault ≡ 0 = omega (arith, c9 .if1 .left) in (
+      plans-stages (a .code .now) (a .setting) (a .cells .now) (a .classes .now) (length (a .w .now)) (t .result) (t .ensures .0) z (a .list .now) _ _ _ k
+          (c5 .sweep-copied .ensures .0),
+      c5 .sweep-copied .ensures .1 ∙ ap (λ (n : ℕ). replicate {A = ℕ} n 0) k,
+    )
 
 pub stages-of-spec : {M : Type 1} → statement M
 stages-of-spec =

@@ -21,8 +21,10 @@ part-sweep-end c = search needs
 
 sweep-requires : tie.Need-sweep-requires
 sweep-requires c κs =
-    let a = c .before .before .before .before .before .before .before .before .before .before .args in
-    can-sweep (c .before .before .before .before .copy-front .last .0) (a .cells .now) (c .before .before .before .before .copy-front .ensures) (a .code .now) (a .setting) (a .classes .now) _ _ (c .before .before .before .before .before .before .before .before .before .before .pre .0)
+    let c4 = c .before .before .before .before in
+    let c10 = c4 .before .before .before .before .before .before in
+    let a = c10 .args in
+    can-sweep (c4 .copy-front .last .0) (a .cells .now) (c4 .copy-front .ensures) (a .code .now) (a .setting) (a .classes .now) _ _ (c10 .pre .0)
 
 clear-requires : tie.Need-clear-requires
 clear-requires c κs = search needs
@@ -38,8 +40,14 @@ same-length-3 c = search needs
 
 returns : tie.Need-returns
 returns c =
-    let a = c .before .before .before .before .before .before .before .before .before .before .before .before .before .before .before .before .before .before .before .before .args in
-    (sweeps-front (c .before .before .before .before .before .before .before .before .before .before .before .before .before .before .copy-front .last .0) (a .cells .now) (c .before .before .before .before .before .before .before .before .before .before .before .before .before .before .copy-front .ensures) (a .code .now) (a .setting) (a .classes .now) _ _ _ (c .before .before .before .before .before .before .before .before .before .sweep .ensures), c .before .before .clear .ensures ∙ ap (λ (n : ℕ). replicate {A = ℕ} n 0) (c .before .before .before .before .before .before .before .before .before .sweep .kept .1 .1 .1 .1 .0))
+    let c9 = c .before .before .before .before .before .before .before .before .before in
+    let c14 = c9 .before .before .before .before .before in
+    let c20 = c14 .before .before .before .before .before .before in
+    let a = c20 .args in (
+      sweeps-front (c14 .copy-front .last .0) (a .cells .now) (c14 .copy-front .ensures) (a .code .now) (a .setting) (a .classes .now) _ _ _
+          (c9 .sweep .ensures),
+      c .before .before .clear .ensures ∙ ap (λ (n : ℕ). replicate {A = ℕ} n 0) (c9 .sweep .kept .1 .1 .1 .1 .0),
+    )
 
 pub sweep-copied-spec : {M : Type 1} → statement M
 sweep-copied-spec =

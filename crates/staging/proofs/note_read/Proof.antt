@@ -1,5 +1,4 @@
 -- `staging::note_read` meets its contract.
-use mathlib.Core.Path.{_≡_}
 use native.Mathlib.Omega.{arith}
 use Rattle.reorder.specs.StageTable.{needs as needed, marked}
 use Rattle.staging.specs.Rows.{noted-in, over-in}
@@ -12,7 +11,8 @@ row-of-requires c κs = search needs
 
 open-requires : tie.Need-open-requires
 open-requires c κs =
-    let p = c .before .before .before .before .pre in
+    let c4 = c .before .before .before .before in
+    let p = c4 .pre in
     (rw (c .row-of .ensures) (p .known), omega (arith, p .early))
 
 set-row-requires : tie.Need-set-row-requires
@@ -28,9 +28,13 @@ returns : tie.Need-returns
 unfolding noted-in over-in needed marked
 returns c =
     let c3 = c .before .before .before in
+    let c3 = c3 in
     let o = c3 .before .before in
     let f = o .before in
-    record { words = rw (o .open .ensures, f .row-of .ensures) at (c3 .set-row .ensures); over = rw (o .open .ensures, f .row-of .ensures) at (c .higher-of .ensures) }
+    record {
+      words = rw (o .open .ensures, f .row-of .ensures) at (c3 .set-row .ensures);
+      over = rw (o .open .ensures, f .row-of .ensures) at (c .higher-of .ensures);
+    }
 
 pub note-read-spec : {M : Type 1} → statement M
 note-read-spec =

@@ -1,5 +1,5 @@
 -- `staging::open` meets its contract.
-use mathlib.Core.Path.{_≡_, sym, _∙_}
+use mathlib.Core.Path.{sym, _∙_}
 use native.Mathlib.Numerals.{add-one}
 use Rattle.staging.proofs.Keeping.{opened-already, opened-first}
 use borrow.Author.Needs.{needs}
@@ -11,7 +11,8 @@ add-stamp c = search needs
 
 returns : tie.Need-returns
 returns c =
-    sym (opened-already _ _ (c .before .before .before .before .args .row) (c .if1 .taken ∙ add-one _))
+    let c4 = c .before .before .before .before in
+    sym (opened-already _ _ (c4 .args .row) (c .if1 .taken ∙ add-one _))
 
 stage-of-requires : tie.Need-stage-of-requires
 stage-of-requires c κs = search needs
@@ -25,8 +26,10 @@ higher-of-requires c κs = search needs
 returns-2 : tie.Need-returns-2
 returns-2 c =
     let c3 = c .before .before .before in
+    let c3 = c3 in
     let a = c3 .before .before .before .before .args in
-    rw (c .higher-of .ensures, c .before .raised .ensures, c .before .before .stage-of .ensures) (sym (opened-first _ (a .i .0) (a .row) (λ (e : _). c3 .if1 .left (e ∙ sym (add-one _)))))
+    rw (c .higher-of .ensures, c .before .raised .ensures, c .before .before .stage-of .ensures)
+    (sym (opened-first _ (a .i .0) (a .row) (λ (e : _). c3 .if1 .left (e ∙ sym (add-one _)))))
 
 pub open-spec : {M : Type 1} → statement M
 open-spec =

@@ -1,5 +1,4 @@
 -- `staging::raised` meets its contract.
-use mathlib.Core.Path.{_≡_}
 use borrow.Author.Needs.{needs}
 use Rattle.staging.proofs.raised.Statement.{statement}
 use Rattle.staging.proofs.raised.Tie as tie

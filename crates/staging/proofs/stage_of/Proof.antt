@@ -1,5 +1,5 @@
 -- `staging::stage_of` meets its contract.
-use mathlib.Core.Path.{_≡_, sym}
+use mathlib.Core.Path.{sym}
 use Prim.Native.Nat.{_-_}
 use native.Mathlib.Omega.{arith}
 use Rattle.staging.proofs.Keeping.{latest-none, latest-before}

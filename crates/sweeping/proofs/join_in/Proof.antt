@@ -40,7 +40,8 @@ same-length c = search needs
 returns : tie.Need-returns
 unfolding joined-in cellOf
 returns c =
-    let a = c .before .before .before .before .before .args in
+    let c5 = c .before .before .before .before .before in
+    let a = c5 .args in
     let e : toZ w32 (ofZ w32 (a .value)) ≡ a .value = search needs in
     let f : toZ w32 (ofZ w32 (getD (a .cells .now) (a .cell) (pos 0))) ≡ getD (a .cells .now) (a .cell) (pos 0) = search needs in
     let h : toZ w32 (ofZ w32 (c .combine .result)) ≡ c .combine .result = search needs in
