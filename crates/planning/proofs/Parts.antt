@@ -5,7 +5,7 @@ use Prim.Native.Nat.{ℕ, _-_, _≤_, _<_}
 use native.Mathlib.Omega.{arith}
 use mir.Syntax.{w32}
 use mir.Val.{SFits}
-use lib.ListN.{length, take, drop, replicate}
+use lib.ListN.{length, take, drop}
 use lib.IntN.{ℤ, pos, _+ℤ_}
 use Rattle.rules.specs.ChooseLaws.{pick-same, pick-other}
 use Rattle.rules.specs.Loop.{Loop}
@@ -18,7 +18,7 @@ use Rattle.sweeping.specs.Sweep.{Faultless, CanSweep, Sweeps}
 use Rattle.answers.specs.declared.Planned.the-variants.{Staged, Faulted}
 use Rattle.answers.specs.Answers.{staged, stagesWritten}
 use Rattle.fitting.proofs.Front.{front-is}
-use Rattle.planning.specs.Plan.{Ends, CanPlan, Plans}
+use Rattle.planning.specs.Plan.{Ends, CanPlan, Plans, Zeros}
 
 -- ---- over a copy
 
@@ -35,8 +35,8 @@ module _ (own M : List ℤ) (e : take (length M) own ≡ M) (code : List ℕ) (s
   pub ends-front : (w : ℕ) (M″ : List ℤ) (W″ : List ℕ) (t : Point) → RunsSerially code s M′ C w M″ W″ t → Ends code s M C w t
   ends-front w M″ W″ t h l x = h l (subst (λ (m : List ℤ). Serials code s l m C w) (sym same) x) .outcome
 
-  pub can-sweep : (W : List ℕ) (n : ℕ) → CanSweep code s M C W n → CanSweep code s M′ C W n
-  can-sweep W n h = subst (λ (m : List ℤ). CanSweep code s m C W n) (sym same) h
+  pub can-sweep : (w : ℕ) (R : List ℕ) (n : ℕ) → CanSweep code s M C w R n → CanSweep code s M′ C w R n
+  can-sweep w R n h = subst (λ (m : List ℤ). CanSweep code s m C w R n) (sym same) h
 
   pub sweeps-front : (w : ℕ) (L : List ℕ) (r : ℕ) → Sweeps code s M′ C w L r → Sweeps code s M C w L r
   sweeps-front w L r h = subst (λ (m : List ℤ). Sweeps code s m C w L r) same h
@@ -49,11 +49,12 @@ module _ (code : List ℕ) (s : Setting) (M : List ℤ) (C : List ℕ) (w : ℕ)
     unfolding outcome-of
     faultless l h = record { serials = h; faultless = sym (e l h) ∙ pick-same z finished (failed (t .fault) (t .line) (t .iteration .0)) }
 
-    pub then-sweep : (n : ℕ) (W : List ℕ) → W ≡ replicate w 0 → length W ≡ w → CanPlan code s M C w n → CanSweep code s M C W n
-    then-sweep n W q k h = record {
+    pub then-sweep : (n k : ℕ) (R : List ℕ) → k ≡ w → Zeros M R → CanPlan code s M C w n → CanSweep code s M C k R n
+    then-sweep n k R q r h = record {
       loop = h .loop;
-      runs = rw k (faultless (h .loop) (h .serials));
-      zero = rw k q;
+      runs = rw q (faultless (h .loop) (h .serials));
+      zero = r .zero;
+      room = r .room;
       numbers = h .numbers;
     }
 

@@ -9,7 +9,7 @@ ghost use Rattle.syntax.specs.Text.{read as readText};
 ghost use Rattle.answers.specs.Answers.{planOf, listPlanned, planWorkspace};
 ghost use Rattle.serial.specs.Serving.{CanSerial};
 ghost use Rattle.sweeping.specs.Sweep.{CanSweep, Sweeps};
-ghost use Rattle.planning.specs.Plan.{Ends, CanPlan, Plans};
+ghost use Rattle.planning.specs.Plan.{Ends, CanPlan, Plans, Zeros};
 use answers::Planned;
 use fitting::copy_front;
 use fitting::unfit;
@@ -45,15 +45,16 @@ fn sweep_copied(
     cells: &[i32],
     own: &mut [i32],
     w: &mut [u32],
+    rows: &mut [u32],
     list: &mut [u16],
 ) -> u32
-    requires { ⌜ CanSweep (now code) setting (now cells) (now classes) (now w) (length (now list)) × (length (now cells) ≤ length (now own)) ⌝ }
+    requires { ⌜ CanSweep (now code) setting (now cells) (now classes) (length (now w)) (now rows) (length (now list)) × (length (now cells) ≤ length (now own)) ⌝ }
     ensures { λ r. ⌜ Sweeps (now (code .entry)) setting (now (cells .entry)) (now (classes .entry)) (length (now (w .entry))) (now (list .exit)) r ⌝ }
     ensures { λ _. ⌜ now (w .exit) ≡ replicate (length (now (w .entry))) 0 ⌝ }
 {
     let n = cells.len();
     copy_front(own, cells);
-    let stages = sweeping::sweep(code, setting, classes, &mut own[0..n], w, list);
+    let stages = sweeping::sweep(code, setting, classes, &mut own[0..n], w, rows, list);
     tables::clear(w);
     stages
 }
@@ -66,9 +67,11 @@ fn stages_of(
     cells: &[i32],
     own: &mut [i32],
     w: &mut [u32],
+    rows: &mut [u32],
     list: &mut [u16],
 ) -> Planned
-    requires { ⌜ CanPlan (now code) setting (now cells) (now classes) (length (now w)) (length (now list)) × (length (now cells) ≤ length (now own)) ⌝ }
+    requires { ⌜ CanPlan (now code) setting (now cells) (now classes) (length (now w)) (length (now list)) × (length (now cells) ≤ length (now own))
+        × Zeros (now cells) (now rows) ⌝ }
     ensures { λ r. ⌜ Plans (now (code .entry)) setting (now (cells .entry)) (now (classes .entry)) (length (now (w .entry))) (now (list .entry)) r (now (list .exit)) ⌝ }
     ensures { λ _. ⌜ now (w .exit) ≡ replicate (length (now (w .entry))) 0 ⌝ }
 {
@@ -81,7 +84,7 @@ fn stages_of(
             v: stepping::value_at(setting.from, i),
         };
     }
-    let stages = sweep_copied(code, setting, classes, cells, own, w, list);
+    let stages = sweep_copied(code, setting, classes, cells, own, w, rows, list);
     Planned::Staged { stages }
 }
 
@@ -120,6 +123,7 @@ pub fn plan(text: &[u8], cells: &[i32], workspace: &mut [u32], list: &mut [u16])
         };
     }
     let mut own: [i32; 4096] = [0; 4096];
+    let mut rows = [0; staging::WORDS];
     let end = r.end;
     stages_of(
         &code[0..end],
@@ -128,6 +132,7 @@ pub fn plan(text: &[u8], cells: &[i32], workspace: &mut [u32], list: &mut [u16])
         cells,
         &mut own,
         workspace,
+        &mut rows,
         list,
     )
 }

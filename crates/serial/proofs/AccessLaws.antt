@@ -23,9 +23,9 @@ use Rattle.tables.proofs.Logged.{logged-operator}
 use Rattle.noting.proofs.Logging.{logged-read, logged-write, logged-update, logged-ready}
 use Rattle.stepping.specs.declared.Role.{Role}
 use Rattle.stepping.specs.Access.{Accessible, seen-by, stored-by, joined-by, seen, read-words, stored, written-words, joined, updated-words}
-use Rattle.serial.specs.Serving.{by-one}
+use Rattle.serial.specs.Serving.{by-one, alone, Serially}
 use Rattle.trial.proofs.AccessLaws.{listed-set}
-use Rattle.serial.proofs.Serving.{alone, Serially, Serves}
+use Rattle.serial.proofs.Serving.{Serves}
 
 -- the one processor has all iterations
 owned : (l : Loop) (i : ℕ) (M : List ℤ) (W : List ℕ) (m : ℕ → ℤ) (g : Log) → Serially l i M W m g → (j : ℕ) → j < l .iterations → worker l (by-one l) j ≡ 0

@@ -1,37 +1,26 @@
 -- Where the serial run is, step by step: what cells, words and the point reached stand for, and what the run comes to from there.
 use mathlib.Core.Path.{_≡_}
-use mathlib.Core.List.{List, []}
+use mathlib.Core.List.{List, [], _∷_}
 use Prim.Native.Nat.{ℕ, suc, _-_, _<_}
 use lib.IntN.{ℤ}
 use Rattle.rules.specs.declared.Grouping.the-variants.{Iterations}
 use Rattle.rules.specs.Choose.{pick, below}
 use Rattle.rules.specs.Cells.{listed}
 use Rattle.rules.specs.Loop.{Loop}
-use Rattle.rules.specs.Log.{Log, each}
+use Rattle.rules.specs.Log.{reads, writes, updates, access, Log, each}
 use Rattle.rules.specs.Proper.{Sized}
 use Rattle.rules.specs.Serial.{finished, failed, Result, along, from, serial}
 use Rattle.shadow.specs.Orderly.{Inside, Ascending}
 use Rattle.tables.specs.Logged.{Logged}
+use Rattle.operands.specs.declared.Move.{Move}
+use Rattle.operands.specs.declared.Move.the-variants.{Read, Write, Update, Fault, End}
 use Rattle.operands.specs.Pending.{Holding}
 use Rattle.stepping.specs.declared.Manner.the-variants.{InPlace}
 use Rattle.stepping.specs.declared.Role.{Role}
 use Rattle.stepping.specs.Step.{Scene, at}
 use Rattle.stepping.proofs.Happening.{rest}
 use Rattle.trial.specs.Standing.{Suits, Coded}
-use Rattle.serial.specs.Serving.{by-one}
-
--- what is fixed for the one processor of a run of n iterations, with the loop's variable from v on
-abbrev pub alone : ℤ → ℕ → Role
-alone v n = record { manner = InPlace; grouping = Iterations; processors = 1; number = record { 0 = 0 }; from = v; end = record { 0 = n } }
-
--- the cells are m and the words those of the accesses g, of which none is of an iteration after i
-pub record Serially (l : Loop) (i : ℕ) (M : List ℤ) (W : List ℕ) (m : ℕ → ℤ) (g : Log) : Type 0 where
-  pub suits : Suits 1 l (by-one l)
-  pub cells : M ≡ listed (l .size) m
-  pub words : Logged l (by-one l) g W
-  pub inside : Inside (l .iterations) (l .size) g
-  pub ascending : Ascending l (by-one l) g
-  pub upto : (j : ℕ) → i < j → each j g ≡ []
+use Rattle.serial.specs.Serving.{alone, Serially}
 
 -- and iteration i may access cell c
 pub record Serves (l : Loop) (i c : ℕ) (M : List ℤ) (W : List ℕ) (m : ℕ → ℤ) (g : Log) : Type 0 where
@@ -51,6 +40,14 @@ onward l code v z m g =
     (along l (at z) (rest (alone v (l .iterations)) code z) m g (from l (l .iterations - suc (at z)) (suc (at z))))
     (record { cells = m; log = g; outcome = finished }))
     (record { cells = m; log = g; outcome = failed (z .point .fault) (z .point .line) (at z) })
+
+-- the accesses g after a move of iteration i over the cells m
+abbrev pub grown : ℕ → (ℕ → ℤ) → Log → Move → Log
+grown i m g (Read c) = access reads i c (m c) ∷ g
+grown i m g (Write c y) = access writes i c y ∷ g
+grown i m g (Update c y) = access updates i c y ∷ g
+grown i m g (Fault n t) = g
+grown i m g End = g
 
 pub record Serving (code : List ℕ) (v : ℤ) (l : Loop) (z : Scene) (m : ℕ → ℤ) (g : Log) : Type 0 where
   pub coded : Coded code v l

@@ -19,17 +19,18 @@ use Rattle.shadow.specs.Orderly.{turn-nil, inside-nil}
 use Rattle.shadow.proofs.Shows.{tables-right}
 use Rattle.tables.specs.Logged.{Logged}
 use Rattle.findings.proofs.Logged.{logged-pairs, logged-cells}
+use Rattle.operands.specs.declared.Move.{Move}
 use Rattle.operands.specs.Pending.{pendings, Holding}
 use Rattle.stepping.specs.declared.Extent.the-variants.{ToTheEnd}
 use Rattle.stepping.specs.declared.Role.{Role}
-use Rattle.stepping.specs.Step.{Scene, scene, at, CanGo, Goes}
+use Rattle.stepping.specs.Step.{Scene, unstopped as unstopped-at, scene, at, CanGo, Goes}
 use Rattle.stepping.specs.Carrying.{is-open, Reached, CanCarry, Carries}
 use Rattle.stepping.proofs.Happening.{rest, can-reach, Continues, Happens, happens}
 use Rattle.stepping.proofs.Opened.{opened-yes, opened-no}
 use Rattle.trial.specs.declared.Setting.{Setting}
 use Rattle.trial.specs.Standing.{Coded}
-use Rattle.serial.specs.Serving.{by-one, Serials, outcome-of, IsSerial}
-use Rattle.serial.proofs.Serving.{alone, Serially, Serves, onward, Serving, Serial-at}
+use Rattle.serial.specs.Serving.{by-one, alone, Serially, Serials, outcome-of, IsSerial}
+use Rattle.serial.proofs.Serving.{Serves, onward, grown, Serving, Serial-at}
 use Rattle.serial.proofs.AccessLaws.{serves-accessible, serves-seen, serves-read, serves-write, serves-update, serially-next}
 use Rattle.stepping.proofs.Happening as happening
 use Rattle.stepping.specs.Carrying as carrying
@@ -59,7 +60,7 @@ module _ (l : Loop) (code : List ℕ) (v : ℤ) (z : Scene) (m : ℕ → ℤ) (g
   left-body c p d b = rw (p, d) (sym (c .body (at z) b))
 
   -- an iteration that begins, or the end
-  onward-begin : Coded code v l → z .point .fault ≡ 0 → z .point .place ≡ 0 → z .point .depth ≡ 0 → (k : ℕ) → at z + k ≡ l .iterations
+  pub onward-begin : Coded code v l → z .point .fault ≡ 0 → z .point .place ≡ 0 → z .point .depth ≡ 0 → (k : ℕ) → at z + k ≡ l .iterations
       → from l k (at z) m g ≡ onward l code v z m g
   unfolding from
   onward-begin c f p d zero e = sym (onward-done f (omega arith))
@@ -106,11 +107,10 @@ module _ (code : List ℕ) (v : ℤ) (l : Loop) (z : Scene) (m : ℕ → ℤ) (g
   module _ (z′ : Scene) where
     -- the scene after an access
     moved : (m′ : ℕ → ℤ) (g′ : Log) → Continues z z′ → Serially l (at z) (z′ .cells) (z′ .words) m′ g′
-        → serial l ≡ along l (at z) (rest x code z′) m′ g′ next → Sized (l .size) (rest x code z′) → Serial-at code v l z′
+        → serial l ≡ along l (at z) (rest x code z′) m′ g′ next → Sized (l .size) (rest x code z′) → (k : ℕ → ℤ) × Serving code v l z′ k g′
     moved m′ g′ c w e y =
         let q : at z ≡ at z′ = sym (c .same) in (
           m′,
-          g′,
           record {
             coded = s .coded;
             stands = subst (λ (i : ℕ). Serially l i (z′ .cells) (z′ .words) m′ g′) q w;
@@ -122,7 +122,7 @@ module _ (code : List ℕ) (v : ℤ) (l : Loop) (z : Scene) (m : ℕ → ℤ) (g
           },
         )
 
-    by : Happens x code z z′ → Serial-at code v l z′
+    by : {a : Move} → Happens x code z z′ a → (k : ℕ → ℤ) × Serving code v l z′ k (grown (at z) m g a)
     unfolding along
     by (happening.reads c k e f h w r) =
         let u = sized _ e in
@@ -140,7 +140,6 @@ module _ (code : List ℕ) (v : ℤ) (l : Loop) (z : Scene) (m : ℕ → ℤ) (g
         (rw (h, w) (serves-update l (at z) c (z .cells) (z .words) m g (serves c (u .0)) v y)) (goes _ e) (u .1)
     by (happening.faults n d y e h w i f k r) = (
       m,
-      g,
       record {
         coded = s .coded;
         stands = rw (h, w, i) (s .stands);
@@ -151,7 +150,6 @@ module _ (code : List ℕ) (v : ℤ) (l : Loop) (z : Scene) (m : ℕ → ℤ) (g
     )
     by (happening.ends e h w i f k p d r) = (
       m,
-      g,
       record {
         coded = s .coded;
         stands = rw (h, w) (serially-next l (at z) (at z′) (z .cells) (z .words) m g (omega (arith, i)) (s .stands));
@@ -163,8 +161,12 @@ module _ (code : List ℕ) (v : ℤ) (l : Loop) (z : Scene) (m : ℕ → ℤ) (g
       },
     )
 
-    pub serial-went : Goes x code z z′ → Serial-at code v l z′
-    serial-went h = by (happens x code z z′ h)
+    -- with one access more, or as many
+    pub serial-grown : (h : Goes x code z z′) → (k : ℕ → ℤ) × Serving code v l z′ k (grown (at z) m g (h .reached .done))
+    serial-grown h = by (happens x code z z′ h)
+
+    serial-went : Goes x code z z′ → Serial-at code v l z′
+    serial-went h = let (k, t) = serial-grown h in (k, grown (at z) m g (h .reached .done), t)
 
 -- ---- all of them
 
@@ -183,22 +185,29 @@ module _ (code : List ℕ) (v : ℤ) (l : Loop) (r : Role) (e : r ≡ alone v (l
 
 -- ---- the start and the end
 
+-- before an iteration
+pub serving-begin : (code : List ℕ) (v : ℤ) (l : Loop) (i k : ℕ) (M : List ℤ) (W : List ℕ) (m : ℕ → ℤ) (g : Log) → Coded code v l → Serially l i M W m g
+    → i + k ≡ l .iterations → serial l ≡ from l k i m g → (a : List ℤ) → Holding a 0 → Serving code v l (scene M W a (unstopped-at 0 0 i)) m g
+serving-begin code v l i k M W m g c h n e a o =
+    let z = scene M W a (unstopped-at 0 0 i) in
+    record {
+      coded = c;
+      stands = h;
+      holding = o;
+      result = e ∙ onward-begin l code v z m g c refl refl refl k n;
+      sized = λ _ lt. rw (left-body l code v z m g c refl refl lt) (h .suits .proper .sized i);
+    }
+
 pub serial-start : (code : List ℕ) (x : Setting) (l : Loop) (M : List ℤ) (C : List ℕ) (n : ℕ) → Serials code x l M C n → (W : List ℕ)
-    → Logged l (by-one l) [] W → (a : List ℤ) → Holding a 0
-    → Serial-at code (x .from) l (scene M W a (record { depth = 0; place = 0; iteration = record { 0 = 0 }; fault = 0; line = 0 }))
+    → Logged l (by-one l) [] W → (a : List ℤ) → Holding a 0 → Serial-at code (x .from) l (scene M W a (unstopped-at 0 0 0))
 unfolding serial only
-serial-start code x l M C n h W w a o =
-    let z = scene M W a (record { depth = 0; place = 0; iteration = record { 0 = 0 }; fault = 0; line = 0 }) in (
-      l .entry,
-      [],
-      record {
-        coded = h .coded;
-        stands = record { suits = h .entry .suits; cells = h .entry .cells; words = w; inside = inside-nil; ascending = turn-nil; upto = λ j b. refl };
-        holding = o;
-        result = onward-begin l code (x .from) z (l .entry) [] (h .coded) refl refl refl (l .iterations) (omega arith);
-        sized = λ _ lt. rw (left-body l code (x .from) z (l .entry) [] (h .coded) refl refl lt) (h .entry .suits .proper .sized 0);
-      },
-    )
+serial-start code x l M C n h W w a o = (
+  l .entry,
+  [],
+  serving-begin code (x .from) l 0 (l .iterations) M W (l .entry) [] (h .coded)
+      (record { suits = h .entry .suits; cells = h .entry .cells; words = w; inside = inside-nil; ascending = turn-nil; upto = λ j b. refl })
+      (omega arith) refl a o,
+)
 
 -- the result at the end
 ended : (code : List ℕ) (v : ℤ) (l : Loop) (z : Scene) (m : ℕ → ℤ) (g : Log) → Serving code v l z m g → (z .point .fault ≢ 0) ⊎ (l .iterations ≤ at z)

@@ -1,4 +1,4 @@
-// The stage table (crates/reorder, StageTable) in words of a lent workspace, four for each cell, and the lent list of stages. An access is noted in a few steps.
+// The stage table (crates/reorder, StageTable): rows of four words for each cell, and the lent list of stages. An access is noted in a few steps.
 ghost use mathlib.Core.Path.{_≡_};
 ghost use mathlib.Core.Bool.{cond};
 ghost use Prim.Native.Nat.{max, _+_, _*_, _≤_, _<_};
@@ -18,6 +18,9 @@ pub const CHANGED: usize = 2;
 pub const TOUCHED: usize = 3;
 
 pub const ROW: usize = 4;
+
+// The words of the rows of 4,096 cells.
+pub const WORDS: usize = 16384;
 
 // The row of a cell.
 fn row_of(w: &[u32], cell: usize) -> Row

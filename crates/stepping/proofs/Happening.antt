@@ -50,19 +50,20 @@ pub record Continues (z z′ : Scene) : Type 0 where
   pub lineless : z′ .point .line ≡ 0
   pub holding : Holding (z′ .pending) (z′ .point .depth)
 
-pub data Happens (x : Role) (code : List ℕ) (z z′ : Scene) : Type 0 where
+-- what a step by a move comes to
+pub data Happens (x : Role) (code : List ℕ) (z z′ : Scene) : Move → Type 0 where
   reads : (c : ℕ) (k : ℤ → Act) → rest x code z ≡ read c k → rest x code z′ ≡ k (seen x (at z) (z .cells) (z .words) c) → z′ .cells ≡ z .cells
-      → z′ .words ≡ read-words x (at z) (z .words) c → Continues z z′ → Happens x code z z′
+      → z′ .words ≡ read-words x (at z) (z .words) c → Continues z z′ → Happens x code z z′ (Read c)
   writes : (c : ℕ) (v : ℤ) → SFits w32 v → rest x code z ≡ write c v (rest x code z′) → z′ .cells ≡ stored x (z .cells) (z .words) c v
-      → z′ .words ≡ written-words x (at z) (z .words) c v → Continues z z′ → Happens x code z z′
+      → z′ .words ≡ written-words x (at z) (z .words) c v → Continues z z′ → Happens x code z z′ (Write c v)
   updates : (c : ℕ) (v : ℤ) → SFits w32 v → rest x code z ≡ update c v (rest x code z′) → z′ .cells ≡ joined x (z .cells) (z .words) c v
-      → z′ .words ≡ updated-words x (at z) (z .words) c v → Continues z z′ → Happens x code z z′
+      → z′ .words ≡ updated-words x (at z) (z .words) c v → Continues z z′ → Happens x code z z′ (Update c v)
   faults : (n t : ℕ) → 0 < n → rest x code z ≡ fault n t → z′ .cells ≡ z .cells → z′ .words ≡ z .words → at z′ ≡ at z → z′ .point .fault ≡ n
-      → z′ .point .line ≡ t → Holding (z′ .pending) (z′ .point .depth) → Happens x code z z′
+      → z′ .point .line ≡ t → Holding (z′ .pending) (z′ .point .depth) → Happens x code z z′ (Fault n t)
   ends : rest x code z ≡ done → z′ .cells ≡ z .cells → z′ .words ≡ z .words → at z′ ≡ suc (at z) → z′ .point .fault ≡ 0 → z′ .point .line ≡ 0
-      → z′ .point .place ≡ 0 → z′ .point .depth ≡ 0 → length (z′ .pending) ≡ 32 → Happens x code z z′
+      → z′ .point .place ≡ 0 → z′ .point .depth ≡ 0 → length (z′ .pending) ≡ 32 → Happens x code z z′ End
 
-pub happens : (x : Role) (code : List ℕ) (z z′ : Scene) → Goes x code z z′ → Happens x code z z′
+pub happens : (x : Role) (code : List ℕ) (z z′ : Scene) (g : Goes x code z z′) → Happens x code z z′ (g .reached .done)
 unfolding moved left Fitting
 happens x code z z′ g = by (g .reached .done) refl (g .makes .after)
   where
@@ -76,7 +77,7 @@ happens x code z z′ g = by (g .reached .done) refl (g .makes .after)
     room m q = record { size = g .comes .size; most = omega (arith, g .comes .room) }
 
     by : (m : Move) → g .reached .done ≡ m → z′ ≡ moved x (at z) (z .cells) (z .words) (g .pending) (g .reached .place) (g .reached .depth) m
-        → Happens x code z z′
+        → Happens x code z z′ m
     by (Read c) q h =
         let low : g .reached .depth < 32 = omega (arith, rw q at (g .comes .room)) in
         let v = seen x (at z) (z .cells) (z .words) c in
@@ -100,7 +101,7 @@ happens x code z z′ g = by (g .reached .done) refl (g .makes .after)
 pub goes-halts : (x : Role) (code : List ℕ) (z z′ : Scene) → Goes x code z z′ → 0 < z′ .point .fault → at z′ ≡ at z
 goes-halts x code z z′ g b = by (happens x code z z′ g)
   where
-    by : Happens x code z z′ → at z′ ≡ at z
+    by : {a : Move} → Happens x code z z′ a → at z′ ≡ at z
     by (reads c k e f m w o) = o .same
     by (writes c v s e m w o) = o .same
     by (updates c v s e m w o) = o .same

@@ -9,7 +9,8 @@ use Rattle.stepping.specs.declared.Extent.{Extent}
 use Rattle.stepping.specs.declared.Extent.the-variants.{Once, ToTheEnd}
 use Rattle.stepping.specs.declared.Point.{Point}
 use Rattle.stepping.specs.declared.Role.{Role}
-use Rattle.stepping.specs.Step.{Scene, CanGo, Goes}
+use Rattle.operands.specs.declared.Move.{Move}
+use Rattle.stepping.specs.Step.{Scene, CanGo, Goes, Went}
 
 -- a processor whose block ends before e is neither stopped nor finished
 unfoldable pub opened : Point → ℕ → Bool
@@ -31,3 +32,8 @@ CanCarry x code z = (y : Scene) → Reached x code z y → is-open x y ≡ true 
 unfoldable pub Carries : Extent → Role → List ℕ → Scene → Scene → Type 0
 Carries Once x code z z′ = ((is-open x z ≡ true) × Goes x code z z′) ⊎ ((is-open x z ≡ false) × (z ≡ z′))
 Carries ToTheEnd x code z z′ = Reached x code z z′ × (is-open x z′ ≡ false)
+
+-- the one step is by the move m
+unfoldable pub Does : Extent → Role → List ℕ → Scene → Scene → Move → Type 0
+Does Once x code z z′ m = is-open x z ≡ true → Went x code z z′ m
+Does ToTheEnd x code z z′ m = Unit {0}

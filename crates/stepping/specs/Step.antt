@@ -94,3 +94,8 @@ pub record Goes (x : Role) (code : List ℕ) (z z′ : Scene) : Type 0 where
   pub reached : Advanced
   pub comes : Comes x code z pending reached
   pub makes : Makes x (at z) (z .cells) (z .words) pending reached z′
+
+-- by the move m
+pub record Went (x : Role) (code : List ℕ) (z z′ : Scene) (m : Move) : Type 0 where
+  pub goes : Goes x code z z′
+  pub by : goes .reached .done ≡ m

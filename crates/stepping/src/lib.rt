@@ -1,5 +1,6 @@
 // One step of a processor (document 01, Steps): the code up to its next cell access, and that access, noted in the shadow tables. `carry_on` is the only
-// caller of the step. A schedule's byte takes one, the run to the end all that are left; the serial run takes all of them, with accesses in place.
+// caller of the step. A schedule's byte takes one, the run to the end all that are left; the serial run takes all of them, with accesses in place, and the sweep of
+// crates/sweeping the same one by one.
 // What a step does to cells, words and pending values is in specs/Step.antt; that it is the step rule's is shown in crates/trial, the serial run's in
 // crates/serial.
 ghost use mathlib.Core.Path.{_≡_};
@@ -7,8 +8,8 @@ ghost use Prim.Native.Nat.{_≤_};
 ghost use lib.IntN.{pos, _+ℤ_};
 ghost use mir.Syntax.{w32};
 ghost use mir.Val.{SFits};
-ghost use Rattle.stepping.specs.Step.{unstopped, scene, CanMake, Makes, CanGo, Goes};
-ghost use Rattle.stepping.specs.Carrying.{opened, CanCarry, Carries};
+ghost use Rattle.stepping.specs.Step.{unstopped, scene, CanMake, Makes, CanGo, Went};
+ghost use Rattle.stepping.specs.Carrying.{opened, CanCarry, Carries, Does};
 use machine::Advanced;
 use operands::Move;
 use rules::Grouping;
@@ -50,6 +51,12 @@ pub struct Point {
     pub line: u32,
 }
 
+// What a step came to: where the processor then is, and the move that it made.
+pub struct Stepped {
+    pub point: Point,
+    pub done: Move,
+}
+
 // The value of the loop's variable in an iteration.
 pub fn value_at(from: i32, i: Iteration) -> i32
     requires { ⌜ (i .0 ≤ 65535) × SFits w32 (from +ℤ pos (i .0)) ⌝ }
@@ -59,7 +66,7 @@ pub fn value_at(from: i32, i: Iteration) -> i32
 }
 
 // Where a processor is that no fault stopped.
-fn unstopped_at(depth: usize, place: usize, iteration: Iteration) -> Point
+pub fn unstopped_at(depth: usize, place: usize, iteration: Iteration) -> Point
     ensures { λ r. ⌜ r ≡ unstopped depth place (iteration .0) ⌝ }
 {
     Point {
@@ -120,15 +127,17 @@ fn go_on(
     w: &mut [u32],
     pending: &mut [i32; 32],
     t: Point,
-) -> Point
+) -> Stepped
     requires { ⌜ CanGo role (now code) (scene (now cells) (now w) (now pending) t) ⌝ }
-    ensures { λ r. ⌜ Goes role (now (code .entry)) (scene (now (cells .entry)) (now (w .entry)) (now (pending .entry)) t)
-        (scene (now (cells .exit)) (now (w .exit)) (now (pending .exit)) r) ⌝ }
+    ensures { λ r. ⌜ Went role (now (code .entry)) (scene (now (cells .entry)) (now (w .entry)) (now (pending .entry)) t)
+        (scene (now (cells .exit)) (now (w .exit)) (now (pending .exit)) (r .point)) (r .done) ⌝ }
 {
     let i = t.iteration;
     let v = value_at(role.from, i);
     let r = machine::advance(code, t.place, t.depth, pending, v);
-    make(role, i, cells, w, pending, r)
+    let done = r.done;
+    let point = make(role, i, cells, w, pending, r);
+    Stepped { point, done }
 }
 
 // Whether a processor whose block ends before an iteration is neither stopped nor finished.
@@ -142,7 +151,8 @@ fn is_open(t: Point, end: Iteration) -> bool
     }
 }
 
-// The steps of a processor, as far as it is to go. A finished or stopped one does nothing.
+// The steps of a processor, as far as it is to go. A finished or stopped one does nothing. The answer's move is that of the one step (`Once`), if it makes it; else it
+// is free.
 pub fn carry_on(
     code: &[u32],
     role: Role,
@@ -151,21 +161,28 @@ pub fn carry_on(
     pending: &mut [i32; 32],
     from: Point,
     extent: Extent,
-) -> Point
+) -> Stepped
     requires { ⌜ CanCarry role (now code) (scene (now cells) (now w) (now pending) from) ⌝ }
     ensures { λ r. ⌜ Carries extent role (now (code .entry)) (scene (now (cells .entry)) (now (w .entry)) (now (pending .entry)) from)
-        (scene (now (cells .exit)) (now (w .exit)) (now (pending .exit)) r) ⌝ }
+        (scene (now (cells .exit)) (now (w .exit)) (now (pending .exit)) (r .point)) ⌝ }
+    ensures { λ r. ⌜ Does extent role (now (code .entry)) (scene (now (cells .entry)) (now (w .entry)) (now (pending .entry)) from)
+        (scene (now (cells .exit)) (now (w .exit)) (now (pending .exit)) (r .point)) (r .done) ⌝ }
 {
     let end = role.end;
     let mut t = from;
     while is_open(t, end) {
-        t = go_on(code, role, cells, w, pending, t);
+        let r = go_on(code, role, cells, w, pending, t);
+        let point = r.point;
+        t = point;
         match extent {
             Extent::Once => {
-                return t;
+                return r;
             }
             Extent::ToTheEnd => {}
         }
     }
-    t
+    Stepped {
+        point: t,
+        done: Move::End,
+    }
 }

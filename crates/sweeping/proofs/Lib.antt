@@ -1,4 +1,3 @@
--- The sweep, step by step, and from its start to its end.
+-- An iteration of the sweep, step by step, and the sweep from its start to its end.
 pub mod Stepping
 pub mod Ends
-pub mod Moving

@@ -1,187 +1,180 @@
--- An iteration of the sweep, step by step: its cells and accesses are those of the serial run, and words and list keep the stage table.
+-- An iteration of the sweep, step by step: it is the serial run's, and rows and list keep the stage table of its accesses.
 use mathlib.Core.Path.{_≡_, refl, sym, _∙_, ap, subst}
-use mathlib.Core.Bool.{Bool, true, false}
+use mathlib.Core.Logic.{_≢_, _⊎_, inl, inr}
+use mathlib.Core.Bool.{true}
 use mathlib.Core.List.{List, _∷_}
 use Prim.Native.Nat.{ℕ, suc, _+_, _-_, _<_}
+use native.Mathlib.Decide.{ℕ-discrete}
+use native.Mathlib.Numerals.{add-one}
 use native.Mathlib.Omega.{arith}
-use lib.ListN.{length, set, length-set}
+use borrow.Author.Tests.{eq-eqb, lt-ltb}
 use lib.IntN.{ℤ}
-use Rattle.rules.specs.Choose.{put}
-use Rattle.rules.specs.Cells.{cellOf, listed}
-use Rattle.rules.proofs.CellsLaws.{listed-length, cell-listed}
-use Rattle.rules.specs.Loop.{Act, done, Loop, joining}
+use Rattle.rules.specs.ChooseLaws.{pick-other}
+use Rattle.rules.specs.Loop.{Act, Loop}
 use Rattle.rules.specs.Log.{Kind, reads, writes, updates, access, Log}
-use Rattle.rules.specs.LogLaws.{only-other}
 use Rattle.rules.specs.Proper.{Sized}
-use Rattle.rules.specs.Serial.{finished, failed, Result, along, from, serial}
-use Rattle.rules.proofs.NumberLaws.{operator-number}
-use Rattle.trial.proofs.AccessLaws.{listed-set}
-use Rattle.code.specs.Instr.{instructions, resume}
+use Rattle.rules.specs.Serial.{finished, failed, Result, from, serial}
 use Rattle.operands.specs.declared.Move.{Move}
 use Rattle.operands.specs.declared.Move.the-variants.{Read, Write, Update, Fault, End}
-use Rattle.operands.specs.Pending.{pendings, Holding}
 use Rattle.operands.specs.Performing.{left}
-use Rattle.operands.proofs.Pending.{pendings-push}
-use Rattle.machine.specs.declared.Advanced.{Advanced}
+use Rattle.stepping.specs.Step.{Scene, at, moved, Goes, Went}
+use Rattle.stepping.specs.Carrying.{opened, is-open, CanCarry}
+use Rattle.stepping.specs.declared.Role.{Role}
+use Rattle.stepping.proofs.Happening.{rest}
+use Rattle.stepping.proofs.Nearing.{fault-some}
+use Rattle.serial.specs.Serving.{alone}
+use Rattle.serial.proofs.Serving.{onward, grown, Serving}
+use Rattle.serial.proofs.Stepping.{onward-begin, serial-grown, can-serve}
 use Rattle.reorder.specs.StageTable.{note, during}
 use Rattle.reorder.proofs.StageTableRight.{during-small, during-access}
-use Rattle.staging.specs.Rows.{noted-in, over-in}
+use Rattle.staging.specs.Rows.{noted-in, over-in, Notable}
+use Rattle.staging.specs.Kept.{Kept}
 use Rattle.staging.proofs.Keeping.{kept-notable, kept-note, kept-over}
-use Rattle.sweeping.specs.Moves.{Scene, joined-in, moved, Accessible, CanMove, Comes, CanGo, Goes}
-use Rattle.sweeping.specs.Sweep.{Serves, Stands, After}
+use Rattle.sweeping.specs.Sweep.{CanNote, noted-by, over-by, Notes, After, Runs}
 
--- ---- what stands after an access of cell c by iteration i
+-- ---- one access more
 
-module _ (l : Loop) (i : ℕ) (M : List ℤ) (W L : List ℕ) (m : ℕ → ℤ) (g : Log) (s : Stands l i M W L m g) (c : ℕ) (b : c < l .size) where
-  stands-at : cellOf M c ≡ m c
-  stands-at = ap (λ (y : List ℤ). cellOf y c) (s .cells) ∙ cell-listed (l .size) m c b
+module _ (l : Loop) (i : ℕ) (R L : List ℕ) (g : Log) (s : Kept (l .size) (l .iterations) i R L (during g i)) (c : ℕ) (b : c < l .size) (k : Kind) (y : ℤ) where
+  more : note (access k i c y) (during g i) ≡ during (access k i c y ∷ g) i
+  more = sym (during-access (access k i c y) g)
 
-  stands-length : length M ≡ l .size
-  stands-length = ap length (s .cells) ∙ listed-length (l .size) m
+  kept-more : Kept (l .size) (l .iterations) i (noted-in k L i R c) L (during (access k i c y ∷ g) i)
+  kept-more = rw (← more) (kept-note (l .size) (l .iterations) i R L (during g i) s (during-small g i .last) c b k y)
 
-  module _ (k : Kind) (v : ℤ) where
-    -- the table of one access more
-    more : note (access k i c v) (during g i) ≡ during (access k i c v ∷ g) i
-    more = sym (during-access (access k i c v) g)
-
-    stands-more : (M′ : List ℤ) (m′ : ℕ → ℤ) → M′ ≡ listed (l .size) m′ → Stands l i M′ (noted-in k L i W c) L m′ (access k i c v ∷ g)
-    stands-more M′ m′ e = record {
-      cells = e;
-      kept = rw (← more) (kept-note (l .size) (l .iterations) i W L (during g i) (s .kept) (during-small g i .last) c b k v);
-      upto = λ j y. only-other (λ n. n) (access k i c v) (omega (arith, y)) g ∙ s .upto j y;
-    }
-
-    stands-over : (o : ℕ) → o ≡ during g i .over → over-in k L i W c o ≡ during (access k i c v ∷ g) i .over
-    stands-over o e = rw (← more) (kept-over (l .size) (l .iterations) i W L (during g i) (s .kept) (during-small g i .last) c b k v o e)
+  over-more : (o : ℕ) → o ≡ during g i .over → over-in k L i R c o ≡ during (access k i c y ∷ g) i .over
+  over-more o e = rw (← more) (kept-over (l .size) (l .iterations) i R L (during g i) s (during-small g i .last) c b k y o e)
 
 -- ---- an iteration under way
 
-module _ (code C L : List ℕ) (v : ℤ) (i : ℕ) (l : Loop) where
-  -- what is left of it
-  abbrev rest : Scene → Act
-  rest z = resume (instructions code) (z .point .place) (pendings (z .pending) (z .point .depth)) v
-
-  abbrev next : (ℕ → ℤ) → Log → Result
-  next = from l (l .iterations - suc i) (suc i)
-
-  pub record Under (z : Scene) : Type 0 where
+module _ (code : List ℕ) (v : ℤ) (l : Loop) (i : ℕ) (L : List ℕ) where
+  -- in a scene, with the rows R, having to come after o
+  pub record Under (R : List ℕ) (o : ℕ) (z : Scene) : Type 0 where
     pub m : ℕ → ℤ
     pub g : Log
-    pub stands : Stands l i (z .cells) (z .words) L m g
-    pub over : z .point .over ≡ during g i .over
-    pub holding : Holding (z .pending) (z .point .depth)
-    pub result : serial l ≡ along l i (rest z) m g next
-    pub sized : Sized (l .size) (rest z)
+    pub serving : Serving code v l z m g
+    pub here : at z ≡ i
+    pub kept : Kept (l .size) (l .iterations) i R L (during g i)
+    pub over : o ≡ during g i .over
 
-  -- it goes on, or not
-  abbrev pub Reached : Bool → Scene → Type 0
-  Reached true z = Under z
-  Reached false z = After l i (z .cells) (z .words) L (z .point .over)
+  -- or over
+  abbrev pub Reached : List ℕ → ℕ → Scene → Type 0
+  Reached R o z = Under R o z ⊎ ((at z ≡ suc i) × After l i (z .cells) (z .words) R L o)
 
-  abbrev pub At : Scene → Type 0
-  At z = Reached (z .point .going) z
+  pub still-under : (R : List ℕ) (o : ℕ) (z : Scene) → at z ≡ i → Reached R o z → Under R o z
+  still-under R o z e (inl u) = u
+  still-under R o z e (inr (n, a)) = absurd (omega arith)
 
-  pub still-under : (z : Scene) → z .point .going ≡ true → At z → Under z
-  still-under z e h = subst (λ (b : Bool). Reached b z) e h
+  pub now-after : (R : List ℕ) (o : ℕ) (z : Scene) → at z ≢ i → Reached R o z → After l i (z .cells) (z .words) R L o
+  now-after R o z e (inl u) = absurd (e (u .here))
+  now-after R o z e (inr (n, a)) = a
 
-  pub now-after : (z : Scene) → z .point .going ≡ false → At z → After l i (z .cells) (z .words) L (z .point .over)
-  now-after z e h = subst (λ (b : Bool). Reached b z) e h
+  module _ (faultless : serial l .outcome ≡ finished) where
+    -- no fault stops it
+    unfaulted : (z : Scene) (m : ℕ → ℤ) (g : Log) → Serving code v l z m g → z .point .fault ≡ 0
+    unfolding onward
+    unfaulted z m g s = elim (ℕ-discrete (z .point .fault) 0) [
+      | yes e ↦ e
+      | no n ↦
+          let f : failed (z .point .fault) (z .point .line) (at z) ≡ finished
+          = ap (λ (r : Result). r .outcome) (sym (s .result ∙ pick-other n _ _)) ∙ faultless in
+          let q : _≡_ {A = ℕ} 0 1 = cc in absurd (omega arith)
+    ]
 
-  module _ (s : Serves code C v i l) (z : Scene) (u : Under z) where
-    sized-as : (a : Act) → rest z ≡ a → Sized (l .size) a
-    sized-as a e = subst (Sized (l .size)) e (u .sized)
+    module _ (low : i < l .iterations) (R : List ℕ) (o : ℕ) (z : Scene) (u : Under R o z) where
+      -- a step can be made
+      pub under-open : is-open (alone v (l .iterations)) z ≡ true
+      unfolding opened
+      under-open = rw (eq-eqb (z .point .fault) 0 (unfaulted z (u .m) (u .g) (u .serving)), lt-ltb (at z) (l .iterations) (omega (arith, u .here, low)))
 
-    goes : (a : Act) → rest z ≡ a → serial l ≡ along l i a (u .m) (u .g) next
-    goes a e = u .result ∙ ap (λ (y : Act). along l i y (u .m) (u .g) next) e
+      -- and noted, and then the iteration is still under way, or over
+      module _ (z′ : Scene) (w : Goes (alone v (l .iterations)) code z z′) where
+        abbrev x : Role
+        x = alone v (l .iterations)
 
-    accessible : (c : ℕ) → c < l .size → Accessible C L i (z .cells) (z .words) c
-    accessible c b = record {
-      inside = omega (arith, b, stands-length l i (z .cells) (z .words) L (u .m) (u .g) (u .stands) c b);
-      classed = omega (arith, b, s .number);
-      notable = kept-notable (l .size) (l .iterations) i (z .words) L (during (u .g) i) (u .stands .kept) (during-small (u .g) i .last) c b
-          (omega (arith, b, s .few)) (s .low) (s .short);
-    }
+        sized-as : (a : Act) → rest x code z ≡ a → Sized (l .size) a
+        sized-as a e = subst (Sized (l .size)) e (u .serving .sized (unfaulted z (u .m) (u .g) (u .serving)) (omega (arith, u .here, low)))
 
-    -- a step can be made
-    pub can-go : CanGo code C L v i z
-    unfolding CanMove left
-    can-go = record { holding = u .holding; reach = λ b r h. go r h (r .done) refl }
-      where
-        go : {b : List ℤ} (r : Advanced) → Comes code v z b r → (w : Move) → r .done ≡ w → CanMove C L i (z .cells) (z .words) (r .done)
-        go r h (Read c) q = let y = sized-as _ (rw q at (h .meaning)) in rw q (accessible c (y .0))
-        go r h (Write c x) q = let y = sized-as _ (rw q at (h .meaning)) in rw q (accessible c (y .0))
-        go r h (Update c x) q = let y = sized-as _ (rw q at (h .meaning)) in rw q (accessible c (y .0))
-        go r h (Fault n t) q = rw q tt
-        go r h End q = rw q tt
+        notable : (c : ℕ) → c < l .size → Notable L i R c
+        notable c b =
+            let h = u .serving .stands .suits in
+            kept-notable (l .size) (l .iterations) i R L (during (u .g) i) (u .kept) (during-small (u .g) i .last) c b (omega (arith, b, h .cells-most)) low
+            (h .iterations-most)
 
-    -- and leads to where the iteration is still under way, or at its end
-    module _ (z′ : Scene) (w : Goes code C L v i z z′) where
-      abbrev on : List ℤ → Act
-      on p = resume (instructions code) (w .reached .place) p v
+        pub can-note : (a : Move) → w .reached .done ≡ a → CanNote L i R a
+        unfolding CanNote left
+        can-note (Read c) q = notable c (sized-as _ (rw q at (w .comes .meaning)) .0)
+        can-note (Write c y) q = notable c (sized-as _ (rw q at (w .comes .meaning)) .0)
+        can-note (Update c y) q = notable c (sized-as _ (rw q at (w .comes .meaning)) .0)
+        can-note (Fault n t) q = tt
+        can-note End q = tt
 
-      came : (a : Move) → w .reached .done ≡ a → rest z ≡ left a on (pendings (w .pending) (w .reached .depth))
-      came a q = rw q at (w .comes .meaning)
+        -- after an access of cell c
+        on : (k : Kind) (c : ℕ) (y : ℤ) → c < l .size → (m′ : ℕ → ℤ) → Serving code v l z′ m′ (access k (at z) c y ∷ u .g) → at z′ ≡ at z
+            → Reached (noted-in k L i R c) (over-in k L i R c o) z′
+        on k c y b m′ s e = inl (record {
+          m = m′;
+          g = access k i c y ∷ u .g;
+          serving = subst (λ (j : ℕ). Serving code v l z′ m′ (access k j c y ∷ u .g)) (u .here) s;
+          here = e ∙ u .here;
+          kept = kept-more l i R L (u .g) (u .kept) c b k y;
+          over = over-more l i R L (u .g) (u .kept) c b k y o (u .over);
+        })
 
-      holds : (a : Move) → w .reached .done ≡ a → Holding (w .pending) (w .reached .depth)
-      holds a q = record { size = w .comes .size; most = omega (arith, w .comes .room) }
+        by : (a : Move) → w .reached .done ≡ a → (m′ : ℕ → ℤ) → Serving code v l z′ m′ (grown (at z) (u .m) (u .g) a)
+            → z′ ≡ moved x (at z) (z .cells) (z .words) (w .pending) (w .reached .place) (w .reached .depth) a
+            → Reached (noted-by L i R a) (over-by L i R o a) z′
+        unfolding moved left noted-by over-by
+        by (Read c) q m′ s h = on reads c (u .m c) (sized-as _ (rw q at (w .comes .meaning)) .0) m′ s (ap at h)
+        by (Write c y) q m′ s h = on writes c y (sized-as _ (rw q at (w .comes .meaning)) .0) m′ s (ap at h)
+        by (Update c y) q m′ s h = on updates c y (sized-as _ (rw q at (w .comes .meaning)) .0) m′ s (ap at h)
+        by (Fault n t) q m′ s h =
+            absurd (omega (arith, fault-some x code z z′ w n t q, unfaulted z′ m′ (u .g) s, ap (λ (y : Scene). y .point .fault) h))
+        by End q m′ s h =
+            let e : at z′ ≡ suc i = ap at h ∙ add-one (at z) ∙ ap suc (u .here) in
+            let k : at z′ + (l .iterations - suc i) ≡ l .iterations = omega (arith, e, low) in
+            inr (
+              e,
+              record {
+                m = m′;
+                g = u .g;
+                stands = record {
+                  suits = s .stands .suits;
+                  cells = s .stands .cells;
+                  words = s .stands .words;
+                  inside = s .stands .inside;
+                  ascending = s .stands .ascending;
+                  upto = λ j b. u .serving .stands .upto j (omega (arith, u .here, b));
+                };
+                kept = u .kept;
+                over = u .over;
+                result =
+                    s .result
+                    ∙ sym (onward-begin l code v z′ m′ (u .g) (s .coded) (ap (λ (y : Scene). y .point .fault) h) (ap (λ (y : Scene). y .point .place) h)
+                    (ap (λ (y : Scene). y .point .depth) h) (l .iterations - suc i) k)
+                    ∙ ap (λ (j : ℕ). from l (l .iterations - suc i) j m′ (u .g)) e;
+              },
+            )
 
-      by : (a : Move) → w .reached .done ≡ a
-          → z′ ≡ moved C L i (z .cells) (z .words) (w .pending) (z .point .over) (w .reached .place) (w .reached .depth) a → At z′
-      unfolding moved left along
-      by (Read c) q h =
-          let e = came (Read c) q in
-          let y = sized-as _ e in
-          let x : cellOf (z .cells) c ≡ u .m c = stands-at l i (z .cells) (z .words) L (u .m) (u .g) (u .stands) c (y .0) in
-          let low : w .reached .depth < 32 = omega (arith, rw q at (w .comes .room)) in
-          let f : pendings (set (w .pending) (w .reached .depth) (cellOf (z .cells) c)) (w .reached .depth + 1)
-          ≡ u .m c ∷ pendings (w .pending) (w .reached .depth)
-          = pendings-push (w .pending) (w .reached .depth) (cellOf (z .cells) c) (omega (arith, w .comes .size)) ∙ rw x in
-          rw h (record {
-            m = u .m;
-            g = access reads i c (u .m c) ∷ u .g;
-            stands = stands-more l i (z .cells) (z .words) L (u .m) (u .g) (u .stands) c (y .0) reads (u .m c) (z .cells) (u .m) (u .stands .cells);
-            over = stands-over l i (z .cells) (z .words) L (u .m) (u .g) (u .stands) c (y .0) reads (u .m c) (z .point .over) (u .over);
-            holding = record { size = simp length-set (w .comes .size); most = omega arith };
-            result = goes _ e ∙ rw f;
-            sized = rw f (y .1 (u .m c));
-          })
-      by (Write c x) q h =
-          let e = came (Write c x) q in
-          let y = sized-as _ e in
-          rw h (record {
-            m = put (u .m) c x;
-            g = access writes i c x ∷ u .g;
-            stands = stands-more l i (z .cells) (z .words) L (u .m) (u .g) (u .stands) c (y .0) writes x (set (z .cells) c x) (put (u .m) c x)
-                (ap (λ (n : List ℤ). set n c x) (u .stands .cells) ∙ listed-set (l .size) (u .m) c x (y .0));
-            over = stands-over l i (z .cells) (z .words) L (u .m) (u .g) (u .stands) c (y .0) writes x (z .point .over) (u .over);
-            holding = holds (Write c x) q;
-            result = goes _ e;
-            sized = y .1;
-          })
-      by (Update c x) q h =
-          let e = came (Update c x) q in
-          let y = sized-as _ e in
-          let n : ℤ = joining l c .join (u .m c) x in
-          rw h (record {
-            m = put (u .m) c n;
-            g = access updates i c x ∷ u .g;
-            stands = stands-more l i (z .cells) (z .words) L (u .m) (u .g) (u .stands) c (y .0) updates x (joined-in C (z .cells) c x) (put (u .m) c n)
-                (joined c x (y .0) ∙ ap (λ (k : List ℤ). set k c n) (u .stands .cells) ∙ listed-set (l .size) (u .m) c n (y .0));
-            over = stands-over l i (z .cells) (z .words) L (u .m) (u .g) (u .stands) c (y .0) updates x (z .point .over) (u .over);
-            holding = holds (Update c x) q;
-            result = goes _ e;
-            sized = y .1;
-          })
-        where
-          joined : (c : ℕ) (x : ℤ) → c < l .size → joined-in C (z .cells) c x ≡ set (z .cells) c (joining l c .join (u .m c) x)
-          joined c x b = unfold joined-in in
-              let o = ap Rattle.rules.specs.Numbers.operator-by (s .classes c b) ∙ operator-number (l .class c) in
-              let f = stands-at l i (z .cells) (z .words) L (u .m) (u .g) (u .stands) c b in
-              rw (o, f)
-      by (Fault n t) q h = absurd (let e = goes _ (came (Fault n t) q) in
-          let f : failed n t i ≡ finished = ap (λ (r : Result). r .outcome) (sym e) ∙ s .faultless in
-          let z : _≡_ {A = ℕ} 0 1 = cc in omega arith)
-      by End q h = rw h (record { m = u .m; g = u .g; stands = u .stands; over = u .over; result = goes _ (came End q) })
+        pub went : Reached (noted-by L i R (w .reached .done)) (over-by L i R o (w .reached .done)) z′
+        went = let (m′, s) = serial-grown code v l z (u .m) (u .g) (u .serving) under-open z′ w in by (w .reached .done) refl m′ s (w .makes .after)
 
-      pub went : At z′
-      went = by (w .reached .done) refl (w .after)
+-- ---- a step, as the code makes it
+
+module _ (code : List ℕ) (x : Role) (v : ℤ) (l : Loop) (i : ℕ) (L R : List ℕ) (o : ℕ) (z : Scene) (s : Runs code x v l) (low : i < l .iterations)
+    (u : Under code v l i L R o z) where
+  pub can-step : CanCarry x code z
+  can-step = can-serve code v l x (s .role) z (u .m, u .g, u .serving)
+
+  pub step-open : is-open x z ≡ true
+  step-open = rw (s .role) (under-open code v l i L (s .faultless) low R o z u)
+
+  module _ (z′ : Scene) (a : Move) (w : Went x code z z′ a) where
+    gone : Went (alone v (l .iterations)) code z z′ a
+    gone = subst (λ (y : Role). Went y code z z′ a) (s .role) w
+
+    pub step-noted : CanNote L i R a
+    step-noted = can-note code v l i L (s .faultless) low R o z u z′ (gone .goes) a (gone .by)
+
+    pub step-went : (R′ : List ℕ) (o′ : ℕ) → Notes L i R a o R′ o′ → Reached code v l i L R′ o′ z′
+    step-went R′ o′ n = rw (n .rows, n .over) (subst (λ (y : Move). Reached code v l i L (noted-by L i R y) (over-by L i R o y) z′) (gone .by)
+        (went code v l i L (s .faultless) low R o z u z′ (gone .goes)))

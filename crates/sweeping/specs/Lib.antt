@@ -1,4 +1,2 @@
--- The sweep: its moves and steps,
-pub mod Moves
--- and what it promises.
+-- What the sweep promises.
 pub mod Sweep

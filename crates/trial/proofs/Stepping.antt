@@ -22,6 +22,7 @@ use Rattle.stepping.specs.declared.Point.{Point}
 use Rattle.stepping.specs.declared.Role.{Role}
 use Rattle.stepping.specs.Access.{joined-by}
 use Rattle.stepping.specs.Step.{Scene, scene, CanGo, Goes}
+use Rattle.operands.specs.declared.Move.{Move}
 use Rattle.stepping.proofs.Happening.{rest, can-reach, Continues, Happens, happens}
 use Rattle.stepping.proofs.Happening as happening
 use Rattle.trial.specs.declared.Setting.{Setting}
@@ -147,7 +148,7 @@ module _ (code : List ℕ) (g : Setting) (l : Loop) (M : List ℤ) (W : List ℕ
               ∙ sym (pick-same (c .unstopped) _ _);
         })
 
-    by : Happens x code z z′ → After
+    by : {a : Move} → Happens x code z z′ a → After
     unfolding go-on left-of pendings joined-by
     by (happening.reads c on f q h w r) =
         let b = allowed c (sized _ f .0) in

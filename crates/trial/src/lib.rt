@@ -74,7 +74,8 @@ fn carry(
         fault: worker.fault,
         line: worker.line,
     };
-    let t = stepping::carry_on(code, role, cells, w, &mut pending, from, extent);
+    let r = stepping::carry_on(code, role, cells, w, &mut pending, from, extent);
+    let t = r.point;
     let j = t.iteration;
     Worker {
         pending: pending,

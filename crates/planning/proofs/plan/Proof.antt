@@ -1,6 +1,6 @@
 -- `planning::plan` meets its contract.
 use native.Mathlib.Omega.{arith}
-use mathlib.Core.Path.{_≡_, sym, _∙_}
+use mathlib.Core.Path.{_≡_, refl, sym, _∙_}
 use mathlib.Core.List.{[]}
 use lib.ListN.{length}
 use Rattle.preparing.proofs.Beginning.{ready-bad, ready-fine, ready-few}
@@ -75,21 +75,26 @@ slice-aggregate-stages-of c = search needs
 slice-aggregate-stages-of-2 : tie.Need-slice-aggregate-stages-of-2
 slice-aggregate-stages-of-2 c = search needs
 
+slice-aggregate-stages-of-3 : tie.Need-slice-aggregate-stages-of-3
+slice-aggregate-stages-of-3 c = search needs
+
 stages-of-requires : tie.Need-stages-of-requires
 stages-of-requires c κs =
-    let c6 = c .before .before .before .before .before .before in
-    let c8 = c6 .before .before in
-    let c9 = c8 .before in
-    let c12 = c9 .before .before .before in
-    let c16 = c12 .before .before .before .before in
-    let c22 = c16 .before .before .before .before .before .before in
-    let a = c22 .args in
-    let r = c16 .prepare .result in
+    let c7 = c .before .before .before .before .before .before .before in
+    let c9 = c7 .before .before in
+    let c10 = c9 .before in
+    let c13 = c10 .before .before .before in
+    let c17 = c13 .before .before .before .before in
+    let c23 = c17 .before .before .before .before .before .before in
+    let a = c23 .args in
+    let r = c17 .prepare .result in
+    let few = ready-few _ _ _ _ (c17 .prepare .ensures) (ready-fine _ _ _ _ (c17 .prepare .ensures) (c13 .if1 .left)) .0 in
     let f = fit-zero (r .cells) (r .setting .processors) (length (a .cells .now)) (length (a .workspace .now)) []
-    (sym (c9 .unfit .ensures) ∙ c8 .if2 .left) in (
-      can-plan _ (a .cells .now) (a .workspace .now) (a .list .now) _ _ _ (ready-fine _ _ _ _ (c16 .prepare .ensures) (c12 .if1 .left)) _ (c9 .unfit .ensures)
-          (c8 .if2 .left) (let z : length (a .list .now) ≡ r .setting .iterations = omega (arith, c6 .if3 .left) in z),
-      omega (arith, f .cells-are, ready-few _ _ _ _ (c16 .prepare .ensures) (ready-fine _ _ _ _ (c16 .prepare .ensures) (c12 .if1 .left)) .0),
+    (sym (c10 .unfit .ensures) ∙ c9 .if2 .left) in (
+      can-plan _ (a .cells .now) (a .workspace .now) (a .list .now) _ _ _ (ready-fine _ _ _ _ (c17 .prepare .ensures) (c13 .if1 .left)) _ (c10 .unfit .ensures)
+          (c9 .if2 .left) (let z : length (a .list .now) ≡ r .setting .iterations = omega (arith, c7 .if3 .left) in z),
+      omega (arith, f .cells-are, few),
+      record { zero = refl; room = omega (arith, f .cells-are, few) },
     )
 
 same-length : tie.Need-same-length
@@ -100,18 +105,18 @@ same-length-2 c = search needs
 
 returns-4 : tie.Need-returns-4
 returns-4 c =
-    let c5 = c .before .before .before .before .before in
-    let c12 = c5 .before .before .before .before .before .before .before in
-    let c14 = c12 .before .before in
-    let c15 = c14 .before in
-    let c18 = c15 .before .before .before in
-    let c22 = c18 .before .before .before .before in
-    let c28 = c22 .before .before .before .before .before .before in
-    let r = c22 .prepare .result in
-    let a = c28 .args in
-    plan-done _ (a .cells .now) (a .workspace .now) (a .list .now) _ _ _ (ready-fine _ _ _ _ (c22 .prepare .ensures) (c18 .if1 .left)) _ (c15 .unfit .ensures)
-    (c14 .if2 .left) (let z : length (a .list .now) ≡ r .setting .iterations = omega (arith, c12 .if3 .left) in z) _ _ _ (c5 .stages-of .ensures .0)
-    (c5 .stages-of .ensures .1)
+    let c6 = c .before .before .before .before .before .before in
+    let c14 = c6 .before .before .before .before .before .before .before .before in
+    let c16 = c14 .before .before in
+    let c17 = c16 .before in
+    let c20 = c17 .before .before .before in
+    let c24 = c20 .before .before .before .before in
+    let c30 = c24 .before .before .before .before .before .before in
+    let r = c24 .prepare .result in
+    let a = c30 .args in
+    plan-done _ (a .cells .now) (a .workspace .now) (a .list .now) _ _ _ (ready-fine _ _ _ _ (c24 .prepare .ensures) (c20 .if1 .left)) _ (c17 .unfit .ensures)
+    (c16 .if2 .left) (let z : length (a .list .now) ≡ r .setting .iterations = omega (arith, c14 .if3 .left) in z) _ _ _ (c6 .stages-of .ensures .0)
+    (c6 .stages-of .ensures .1)
 
 pub plan-spec : {M : Type 1} → statement M
 plan-spec =
@@ -131,6 +136,7 @@ plan-spec =
     part-stages-of-end
     slice-aggregate-stages-of
     slice-aggregate-stages-of-2
+    slice-aggregate-stages-of-3
     stages-of-requires
     same-length
     same-length-2

@@ -22,6 +22,7 @@ part-run-end c = search needs
 run-requires : tie.Need-run-requires
 run-requires c κs =
     let c3 = c .before .before .before in
+    let c3 = c3 in
     let c8 = c3 .before .before .before .before .before in
     let a = c8 .args in
     can-run (c3 .copy-front .last .0) (a .cells .now) (c3 .copy-front .ensures) (a .code .now) (a .setting) (a .classes .now) _ (c8 .pre .0)
@@ -38,6 +39,7 @@ same-length-2 c = search needs
 returns : tie.Need-returns
 returns c =
     let c7 = c .before .before .before .before .before .before .before in
+    let c7 = c7 in
     let c11 = c7 .before .before .before .before in
     let c16 = c11 .before .before .before .before .before in
     let a = c16 .args in (

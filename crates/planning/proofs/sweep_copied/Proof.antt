@@ -21,10 +21,10 @@ part-sweep-end c = search needs
 
 sweep-requires : tie.Need-sweep-requires
 sweep-requires c κs =
-    let c4 = c .before .before .before .before in
-    let c10 = c4 .before .before .before .before .before .before in
-    let a = c10 .args in
-    can-sweep (c4 .copy-front .last .0) (a .cells .now) (c4 .copy-front .ensures) (a .code .now) (a .setting) (a .classes .now) _ _ (c10 .pre .0)
+    let c5 = c .before .before .before .before .before in
+    let c12 = c5 .before .before .before .before .before .before .before in
+    let a = c12 .args in
+    can-sweep (c5 .copy-front .last .0) (a .cells .now) (c5 .copy-front .ensures) (a .code .now) (a .setting) (a .classes .now) _ _ _ (c12 .pre .0)
 
 clear-requires : tie.Need-clear-requires
 clear-requires c κs = search needs
@@ -38,15 +38,18 @@ same-length-2 c = search needs
 same-length-3 : tie.Need-same-length-3
 same-length-3 c = search needs
 
+same-length-4 : tie.Need-same-length-4
+same-length-4 c = search needs
+
 returns : tie.Need-returns
 returns c =
-    let c9 = c .before .before .before .before .before .before .before .before .before in
-    let c14 = c9 .before .before .before .before .before in
-    let c20 = c14 .before .before .before .before .before .before in
-    let a = c20 .args in (
-      sweeps-front (c14 .copy-front .last .0) (a .cells .now) (c14 .copy-front .ensures) (a .code .now) (a .setting) (a .classes .now) _ _ _
-          (c9 .sweep .ensures),
-      c .before .before .clear .ensures ∙ ap (λ (n : ℕ). replicate {A = ℕ} n 0) (c9 .sweep .kept .1 .1 .1 .1 .0),
+    let c11 = c .before .before .before .before .before .before .before .before .before .before .before in
+    let c17 = c11 .before .before .before .before .before .before in
+    let c24 = c17 .before .before .before .before .before .before .before in
+    let a = c24 .args in (
+      sweeps-front (c17 .copy-front .last .0) (a .cells .now) (c17 .copy-front .ensures) (a .code .now) (a .setting) (a .classes .now) _ _ _
+          (c11 .sweep .ensures),
+      c .before .before .clear .ensures ∙ ap (λ (n : ℕ). replicate {A = ℕ} n 0) (c11 .sweep .kept .1 .1 .1 .1 .0),
     )
 
 pub sweep-copied-spec : {M : Type 1} → statement M
@@ -62,4 +65,5 @@ sweep-copied-spec =
     same-length
     same-length-2
     same-length-3
+    same-length-4
     returns)

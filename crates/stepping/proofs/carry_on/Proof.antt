@@ -8,7 +8,7 @@ use Rattle.stepping.specs.Step.{scene}
 use Rattle.stepping.specs.Carrying.{Reached, start, on}
 use Rattle.stepping.proofs.Opened.{opened-yes}
 use Rattle.stepping.proofs.Nearing.{togo, goes-nearer}
-use Rattle.stepping.proofs.Carried.{never, carried-once, carried-over}
+use Rattle.stepping.proofs.Carried.{never, carried-once, carried-over, does-once, does-over}
 use Rattle.stepping.proofs.carry_on.Statement.{statement}
 use Rattle.stepping.proofs.carry_on.Tie as tie
 
@@ -48,42 +48,52 @@ same-length-2 c = search needs
 
 returns : tie.Need-returns Inv-loop μ-loop
 returns c =
-    let c5 = c .before .before .before .before .before in
-    let c9 = c5 .before .before .before .before in
-    let c10 = c9 .before in
+    let c6 = c .before .before .before .before .before .before in
+    let c10 = c6 .before .before .before .before in
     let c11 = c10 .before in
-    let c15 = c11 .before .before .before .before in
-    let u = c11 .loop in
-    let q : c15 .args .extent ≡ Once = c .enum-told .given .1 in
-    carried-once (c15 .args .role) (c15 .args .code .now) _ _ (c15 .args .extent) q (u .inv .3 q) (sym (c10 .is-open .ensures) ∙ c9 .if1 .taken) _
-    (c5 .go-on .ensures)
+    let c12 = c11 .before in
+    let c16 = c12 .before .before .before .before in
+    let a = c16 .args in
+    let u = c12 .loop in
+    let o = sym (c11 .is-open .ensures) ∙ c10 .if1 .taken in
+    let w = c6 .go-on .ensures in
+    let q : a .extent ≡ Once = c .enum-told .given .1 in (
+      carried-once (a .role) (a .code .now) _ _ (a .extent) q (u .inv .3 q) o _ (w .goes),
+      does-once (a .role) (a .code .now) _ _ _ _ (a .extent) q (u .inv .3 q) w,
+    )
 
 enum-told-2 : tie.Need-enum-told-2 Inv-loop μ-loop
 enum-told-2 c = search needs
 
 loop-less : tie.Need-loop-less Inv-loop μ-loop
 loop-less c =
-    let c5 = c .before .before .before .before .before in
-    let c9 = c5 .before .before .before .before in
-    let c10 = c9 .before in
+    let c6 = c .before .before .before .before .before .before in
+    let c10 = c6 .before .before .before .before in
     let c11 = c10 .before in
-    let c15 = c11 .before .before .before .before in
-    let u = c11 .loop in
-    let o = opened-yes (u .t) (c15 .args .role .end .0) (sym (c10 .is-open .ensures) ∙ c9 .if1 .taken) in
-    goes-nearer (c15 .args .role) (c15 .args .code .now) _ _ (c5 .go-on .ensures) (c15 .args .role .end .0) (o .0) (o .1)
+    let c12 = c11 .before in
+    let c16 = c12 .before .before .before .before in
+    let a = c16 .args in
+    let u = c12 .loop in
+    let o = sym (c11 .is-open .ensures) ∙ c10 .if1 .taken in
+    let w = c6 .go-on .ensures in
+    let y = opened-yes (u .t) (a .role .end .0) o in
+    goes-nearer (a .role) (a .code .now) _ _ (w .goes) (a .role .end .0) (y .0) (y .1)
 
 loop-again : tie.Need-loop-again Inv-loop μ-loop
 loop-again c =
-    let c5 = c .before .before .before .before .before in
-    let c9 = c5 .before .before .before .before in
-    let c10 = c9 .before in
+    let c6 = c .before .before .before .before .before .before in
+    let c10 = c6 .before .before .before .before in
     let c11 = c10 .before in
-    let c15 = c11 .before .before .before .before in
-    let u = c11 .loop in
-    let q : c15 .args .extent ≡ ToTheEnd = c .enum-told2 .given .1 in (
-      search needs,
-      search needs,
-      on (u .inv .2) (sym (c10 .is-open .ensures) ∙ c9 .if1 .taken) (c5 .go-on .ensures),
+    let c12 = c11 .before in
+    let c16 = c12 .before .before .before .before in
+    let a = c16 .args in
+    let u = c12 .loop in
+    let o = sym (c11 .is-open .ensures) ∙ c10 .if1 .taken in
+    let w = c6 .go-on .ensures in
+    let q : a .extent ≡ ToTheEnd = c .enum-told2 .given .1 in (
+      c6 .go-on .kept .1 .1 .0 ∙ u .inv .0,
+      c6 .go-on .kept .1 .1 .1 .0 ∙ u .inv .1,
+      on (u .inv .2) o (w .goes),
       λ e. absurd (never e q),
     )
 
@@ -96,8 +106,12 @@ same-length-4 c = search needs
 returns-2 : tie.Need-returns-2 Inv-loop μ-loop
 returns-2 c =
     let c6 = c .before .before .before .before .before .before in
+    let a = c6 .args in
     let u = c .before .before .loop in
-    carried-over (c6 .args .role) (c6 .args .code .now) _ _ (c6 .args .extent) (u .inv .3) (u .inv .2) (sym (c .before .is-open .ensures) ∙ c .if1 .left)
+    let o = sym (c .before .is-open .ensures) ∙ c .if1 .left in (
+      carried-over (a .role) (a .code .now) _ _ (a .extent) (u .inv .3) (u .inv .2) o,
+      does-over (a .role) (a .code .now) _ _ _ (a .extent) (u .inv .3) o,
+    )
 
 pub carry-on-spec : {M : Type 1} → statement M
 carry-on-spec =

@@ -1,97 +1,134 @@
 -- `sweeping::iterate` meets its contract.
-use mathlib.Core.Path.{_≡_, refl, sym, subst}
-use Prim.Native.Nat.{_/_}
-use mir.Syntax.{w32}
-use mir.Val.{toZ, ofZ}
+use mathlib.Core.Path.{_≡_, refl, _∙_}
+use mathlib.Core.Logic.{inl}
+use Prim.Native.Nat.{_/_, _<_}
 use lib.ListN.{length}
 use lib.IntN.{ℤ}
 use Rattle.rules.specs.Loop.{Loop}
-use Rattle.sweeping.specs.Moves.{scene}
-use Rattle.sweeping.specs.Sweep.{Serves, Before}
-use Rattle.sweeping.proofs.Stepping.{At, still-under, now-after, can-go, went}
+use Rattle.stepping.specs.Step.{scene}
+use Rattle.stepping.specs.Carrying.{Does}
+use Rattle.stepping.proofs.Opened.{opened-yes}
+use Rattle.stepping.proofs.Nearing.{togo, goes-nearer}
+use Rattle.sweeping.specs.Sweep.{Before, Runs}
+use Rattle.sweeping.proofs.Stepping.{Reached, still-under, now-after, can-step, step-open, step-noted, step-went}
 use Rattle.sweeping.proofs.Ends.{iterate-start}
-use Rattle.sweeping.proofs.Moving.{togo, goes-nearer}
 use borrow.Author.Needs.{needs}
 use Rattle.sweeping.proofs.iterate.Statement.{statement}
 use Rattle.sweeping.proofs.iterate.Tie as tie
 
 abbrev Inv-loop : tie.InvT-loop
-Inv-loop code classes list v i cells₀ w₀ pending₀ t₀ cells w pending t =
+Inv-loop code role list i cells₀ w₀ rows₀ pending₀ t₀ over₀ cells w rows pending t over =
     (length cells ≡ length cells₀)
     × (length w ≡ length w₀)
-    × ((l : Loop) → Serves code classes (toZ w32 v) (i .0) l → Before l (i .0) cells₀ w₀ list
-    → At code classes list (toZ w32 v) (i .0) l (scene cells w pending t))
+    × (length rows ≡ length rows₀)
+    × ((v : ℤ) (l : Loop) → Runs code role v l → i .0 < l .iterations → Before l (i .0) cells₀ w₀ rows₀ list
+    → Reached code v l (i .0) list rows over (scene cells w pending t))
 
 abbrev μ-loop : tie.MeasureT-loop
-μ-loop code classes list v i cells₀ w₀ pending₀ t₀ cells w pending t = togo (length code / 2) t
+μ-loop code role list i cells₀ w₀ rows₀ pending₀ t₀ over₀ cells w rows pending t over = togo (length code / 2) (role .end .0) t
+
+unstopped-at-requires : tie.Need-unstopped-at-requires Inv-loop μ-loop
+unstopped-at-requires c κs = search needs
 
 loop-holds : tie.Need-loop-holds Inv-loop μ-loop
 loop-holds c =
-    let c4 = c .before .before .before .before in
-    let a = c4 .args in (
+    let c5 = c .before .before .before .before .before in
+    let a = c5 .args in (
       refl,
       refl,
-      λ l s b. iterate-start l (a .i .0) (a .cells .now) (a .w .now) (a .list .now) (a .code .now) (a .classes .now) _ s b _ refl,
+      refl,
+      λ v l s low b.
+          rw (c .unstopped-at .ensures)
+          (inl (iterate-start l (a .i .0) (a .cells .now) (a .w .now) (a .rows .now) (a .list .now) (a .code .now) (a .role) v s low b _ refl)),
     )
 
-go-on-requires : tie.Need-go-on-requires Inv-loop μ-loop
-go-on-requires c κs =
+carry-on-requires : tie.Need-carry-on-requires Inv-loop μ-loop
+carry-on-requires c κs =
     let c3 = c .before .before .before in
-    let c4 = c3 .before in
-    let c9 = c4 .before .before .before .before .before in
-    let a = c9 .args in
-    let e : toZ w32 (ofZ w32 (a .v)) ≡ a .v = search needs in
-    let u = c4 .loop in
-    let z = scene (u .cells) (u .w) (u .pending) (u .t) in
-    let (l, s, b) = c9 .pre in
-    let x = subst (λ (y : ℤ). Serves (a .code .now) (a .classes .now) y (a .i .0) l) (sym e) s in
-    can-go (a .code .now) (a .classes .now) (a .list .now) _ (a .i .0) l x z
-    (still-under (a .code .now) (a .classes .now) (a .list .now) _ (a .i .0) l z (c3 .loop-test .taken) (u .inv .2 l x b))
+    let c6 = c3 .before .before .before in
+    let c12 = c6 .before .before .before .before .before .before in
+    let a = c12 .args in
+    let (v, l, s, low, b) = c12 .pre in
+    let q = c6 .loop in
+    let z = scene (q .cells) (q .w) (q .pending) (q .t) in
+    let u = still-under (a .code .now) v l (a .i .0) (a .list .now) (q .rows) (q .over) z (c3 .if1 .taken) (q .inv .3 v l s low b) in
+    can-step (a .code .now) (a .role) v l (a .i .0) (a .list .now) (q .rows) (q .over) z s low u
+
+note-requires : tie.Need-note-requires Inv-loop μ-loop
+unfolding Does
+note-requires c κs =
+    let c4 = c .before .before .before .before in
+    let c8 = c4 .before .before .before .before in
+    let c11 = c8 .before .before .before in
+    let c17 = c11 .before .before .before .before .before .before in
+    let a = c17 .args in
+    let (v, l, s, low, b) = c17 .pre in
+    let q = c11 .loop in
+    let z = scene (q .cells) (q .w) (q .pending) (q .t) in
+    let u = still-under (a .code .now) v l (a .i .0) (a .list .now) (q .rows) (q .over) z (c8 .if1 .taken) (q .inv .3 v l s low b) in
+    step-noted (a .code .now) (a .role) v l (a .i .0) (a .list .now) (q .rows) (q .over) z s low u _ _
+    (c4 .carry-on .ensures .1 (step-open (a .code .now) (a .role) v l (a .i .0) (a .list .now) (q .rows) (q .over) z s low u))
 
 loop-less : tie.Need-loop-less Inv-loop μ-loop
+unfolding Does
 loop-less c =
-    let c3 = c .before .before .before in
-    let c7 = c3 .before .before .before .before in
-    let c8 = c7 .before in
-    let c13 = c8 .before .before .before .before .before in
-    let a = c13 .args in
-    let e : toZ w32 (ofZ w32 (a .v)) ≡ a .v = search needs in
-    let u = c8 .loop in
-    let z = scene (u .cells) (u .w) (u .pending) (u .t) in
-    goes-nearer (a .code .now) (a .classes .now) (a .list .now) _ (a .i .0) z _ (c3 .go-on .ensures) (c7 .loop-test .taken)
+    let c8 = c .before .before .before .before .before .before .before .before in
+    let c12 = c8 .before .before .before .before in
+    let c15 = c12 .before .before .before in
+    let c21 = c15 .before .before .before .before .before .before in
+    let a = c21 .args in
+    let (v, l, s, low, b) = c21 .pre in
+    let q = c15 .loop in
+    let z = scene (q .cells) (q .w) (q .pending) (q .t) in
+    let u = still-under (a .code .now) v l (a .i .0) (a .list .now) (q .rows) (q .over) z (c12 .if1 .taken) (q .inv .3 v l s low b) in
+    let o = step-open (a .code .now) (a .role) v l (a .i .0) (a .list .now) (q .rows) (q .over) z s low u in
+    let y = opened-yes (q .t) (a .role .end .0) o in
+    goes-nearer (a .role) (a .code .now) _ _ (c8 .carry-on .ensures .1 o .goes) (a .role .end .0) (y .0) (y .1)
 
 loop-again : tie.Need-loop-again Inv-loop μ-loop
+unfolding Does
 loop-again c =
     let c3 = c .before .before .before in
-    let c7 = c3 .before .before .before .before in
-    let c8 = c7 .before in
-    let c13 = c8 .before .before .before .before .before in
-    let a = c13 .args in
-    let e : toZ w32 (ofZ w32 (a .v)) ≡ a .v = search needs in
-    let u = c8 .loop in
-    let z = scene (u .cells) (u .w) (u .pending) (u .t) in (
-      search needs,
-      search needs,
-      λ l s b.
-          went (a .code .now) (a .classes .now) (a .list .now) _ (a .i .0) l s z
-          (still-under (a .code .now) (a .classes .now) (a .list .now) _ (a .i .0) l z (c7 .loop-test .taken) (u .inv .2 l s b)) _ (c3 .go-on .ensures),
+    let c8 = c3 .before .before .before .before .before in
+    let c12 = c8 .before .before .before .before in
+    let c15 = c12 .before .before .before in
+    let c21 = c15 .before .before .before .before .before .before in
+    let a = c21 .args in
+    let q = c15 .loop in
+    let z = scene (q .cells) (q .w) (q .pending) (q .t) in (
+      c8 .carry-on .kept .1 .1 .0 ∙ q .inv .0,
+      c8 .carry-on .kept .1 .1 .1 .0 ∙ q .inv .1,
+      c3 .note .kept .0 ∙ q .inv .2,
+      λ v l s low b.
+          let u = still-under (a .code .now) v l (a .i .0) (a .list .now) (q .rows) (q .over) z (c12 .if1 .taken) (q .inv .3 v l s low b) in
+          step-went (a .code .now) (a .role) v l (a .i .0) (a .list .now) (q .rows) (q .over) z s low u _ _
+          (c8 .carry-on .ensures .1 (step-open (a .code .now) (a .role) v l (a .i .0) (a .list .now) (q .rows) (q .over) z s low u)) _ _
+          (c3 .note .ensures),
     )
 
 same-length : tie.Need-same-length Inv-loop μ-loop
-same-length c = search needs
+same-length c =
+    let c3 = c .before .before .before in
+    c3 .loop .inv .0
 
 same-length-2 : tie.Need-same-length-2 Inv-loop μ-loop
-same-length-2 c = search needs
+same-length-2 c =
+    let c3 = c .before .before .before in
+    c3 .loop .inv .1
+
+same-length-3 : tie.Need-same-length-3 Inv-loop μ-loop
+same-length-3 c =
+    let c3 = c .before .before .before in
+    c3 .loop .inv .2
 
 returns : tie.Need-returns Inv-loop μ-loop
-returns c = λ l s b.
-    let c6 = c .before .before .before .before .before .before in
-    let a = c6 .args in
-    let e : toZ w32 (ofZ w32 (a .v)) ≡ a .v = search needs in
-    let u = c .before .loop in
-    let z = scene (u .cells) (u .w) (u .pending) (u .t) in
-    let x = subst (λ (y : ℤ). Serves (a .code .now) (a .classes .now) y (a .i .0) l) (sym e) s in
-    now-after (a .code .now) (a .classes .now) (a .list .now) _ (a .i .0) l z (c .loop-test .left) (u .inv .2 l x b)
+returns c = λ v l s low b.
+    let c3 = c .before .before .before in
+    let c9 = c3 .before .before .before .before .before .before in
+    let a = c9 .args in
+    let q = c3 .loop in
+    now-after (a .code .now) v l (a .i .0) (a .list .now) (q .rows) (q .over) (scene (q .cells) (q .w) (q .pending) (q .t)) (c .if1 .left)
+    (q .inv .3 v l s low b)
 
 pub iterate-spec : {M : Type 1} → statement M
 iterate-spec =
@@ -99,10 +136,13 @@ iterate-spec =
     (tie.spec
     Inv-loop
     μ-loop
+    unstopped-at-requires
     loop-holds
-    go-on-requires
+    carry-on-requires
+    note-requires
     loop-less
     loop-again
     same-length
     same-length-2
+    same-length-3
     returns)

@@ -8,8 +8,9 @@ use Rattle.trial.proofs.carry.Tie as tie
 
 carry-on-requires : tie.Need-carry-on-requires
 carry-on-requires c κs =
-    let a = c .before .before .before .before .before .before .before .args in
-    let (g, p, q, (l, s, t)) = c .before .before .before .before .before .before .before .pre in
+    let c7 = c .before .before .before .before .before .before .before in
+    let a = c7 .args in
+    let (g, p, q, (l, s, t)) = c7 .pre in
     can-carry (a .code .now) g l p (a .role) q s (scene (a .cells .now) (a .w .now) (a .worker .pending) (point-of (a .worker))) t
 
 same-length : tie.Need-same-length
@@ -20,9 +21,11 @@ same-length-2 c = search needs
 
 returns : tie.Need-returns
 returns c = λ g p q.
-    let a = c .before .before .before .before .before .before .before .before .before .before .before .before .args in
-    let (g₀, p₀, q₀, (l₀, s₀, t₀)) = c .before .before .before .before .before .before .before .before .before .before .before .before .pre in
-    let r = c .before .before .before .before .carry-on .ensures in
+    let c5 = c .before .before .before .before .before in
+    let c13 = c5 .before .before .before .before .before .before .before .before in
+    let a = c13 .args in
+    let (g₀, p₀, q₀, (l₀, s₀, t₀)) = c13 .pre in
+    let r = c5 .carry-on .ensures .0 in
     record {
       turns = λ l s t. carried (a .code .now) g l p (a .extent) (a .role) q s _ _ r t;
       ends = carried-ends (a .code .now) g l₀ p (a .extent) (a .role) q _ _ r;
