@@ -14,11 +14,11 @@ use Rattle.rules.proofs.SerialFault.{Below, serial-below}
 use Rattle.stepping.specs.declared.Point.{Point}
 use Rattle.trial.specs.declared.Setting.{Setting}
 use Rattle.serial.specs.Serving.{Serials, CanSerial, RunsSerially, outcome-of}
-use Rattle.sweeping.specs.Sweep.{Faultless, CanSweep, Sweeps}
+use Rattle.sweeping.specs.Sweep.{Faultless, Zeros, CanSweep, Sweeps}
 use Rattle.answers.specs.declared.Planned.the-variants.{Staged, Faulted}
 use Rattle.answers.specs.Answers.{staged, stagesWritten}
 use Rattle.fitting.proofs.Front.{front-is}
-use Rattle.planning.specs.Plan.{Ends, CanPlan, Plans, Zeros}
+use Rattle.planning.specs.Plan.{Ends, CanPlan, Plans}
 
 -- ---- over a copy
 
@@ -53,8 +53,7 @@ module _ (code : List ℕ) (s : Setting) (M : List ℤ) (C : List ℕ) (w : ℕ)
     then-sweep n k R q r h = record {
       loop = h .loop;
       runs = rw q (faultless (h .loop) (h .serials));
-      zero = r .zero;
-      room = r .room;
+      rows = r;
       numbers = h .numbers;
     }
 

@@ -1,8 +1,7 @@
 -- What Plan's parts promise; what Plan itself promises is in crates/answers.
 use mathlib.Core.Path.{_≡_}
 use mathlib.Core.List.{List}
-use Prim.Native.Nat.{ℕ, _*_, _≤_}
-use lib.ListN.{length, replicate}
+use Prim.Native.Nat.{ℕ}
 use lib.IntN.{ℤ}
 use Rattle.rules.specs.Loop.{Loop}
 use Rattle.rules.specs.Serial.{serial}
@@ -21,11 +20,6 @@ pub record CanPlan (code : List ℕ) (s : Setting) (M : List ℤ) (C : List ℕ)
   pub loop : Loop
   pub serials : Serials code s loop M C w
   pub numbers : n ≡ s .iterations
-
--- the rows R of the stage table are zero, and enough for the cells M
-pub record Zeros (M : List ℤ) (R : List ℕ) : Type 0 where
-  pub zero : R ≡ replicate (length R) 0
-  pub room : length M * 4 ≤ length R
 
 -- the answer, and the list
 pub record Plan (l : Loop) (v : ℤ) (L : List ℕ) (r : Planned) (L′ : List ℕ) : Type 0 where

@@ -1,25 +1,19 @@
 -- Where the serial run is, step by step: what cells, words and the point reached stand for, and what the run comes to from there.
 use mathlib.Core.Path.{_≡_}
-use mathlib.Core.List.{List, [], _∷_}
+use mathlib.Core.List.{List, _∷_}
 use Prim.Native.Nat.{ℕ, suc, _-_, _<_}
 use lib.IntN.{ℤ}
-use Rattle.rules.specs.declared.Grouping.the-variants.{Iterations}
 use Rattle.rules.specs.Choose.{pick, below}
-use Rattle.rules.specs.Cells.{listed}
 use Rattle.rules.specs.Loop.{Loop}
-use Rattle.rules.specs.Log.{reads, writes, updates, access, Log, each}
+use Rattle.rules.specs.Log.{reads, writes, updates, access, Log}
 use Rattle.rules.specs.Proper.{Sized}
 use Rattle.rules.specs.Serial.{finished, failed, Result, along, from, serial}
-use Rattle.shadow.specs.Orderly.{Inside, Ascending}
-use Rattle.tables.specs.Logged.{Logged}
 use Rattle.operands.specs.declared.Move.{Move}
 use Rattle.operands.specs.declared.Move.the-variants.{Read, Write, Update, Fault, End}
 use Rattle.operands.specs.Pending.{Holding}
-use Rattle.stepping.specs.declared.Manner.the-variants.{InPlace}
-use Rattle.stepping.specs.declared.Role.{Role}
 use Rattle.stepping.specs.Step.{Scene, at}
 use Rattle.stepping.proofs.Happening.{rest}
-use Rattle.trial.specs.Standing.{Suits, Coded}
+use Rattle.trial.specs.Standing.{Coded}
 use Rattle.serial.specs.Serving.{alone, Serially}
 
 -- and iteration i may access cell c

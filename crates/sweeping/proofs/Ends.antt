@@ -4,7 +4,7 @@ use mathlib.Core.List.{List, []}
 use Prim.Native.Nat.{ℕ, zero, suc, max, _+_, _*_, _-_, _≤_, _<_}
 use native.Mathlib.Numerals.{add-one}
 use native.Mathlib.Omega.{arith}
-use lib.ListN.{length, set, replicate}
+use lib.ListN.{length, set}
 use lib.Seq.{ext-getD, getD-set-same, getD-set-other}
 use lib.IntN.{ℤ}
 use Rattle.rules.specs.Cells.{listed}
@@ -27,16 +27,15 @@ use Rattle.reorder.proofs.StageLaws.{greatest-same}
 use Rattle.reorder.proofs.StageTableRight.{swept-stages, during-small, during-end}
 use Rattle.staging.specs.Rows.{stage-in, row-in}
 use Rattle.staging.proofs.Keeping.{kept-close}
-use Rattle.sweeping.specs.Sweep.{Faultless, Planned, Before, After, Runs}
+use Rattle.sweeping.specs.Sweep.{Faultless, Zeros, Planned, Before, After, Runs}
 use Rattle.sweeping.proofs.Stepping.{Under}
 
 -- ---- the start
 
 module _ (code : List ℕ) (s : Setting) (l : Loop) (M : List ℤ) (C : List ℕ) (w : ℕ) (f : Faultless code s l M C w) where
-  pub sweep-start : (W R L : List ℕ) → Logged l (by-one l) [] W → R ≡ replicate (length R) 0 → length M * 4 ≤ length R → length L ≡ s .iterations
-      → Before l 0 M W R L
+  pub sweep-start : (W R L : List ℕ) → Logged l (by-one l) [] W → Zeros M R → length L ≡ s .iterations → Before l 0 M W R L
   unfolding serial only during noted swept row-in
-  sweep-start W R L t e r n =
+  sweep-start W R L t r n =
       let h = f .serials in
       let k = length R in
       record {
@@ -44,9 +43,9 @@ module _ (code : List ℕ) (s : Setting) (l : Loop) (M : List ℤ) (C : List ℕ
         g = [];
         stands = record { suits = h .entry .suits; cells = h .entry .cells; words = t; inside = inside-nil; ascending = turn-nil; upto = λ j b. refl };
         kept = record {
-          rows = λ c b. rw (e, getD-zeros k (c * 4), getD-zeros k (c * 4 + 1), getD-zeros k (c * 4 + 2), getD-zeros k (c * 4 + 3));
+          rows = λ c b. rw (r .zero, getD-zeros k (c * 4), getD-zeros k (c * 4 + 1), getD-zeros k (c * 4 + 2), getD-zeros k (c * 4 + 3));
           stages = λ j b. absurd (omega arith);
-          room = omega (arith, r, ap length (h .entry .cells), listed-length (l .size) (l .entry));
+          room = omega (arith, r .room, ap length (h .entry .cells), listed-length (l .size) (l .entry));
           numbers = n ∙ sym (h .iterations);
         };
         fresh = refl;

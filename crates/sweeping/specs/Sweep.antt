@@ -26,12 +26,16 @@ pub record Faultless (code : List ℕ) (s : Setting) (l : Loop) (M : List ℤ) (
   pub serials : Serials code s l M C w
   pub faultless : serial l .outcome ≡ finished
 
--- there is such a loop, the rows R are zero, and the list has n numbers
+-- the rows R of the stage table are zero, and enough for the cells M
+pub record Zeros (M : List ℤ) (R : List ℕ) : Type 0 where
+  pub zero : R ≡ replicate (length R) 0
+  pub room : length M * 4 ≤ length R
+
+-- there is such a loop, with such rows, and the list has n numbers
 pub record CanSweep (code : List ℕ) (s : Setting) (M : List ℤ) (C : List ℕ) (w : ℕ) (R : List ℕ) (n : ℕ) : Type 0 where
   pub loop : Loop
   pub runs : Faultless code s loop M C w
-  pub zero : R ≡ replicate (length R) 0
-  pub room : length M * 4 ≤ length R
+  pub rows : Zeros M R
   pub numbers : n ≡ s .iterations
 
 -- the list then has the stages, and r is their number

@@ -51,7 +51,7 @@ iterate-requires c κs =
     let low : u .index < l .iterations = omega (arith, c4 .loop-test .taken, p .runs .serials .iterations) in
     let b = u .inv .6 (a .setting .from) l s (omega (arith, p .runs .serials .iterations))
     (sweep-start (a .code .now) (a .setting) l (a .cells .now) (a .classes .now) (length (a .w .now)) (p .runs) _ (a .rows .now) (a .list .now)
-    (c9 .enter .ensures l _ (p .runs .serials .entry)) (p .zero) (p .room) (p .numbers)) in
+    (c9 .enter .ensures l _ (p .runs .serials .entry)) (p .rows) (p .numbers)) in
     (a .setting .from, l, s, low, b)
 
 add-stage : tie.Need-add-stage Inv-loop μ-loop
@@ -71,7 +71,7 @@ add-stage c =
     let low : u .index < l .iterations = omega (arith, c10 .loop-test .taken, p .runs .serials .iterations) in
     let b = u .inv .6 (a .setting .from) l s (omega (arith, p .runs .serials .iterations))
     (sweep-start (a .code .now) (a .setting) l (a .cells .now) (a .classes .now) (length (a .w .now)) (p .runs) _ (a .rows .now) (a .list .now)
-    (c15 .enter .ensures l _ (p .runs .serials .entry)) (p .zero) (p .room) (p .numbers)) in
+    (c15 .enter .ensures l _ (p .runs .serials .entry)) (p .rows) (p .numbers)) in
     let y = c5 .iterate in
     let o = after-small l (u .index) _ _ _ (u .list) (y .result) (y .ensures (a .setting .from) l s low b) in
     omega (arith, o, low, p .runs .serials .entry .suits .iterations-most)
@@ -93,7 +93,7 @@ cast-list c =
     let low : u .index < l .iterations = omega (arith, c10 .loop-test .taken, p .runs .serials .iterations) in
     let b = u .inv .6 (a .setting .from) l s (omega (arith, p .runs .serials .iterations))
     (sweep-start (a .code .now) (a .setting) l (a .cells .now) (a .classes .now) (length (a .w .now)) (p .runs) _ (a .rows .now) (a .list .now)
-    (c15 .enter .ensures l _ (p .runs .serials .entry)) (p .zero) (p .room) (p .numbers)) in
+    (c15 .enter .ensures l _ (p .runs .serials .entry)) (p .rows) (p .numbers)) in
     let y = c5 .iterate in
     let o = after-small l (u .index) _ _ _ (u .list) (y .result) (y .ensures (a .setting .from) l s low b) in
     omega (arith, o, low, p .runs .serials .entry .suits .iterations-most)
@@ -179,7 +179,7 @@ returns c = λ l f.
     let u = c .before .loop in
     let s = sweep-runs (a .code .now) (a .setting) l (a .cells .now) (a .classes .now) (length (a .w .now)) f _ (c .before .before .only-role .ensures) in
     let t = sweep-start (a .code .now) (a .setting) l (a .cells .now) (a .classes .now) (length (a .w .now)) f _ (a .rows .now) (a .list .now)
-    (c5 .enter .ensures l _ (f .serials .entry)) (p .zero) (p .room) (p .numbers) in
+    (c5 .enter .ensures l _ (f .serials .entry)) (p .rows) (p .numbers) in
     let b = u .inv .6 (a .setting .from) l s (sym (f .serials .iterations)) t in
     sweep-end l _ _ _ (u .list) (u .stages) (u .index) (omega (arith, c .loop-test .left, u .inv .0, f .serials .iterations)) b (u .inv .5)
 
