@@ -1,20 +1,47 @@
 ! Lapwingboard for Fortran: the functions of include/lrpd.h, which says what they do, for texts and integer arrays as Fortran has
-! them. Compile this file with the program and link target/staticlib/libexports.a.
+! them. Compile this file with the program and link liblrpd (`make` builds it).
 !
-! The lines of a text are parted by new_line('a'). All of the string is the text: of a padded variable pass trim(text).
+! The lines of a text are parted by new_line('a'); lrpd_text makes a text of lines. All of the string is the text: of a padded variable
+! pass trim(text). Where no workspace is given, a function allocates one for its call.
 module lrpd
   use, intrinsic :: iso_c_binding, only: c_char, c_int8_t, c_int16_t, c_int32_t, c_size_t
   implicit none
   private
-  public :: lrpd_check_answer, lrpd_done_answer, lrpd_run_answer, lrpd_plan_answer
-  public :: lrpd_workspace, lrpd_check, lrpd_load, lrpd_look, lrpd_run, lrpd_plan
+  public :: lrpd_check_answer, lrpd_bounds_answer, lrpd_name_answer, lrpd_done_answer, lrpd_run_answer, lrpd_plan_answer
+  public :: lrpd_text, lrpd_message, lrpd_workspace
+  public :: lrpd_check, lrpd_bounds, lrpd_name, lrpd_load, lrpd_look, lrpd_run, lrpd_plan
 
-  ! The most characters of a text and the most cells of a loop.
-  integer, parameter, public :: lrpd_most_bytes = 2048, lrpd_most_cells = 4096
+  ! The version of this module and its library.
+  character(len=*), parameter, public :: lrpd_version = '1.7.1'
+
+  ! The most characters of a text, cells, processors and iterations of a loop.
+  integer, parameter, public :: lrpd_most_bytes = 2048, lrpd_most_cells = 4096, lrpd_most_processors = 8
+  integer, parameter, public :: lrpd_most_iterations = 65535
+
+  ! The numbers of an answer; lrpd_message gives each in words.
+  integer, parameter, public :: lrpd_done = 0, lrpd_too_long = 1, lrpd_broken = 2, lrpd_bad_name = 3, lrpd_over_limit = 4
+  integer, parameter, public :: lrpd_bad_cells = 5, lrpd_bad_workspace = 6, lrpd_bad_schedule = 7, lrpd_bad_view = 8
+  integer, parameter, public :: lrpd_bad_subscript = 9, lrpd_zero_divisor = 10, lrpd_bad_list = 11
+
+  ! The clauses of a name.
+  integer, parameter, public :: lrpd_shared = 0, lrpd_lastprivate = 1, lrpd_sum = 2, lrpd_copied = 3
+  integer, parameter, public :: lrpd_product = 4, lrpd_maximum = 5
 
   ! A refusal's number, or 0, its line and v; then the numbers of cells and processors.
   type, bind(C) :: lrpd_check_answer
     integer(c_int32_t) :: number, line, v, cells, processors
+  end type
+
+  ! A refusal's number, or 0, its line and v; then the first value of the loop's variable, how many iterations there are, and 1 if marks
+  ! and obstacles go by blocks.
+  type, bind(C) :: lrpd_bounds_answer
+    integer(c_int32_t) :: number, line, v, from, iterations, blocks
+  end type
+
+  ! A refusal's number, or 0, its line and v; then the name's first cell, counted from 1, how many it has, 1 if it takes a subscript, and
+  ! its clause.
+  type, bind(C) :: lrpd_name_answer
+    integer(c_int32_t) :: number, line, v, first, cells, subscripts, clause
   end type
 
   ! A refusal's number, or 0, its line and v.
@@ -38,6 +65,20 @@ module lrpd
       character(kind=c_char), intent(in) :: text(*)
       integer(c_size_t), value :: length
       type(lrpd_check_answer) :: answer
+    end function
+
+    function c_bounds(text, length) bind(C, name="lrpd_bounds") result(answer)
+      import :: c_char, c_size_t, lrpd_bounds_answer
+      character(kind=c_char), intent(in) :: text(*)
+      integer(c_size_t), value :: length
+      type(lrpd_bounds_answer) :: answer
+    end function
+
+    function c_name(text, length, name, name_length) bind(C, name="lrpd_name") result(answer)
+      import :: c_char, c_size_t, lrpd_name_answer
+      character(kind=c_char), intent(in) :: text(*), name(*)
+      integer(c_size_t), value :: length, name_length
+      type(lrpd_name_answer) :: answer
     end function
 
     function c_load(text, length, cells, count) bind(C, name="lrpd_load") result(answer)
@@ -81,12 +122,76 @@ module lrpd
 
 contains
 
+  ! The text that has these lines, without the blanks that end them.
+  pure function lrpd_text(lines) result(text)
+    character(len=*), intent(in) :: lines(:)
+    character(len=:), allocatable :: text
+    integer :: i
+
+    text = ''
+    do i = 1, size(lines)
+      text = text//trim(lines(i))//new_line('a')
+    end do
+  end function
+
+  ! A number of an answer in words.
+  pure function lrpd_message(number) result(words)
+    integer, intent(in) :: number
+    character(len=:), allocatable :: words
+
+    select case (number)
+    case (lrpd_done)
+      words = 'done'
+    case (lrpd_too_long)
+      words = 'the text has more than 2,048 bytes'
+    case (lrpd_broken)
+      words = 'the form of the line is broken, or the text ends too early'
+    case (lrpd_bad_name)
+      words = 'a name is unknown, given twice or used wrongly, or data has the wrong count'
+    case (lrpd_over_limit)
+      words = 'over a limit'
+    case (lrpd_bad_cells)
+      words = 'not exactly as many cells as the loop has'
+    case (lrpd_bad_workspace)
+      words = 'the workspace is too small'
+    case (lrpd_bad_schedule)
+      words = 'the schedule names a processor that the loop does not have'
+    case (lrpd_bad_view)
+      words = 'not exactly two words of view for each cell'
+    case (lrpd_bad_subscript)
+      words = 'a subscript is outside its array'
+    case (lrpd_zero_divisor)
+      words = 'a division by zero'
+    case (lrpd_bad_list)
+      words = 'not exactly one number in the list for each iteration'
+    case default
+      words = 'not a number of this library'
+    end select
+  end function
+
   ! Whether the text is a loop, and how many cells and processors it has.
   function lrpd_check(text) result(answer)
     character(len=*), intent(in) :: text
     type(lrpd_check_answer) :: answer
 
     answer = c_check(text, len(text, c_size_t))
+  end function
+
+  ! Where the loop's variable begins, and how many iterations the loop has.
+  function lrpd_bounds(text) result(answer)
+    character(len=*), intent(in) :: text
+    type(lrpd_bounds_answer) :: answer
+
+    answer = c_bounds(text, len(text, c_size_t))
+  end function
+
+  ! The cells of a name: cells(answer%first:answer%first + answer%cells - 1).
+  function lrpd_name(text, name) result(answer)
+    character(len=*), intent(in) :: text, name
+    type(lrpd_name_answer) :: answer
+
+    answer = c_name(text, len(text, c_size_t), name, len(name, c_size_t))
+    if (answer%number == lrpd_done) answer%first = answer%first + 1
   end function
 
   ! Fills the cells from the text's data.
@@ -107,39 +212,62 @@ contains
   end function
 
   ! The shared values and marks after the schedule's bytes, two words for each cell.
-  function lrpd_look(text, cells, workspace, schedule, view) result(answer)
+  recursive function lrpd_look(text, cells, workspace, schedule, view) result(answer)
     character(len=*), intent(in) :: text
     integer(c_int32_t), contiguous, intent(in) :: cells(:)
-    integer(c_int32_t), contiguous, intent(inout) :: workspace(:), view(:)
+    integer(c_int32_t), contiguous, optional, intent(inout) :: workspace(:)
     integer(c_int8_t), contiguous, intent(in) :: schedule(:)
+    integer(c_int32_t), contiguous, intent(inout) :: view(:)
     type(lrpd_done_answer) :: answer
+    integer(c_int32_t), allocatable :: own(:)
 
-    answer = c_look(text, len(text, c_size_t), cells, size(cells, kind=c_size_t), workspace, size(workspace, kind=c_size_t), &
-      schedule, size(schedule, kind=c_size_t), view, size(view, kind=c_size_t))
+    if (.not. present(workspace)) then
+      allocate (own(lrpd_workspace(lrpd_check(text))))
+      answer = lrpd_look(text, cells, own, schedule, view)
+    else
+      answer = c_look(text, len(text, c_size_t), cells, size(cells, kind=c_size_t), workspace, size(workspace, kind=c_size_t), &
+        schedule, size(schedule, kind=c_size_t), view, size(view, kind=c_size_t))
+    end if
   end function
 
-  ! Runs the loop on the cells.
-  function lrpd_run(text, cells, workspace, schedule) result(answer)
+  ! Runs the loop on the cells. Without a schedule the processors run in number order.
+  recursive function lrpd_run(text, cells, workspace, schedule) result(answer)
     character(len=*), intent(in) :: text
-    integer(c_int32_t), contiguous, intent(inout) :: cells(:), workspace(:)
-    integer(c_int8_t), contiguous, intent(in) :: schedule(:)
+    integer(c_int32_t), contiguous, intent(inout) :: cells(:)
+    integer(c_int32_t), contiguous, optional, intent(inout) :: workspace(:)
+    integer(c_int8_t), contiguous, optional, intent(in) :: schedule(:)
     type(lrpd_run_answer) :: answer
+    integer(c_int32_t), allocatable :: own(:)
+    integer(c_int8_t) :: none(0)
 
-    answer = c_run(text, len(text, c_size_t), cells, size(cells, kind=c_size_t), workspace, size(workspace, kind=c_size_t), &
-      schedule, size(schedule, kind=c_size_t))
+    if (.not. present(workspace)) then
+      allocate (own(lrpd_workspace(lrpd_check(text))))
+      answer = lrpd_run(text, cells, own, schedule)
+    else if (.not. present(schedule)) then
+      answer = lrpd_run(text, cells, workspace, none)
+    else
+      answer = c_run(text, len(text, c_size_t), cells, size(cells, kind=c_size_t), workspace, size(workspace, kind=c_size_t), &
+        schedule, size(schedule, kind=c_size_t))
+    end if
   end function
 
   ! Writes each iteration's stage to a list with a number for each. Fortran has no numbers without sign: a stage over 32,767 reads
   ! negative, and iand(int(list(i)), 65535) gives it.
-  function lrpd_plan(text, cells, workspace, list) result(answer)
+  recursive function lrpd_plan(text, cells, workspace, list) result(answer)
     character(len=*), intent(in) :: text
     integer(c_int32_t), contiguous, intent(in) :: cells(:)
-    integer(c_int32_t), contiguous, intent(inout) :: workspace(:)
+    integer(c_int32_t), contiguous, optional, intent(inout) :: workspace(:)
     integer(c_int16_t), contiguous, intent(inout) :: list(:)
     type(lrpd_plan_answer) :: answer
+    integer(c_int32_t), allocatable :: own(:)
 
-    answer = c_plan(text, len(text, c_size_t), cells, size(cells, kind=c_size_t), workspace, size(workspace, kind=c_size_t), &
-      list, size(list, kind=c_size_t))
+    if (.not. present(workspace)) then
+      allocate (own(lrpd_workspace(lrpd_check(text))))
+      answer = lrpd_plan(text, cells, own, list)
+    else
+      answer = c_plan(text, len(text, c_size_t), cells, size(cells, kind=c_size_t), workspace, size(workspace, kind=c_size_t), &
+        list, size(list, kind=c_size_t))
+    end if
   end function
 
 end module

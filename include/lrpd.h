@@ -1,13 +1,15 @@
 /* Lapwingboard for C: speculative DO loops with shadow marks.
 
-   Link the static library that `rt staticlib exports` writes, target/staticlib/libexports.a; it needs no other.
+   Link liblrpd.a or liblrpd.so (`make` builds both). Of the C library they need memcpy and memset, and nothing else.
 
-   A loop text is an array of bytes and its length; no byte ends it. Each array is a pointer, never null, and the number of its
-   elements. An array that a function writes shares no memory with its other arguments. Nothing else is asked of a caller: every
-   text and every length gets an answer.
+   What a caller has to see to:
+   - A loop text is an array of bytes and its length; no byte ends it. Each array is a pointer, never null, not even with length 0, and
+     the number of its elements. An array that a function writes shares no memory with its other arguments.
+   - A text is read by recursion: a call needs up to 2 MiB of stack. A thread with less is started with more (pthread_attr_setstacksize).
+   That is all: every text and every length gets an answer.
 
    The library keeps nothing between calls, allocates nothing and starts no thread, so calls from different threads with arrays of
-   their own are independent. A text is read by recursion: a call needs up to 2 MiB of stack. */
+   their own are independent. */
 #ifndef LRPD_H
 #define LRPD_H
 
@@ -18,28 +20,55 @@
 extern "C" {
 #endif
 
-/* The most bytes of a text and the most cells of a loop. */
+/* The version of this header and its library: the second number is that of the client's last change request that is in it. */
+#define LRPD_VERSION "1.7.1"
+
+/* The most bytes of a text, cells, processors and iterations of a loop. */
 #define LRPD_MOST_BYTES 2048
 #define LRPD_MOST_CELLS 4096
+#define LRPD_MOST_PROCESSORS 8
+#define LRPD_MOST_ITERATIONS 65535
 
 /* The words of workspace that Look, Run and Plan ask for. */
 #define LRPD_WORKSPACE(cells, processors) \
     (4352 + 64 * (size_t)(processors) + (size_t)(cells) * (4 + 8 * (size_t)(processors)))
 
-/* An answer begins with the three numbers of a refusal; the number 0 means none, and then line and v are 0 too.
+/* An answer begins with the three numbers of a refusal; the number 0 means none, and then line and v are 0 too. Line and v are 0 but
+   where they are named. */
+enum {
+    LRPD_DONE = 0,
+    LRPD_TOO_LONG = 1,       /* the text has more than 2,048 bytes */
+    LRPD_BROKEN = 2,         /* line: its form is broken; an unfinished text at its last line */
+    LRPD_BAD_NAME = 3,       /* line: a name unknown, given twice or used wrongly, or data of the wrong count; from lrpd_name: line 0 */
+    LRPD_OVER_LIMIT = 4,     /* line: over a limit */
+    LRPD_BAD_CELLS = 5,      /* not exactly as many cells lent as the loop has */
+    LRPD_BAD_WORKSPACE = 6,  /* a workspace under LRPD_WORKSPACE words */
+    LRPD_BAD_SCHEDULE = 7,   /* a schedule byte that names no processor */
+    LRPD_BAD_VIEW = 8,       /* a view of not exactly two words for each cell */
+    LRPD_BAD_SUBSCRIPT = 9,  /* line, v: the serial run met a subscript outside its array */
+    LRPD_ZERO_DIVISOR = 10,  /* line, v: the serial run met a zero divisor */
+    LRPD_BAD_LIST = 11       /* not exactly as many numbers in the list as the loop has iterations */
+};
 
-   number, line, v
-    1,     0,    0   the text has more than 2,048 bytes
-    2,     line, 0   the form of the line is broken; an unfinished text at its last line
-    3,     line, 0   a name unknown, given twice or used wrongly, or data of the wrong count
-    4,     line, 0   over a limit
-    5,     0,    0   not exactly as many cells lent as the loop has
-    6,     0,    0   a workspace under LRPD_WORKSPACE words
-    7,     0,    0   a schedule byte that names no processor
-    8,     0,    0   a view of not exactly two words for each cell
-    9,     line, v   the serial run met a subscript outside its array
-   10,     line, v   the serial run met a zero divisor
-   11,     0,    0   not exactly as many numbers in the list as the loop has iterations */
+/* A number in words, for a message. */
+static inline const char *lrpd_message(uint32_t number)
+{
+    switch (number) {
+    case LRPD_DONE: return "done";
+    case LRPD_TOO_LONG: return "the text has more than 2,048 bytes";
+    case LRPD_BROKEN: return "the form of the line is broken, or the text ends too early";
+    case LRPD_BAD_NAME: return "a name is unknown, given twice or used wrongly, or data has the wrong count";
+    case LRPD_OVER_LIMIT: return "over a limit";
+    case LRPD_BAD_CELLS: return "not exactly as many cells as the loop has";
+    case LRPD_BAD_WORKSPACE: return "the workspace is too small";
+    case LRPD_BAD_SCHEDULE: return "the schedule names a processor that the loop does not have";
+    case LRPD_BAD_VIEW: return "not exactly two words of view for each cell";
+    case LRPD_BAD_SUBSCRIPT: return "a subscript is outside its array";
+    case LRPD_ZERO_DIVISOR: return "a division by zero";
+    case LRPD_BAD_LIST: return "not exactly one number in the list for each iteration";
+    default: return "not a number of this library";
+    }
+}
 
 /* The loop has so many cells and processors; both are 0 after a refusal. */
 struct lrpd_check_answer {
@@ -76,8 +105,48 @@ struct lrpd_plan_answer {
     uint32_t stages;
 };
 
+/* The loop's variable begins at `from`, the loop has so many iterations, and with schedule(static) its marks and obstacles go by blocks
+   (1), else by iteration (0); all are 0 after a refusal. */
+struct lrpd_bounds_answer {
+    uint32_t number;
+    uint32_t line;
+    int32_t v;
+    int32_t from;
+    uint32_t iterations;
+    uint32_t blocks;
+};
+
+/* The clauses of a name. */
+enum {
+    LRPD_SHARED = 0,
+    LRPD_LASTPRIVATE = 1,
+    LRPD_SUM = 2,         /* reduction(+:name) */
+    LRPD_COPIED = 3,      /* firstprivate and lastprivate */
+    LRPD_PRODUCT = 4,     /* reduction(*:name) */
+    LRPD_MAXIMUM = 5      /* reduction(max:name) */
+};
+
+/* The cells of a name: its first, counted from 0, how many, whether it takes a subscript (1) or is a single cell (0), and its clause;
+   all are 0 after a refusal. */
+struct lrpd_name_answer {
+    uint32_t number;
+    uint32_t line;
+    int32_t v;
+    uint32_t first;
+    uint32_t cells;
+    uint32_t subscripts;
+    uint32_t clause;
+};
+
 /* Check: whether the text is a loop, and how many cells and processors it has. Numbers 1 to 4. */
 struct lrpd_check_answer lrpd_check(const uint8_t *text, size_t length);
+
+/* Bounds: where the loop's variable begins, and how many iterations the loop has: as many numbers as Plan's list takes. Numbers 1 to 4. */
+struct lrpd_bounds_answer lrpd_bounds(const uint8_t *text, size_t length);
+
+/* Name: which cells the name has that these bytes spell; upper case reads as lower case. Numbers 1 to 4, then 3 with line 0 if no such
+   name is declared. */
+struct lrpd_name_answer lrpd_name(const uint8_t *text, size_t length, const uint8_t *name, size_t name_length);
 
 /* Load: fills the cells, in declared order, from the text's data, with 0 where it gives none. Numbers 1 to 5; a refusal leaves the
    cells as found. */

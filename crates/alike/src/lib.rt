@@ -1,4 +1,4 @@
-// Tokens that are the same (document 01, Integers: an update's reference is the same token for token).
+// Tokens that are the same (RULES 3.1 b: an update's reference is the same token for token).
 ghost use mathlib.Core.Path.{_≡_};
 ghost use Prim.Native.Nat.{_≤_, _<_};
 ghost use lib.ListN.{length};

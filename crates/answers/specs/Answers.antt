@@ -1,23 +1,28 @@
--- Document 01, Services and answers, and document 02, Point 7: what each service answers, and what it leaves in what is lent, by the verdict on the text.
+-- RULES 9 and 10 (document 01, Services and answers; document 02, Point 7): what each service answers and leaves in what is lent, by the verdict on the text.
 use mathlib.Core.Bool.{cond}
-use mathlib.Core.List.{List, []}
+use mathlib.Core.List.{List, [], map}
 use Prim.Native.Nat.{ℕ, zero, suc, _+_, _*_}
 use lib.Dec.{eqb, leb, ltb}
 use lib.ListN.{length, replicate}
 use lib.IntN.{ℤ, pos, _+ℤ_}
 use Rattle.rules.specs.Cells.{listed}
 use Rattle.rules.specs.Loop.{Loop}
+use Rattle.rules.specs.Numbers.{class-number}
 use Rattle.rules.specs.Serial.{Outcome, finished, failed, serial}
 use Rattle.rules.specs.Answer.{look, Answer, passed, rerun, faulted, Ending, settled}
 use Rattle.reorder.specs.Stages.{stage, stage-count}
-use Rattle.syntax.specs.Bytes.{all}
-use Rattle.syntax.specs.Known.{State, cells}
+use Rattle.syntax.specs.Bytes.{all, lower}
+use Rattle.syntax.specs.Known.{Entry, State, cells, find, known}
 use Rattle.syntax.specs.Text.{Verdict, refused, good, loaded}
 use Rattle.syntax.specs.Meaning.{loopOf, partitionOf}
+use Rattle.answers.specs.declared.Bounded.{Bounded}
+use Rattle.answers.specs.declared.Bounded.the-variants.{Range, Refused as Unbounded}
 use Rattle.answers.specs.declared.Checked.{Checked}
 use Rattle.answers.specs.declared.Checked.the-variants.{Sizes, Refused}
 use Rattle.answers.specs.declared.Completed.{Completed}
 use Rattle.answers.specs.declared.Completed.the-variants.{Done, Refused as Rejected}
+use Rattle.answers.specs.declared.Located.{Located}
+use Rattle.answers.specs.declared.Located.the-variants.{Cells, Refused as Unlocated}
 use Rattle.answers.specs.declared.Planned.{Planned}
 use Rattle.answers.specs.declared.Planned.the-variants.{Staged, Faulted as Failed, Refused as Unplanned}
 use Rattle.answers.specs.declared.Ran.{Ran}
@@ -29,6 +34,25 @@ use Rattle.answers.specs.declared.Ran.the-variants.{Passed, Rerun, Fault
 unfoldable pub checkOf : Verdict → Checked
 checkOf (refused n k) = Refused n k
 checkOf (good s) = Sizes (cells (s .table)) (s .processors)
+
+-- ---- Bounds (RULES 9.2 b): m of `do v = m, n`, the number of iterations, and whether they are tested one by one or by blocks
+
+unfoldable pub boundsOf : Verdict → Bounded
+boundsOf (refused n k) = Unbounded n k
+boundsOf (good s) = Range (s .from) (s .count) (s .grouping)
+
+-- ---- Name (RULES 9.2 c): the cells of a declared name and the number of its class; 3 and no line for a name that is not declared
+
+abbrev pub entryCells : Entry → Located
+entryCells e = Cells (e .first) (e .size) (e .subscripted) (class-number (e .class))
+
+abbrev pub locatedIn : List Entry → List ℕ → Located
+locatedIn t x = cond (known x t) (entryCells (find x t)) (Unlocated 3 0)
+
+-- "Upper case reads as lower case", in the name too
+unfoldable pub nameOf : Verdict → List ℕ → Located
+nameOf (refused n k) x = Unlocated n k
+nameOf (good s) x = locatedIn (s .table) (map lower x)
 
 -- ---- what can't be taken: 0, or its number
 

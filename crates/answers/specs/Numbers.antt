@@ -1,5 +1,5 @@
--- Document 01, Services and answers: "Returned: number, line, value of v", and both write counts, for what the serial run answers. Those of Check, Load, Look
--- and Run are in crates/exports.
+-- RULES 9.7 b and 10 (document 01, Services and answers): "Returned: number, line, value of v", and both write counts, for what the serial run answers.
+-- Those of the services are in crates/exports.
 use Prim.Native.Nat.{ℕ}
 use lib.IntN.{ℤ, pos}
 use Rattle.answers.specs.declared.Served.{Served}

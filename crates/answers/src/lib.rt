@@ -1,10 +1,38 @@
-// What the services answer (document 01, Services and answers). specs/Answers.antt says what each answers and leaves, by the verdict on the text;
-// specs/Numbers.antt has document 01's number, line and v for each answer.
+// What the services answer (RULES 9). specs/Answers.antt says what each answers and leaves, by the verdict on the text;
+// specs/Numbers.antt has the number, line and v of RULES 10 for what the serial run answers.
+use rules::Grouping;
 
 // What Check answers: N and P, or a refusal with its number and line.
 pub enum Checked {
     Sizes { cells: u32, processors: u32 },
     Refused { number: u32, line: u32 },
+}
+
+// What Bounds answers: the first value of v, the number of iterations and how they are grouped, or a refusal.
+pub enum Bounded {
+    Range {
+        from: i32,
+        iterations: u32,
+        grouping: Grouping,
+    },
+    Refused {
+        number: u32,
+        line: u32,
+    },
+}
+
+// What Name answers: the first cell of a name, how many it has, whether it takes a subscript and the number of its class, or a refusal.
+pub enum Located {
+    Cells {
+        first: u32,
+        count: u32,
+        subscripted: bool,
+        class: u32,
+    },
+    Refused {
+        number: u32,
+        line: u32,
+    },
 }
 
 // What Load and Look answer.
@@ -21,7 +49,7 @@ pub enum Ran {
     Refused { number: u32, line: u32 },
 }
 
-// What Plan answers (document 02, Point 7): the number of stages, a fault with its number, line and v, or a refusal.
+// What Plan answers (RULES 9.6): the number of stages, a fault with its number, line and v, or a refusal.
 pub enum Planned {
     Staged { stages: u32 },
     Faulted { number: u32, line: u32, v: i32 },

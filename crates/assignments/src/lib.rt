@@ -1,4 +1,4 @@
-// The reader of assignments (document 01, The loop text, 5, and Integers: updates): form, names and limits are checked, and code is emitted.
+// The reader of assignments (RULES 1.9, and 3: updates): form, names and limits are checked, and code is emitted.
 ghost use mathlib.Core.Path.{_≡_};
 ghost use mathlib.Core.Bool.{cond};
 ghost use Prim.Native.Nat.{_≤_, _<_, _+_, _*_};

@@ -1,4 +1,4 @@
--- Document 01, The loop text, 4: what the functions on the loop's bounds yield.
+-- RULES 1.8: what the functions on the loop's bounds yield.
 use mathlib.Core.Path.{_≡_}
 use mathlib.Core.Bool.{not, _&&_}
 use mathlib.Core.List.{List}

@@ -1,4 +1,4 @@
-// The `do` line (document 01, The loop text, 4), after its first word.
+// The `do` line (RULES 1.8), after its first word.
 ghost use mathlib.Core.Path.{_≡_};
 ghost use mathlib.Core.Bool.{true};
 ghost use Prim.Native.Nat.{_≤_, _<_, _+_, _-_};

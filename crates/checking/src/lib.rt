@@ -1,4 +1,4 @@
-// Check and Load (document 01, Services and answers). Each takes any text and whatever is lent, and refuses what it can't take; a refusal leaves the cells as
+// Check and Load (RULES 9.2 a, 9.3). Each takes any text and whatever is lent, and refuses what it can't take; a refusal leaves the cells as
 // they came.
 ghost use mathlib.Core.Path.{_≡_};
 ghost use lib.ListN.{length};

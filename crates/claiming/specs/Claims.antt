@@ -1,4 +1,4 @@
--- Document 01, The loop text, 3, and document 02, Point 5: what is done with the names of clauses, and what they come to.
+-- RULES 1.7 d and 1.12 d: what is done with the names of clauses, and what they come to.
 use mathlib.Core.Path.{_≡_}
 use mathlib.Core.Bool.{Bool, true, false, cond, not, _&&_}
 use mathlib.Core.List.{List, [], _∷_, _++_, map}

@@ -1,4 +1,4 @@
-// Names in clauses (document 01, The loop text, 3; document 02, Point 5). The clauses of a directive are read twice: in the first reading names get the classes
+// Names in clauses (RULES 1.7, 1.12 d). The clauses of a directive are read twice: in the first reading names get the classes
 // of all clauses but `firstprivate`; in the second those in `firstprivate` must be lastprivate by then, and are copied in.
 ghost use mathlib.Core.Path.{_≡_};
 ghost use Prim.Native.Nat.{_≤_};
@@ -63,7 +63,7 @@ pub fn deed_of(reading: Reading, kind: ClauseKind) -> Deed
 
 // ---- names
 
-// The number of the class of a reduction (document 02, Point 6).
+// The number of the class of a reduction (RULES 1.7 d).
 fn class_by(operator: Operator) -> u32
     ensures { λ r. ⌜ (r ≡ class-number (reduction operator)) × (r ≤ 5) ⌝ }
 {

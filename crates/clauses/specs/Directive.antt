@@ -1,4 +1,4 @@
--- Document 01, The loop text, 3: what the functions on clauses yield. The clauses are read twice (document 02, Point 5): the first time names get the classes
+-- RULES 1.7: what the functions on clauses yield. The clauses are read twice (RULES 1.12 d): the first time names get the classes
 -- of all clauses but `firstprivate`, the second time those of them that are lastprivate may be copied in.
 use mathlib.Core.Path.{_≡_}
 use mathlib.Core.Bool.{Bool, true, _&&_}

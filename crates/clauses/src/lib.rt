@@ -1,4 +1,4 @@
-// The directive (document 01, The loop text, 3), after its first words: its clauses, which are read twice. What each reading does with their names is in
+// The directive (RULES 1.7), after its first words: its clauses, which are read twice. What each reading does with their names is in
 // crates/claiming.
 ghost use mathlib.Core.Path.{_≡_};
 ghost use mathlib.Core.Bool.{_&&_};
@@ -64,7 +64,7 @@ fn claims(s: &[u8], at: usize, table: &mut Table, deed: Deed, rank: u32) -> Head
 
 // ---- clauses
 
-// The operator of a reduction (document 02, Point 6), and the place after it; past the line's end where none stands.
+// The operator of a reduction (RULES 1.7), and the place after it; past the line's end where none stands.
 pub struct Operated {
     pub next: usize,
     pub operator: Operator,
@@ -177,7 +177,7 @@ fn few(processors: u32) -> bool
     processors <= 8
 }
 
-// What follows `schedule`, which is `(static)`: the place after it (document 02, Point 3).
+// What follows `schedule`, which is `(static)`: the place after it (RULES 1.7).
 fn static_at(s: &[u8], at: usize) -> usize
     requires { ⌜ length (now s) ≤ 2048 ⌝ }
     ensures { λ r. ⌜ Goes (λ c. static ≡ c) (now (s .entry)) at (readStatic peek-in skip-in) r ⌝ }

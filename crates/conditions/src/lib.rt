@@ -1,4 +1,4 @@
-// The reader of conditions (document 01, The loop text, 5), each after the word `if`: form, names and limits are checked, and code is emitted.
+// The reader of conditions (RULES 1.9), each after the word `if`: form, names and limits are checked, and code is emitted.
 ghost use mathlib.Core.Path.{_≡_};
 ghost use Prim.Native.Nat.{suc, _≤_, _<_, _+_, _*_};
 ghost use lib.ListN.{length};

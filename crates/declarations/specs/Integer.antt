@@ -1,4 +1,4 @@
--- Document 01, The loop text, 1: what the functions on declared names yield.
+-- RULES 1.5: what the functions on declared names yield.
 use mathlib.Core.Path.{_≡_}
 use mathlib.Core.Bool.{Bool, true, false, not, _&&_, _||_}
 use mathlib.Core.List.{List, _++_, map}

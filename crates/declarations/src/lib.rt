@@ -1,4 +1,4 @@
-// `integer` lines (document 01, The loop text, 1), after their first word.
+// `integer` lines (RULES 1.5), after their first word.
 ghost use mathlib.Core.Path.{_≡_};
 ghost use mathlib.Core.Bool.{true, not};
 ghost use Prim.Native.Nat.{_≤_, _<_, _+_, max};

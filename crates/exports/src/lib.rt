@@ -1,14 +1,17 @@
-// The services for callers in C and Fortran (include/lrpd.h, fortran/lrpd.f90): an answer is a struct of document 01's numbers. A slice is two arguments of C,
-// a pointer and a length.
+// The services for callers in C and Fortran (include/lrpd.h, fortran/lrpd.f90): an answer is a struct of the numbers of RULES 9 and 10. A slice is two
+// arguments of C, a pointer and a length.
 ghost use mathlib.Core.Path.{_≡_};
 ghost use lib.ListN.{length};
 ghost use Rattle.syntax.specs.Text.{read};
-ghost use Rattle.answers.specs.Answers.{checkOf, loadOf, cellsLoaded, lookOf, viewShown, lookWorkspace, runOf, cellsRun, runWorkspace, planOf, listPlanned, planWorkspace};
-ghost use Rattle.exports.specs.Numbers.{checkNumbers, doneNumbers, runNumbers, planNumbers};
+ghost use Rattle.answers.specs.Answers.{checkOf, boundsOf, nameOf, loadOf, cellsLoaded, lookOf, viewShown, lookWorkspace, runOf, cellsRun, runWorkspace, planOf, listPlanned, planWorkspace};
+ghost use Rattle.exports.specs.Numbers.{checkNumbers, boundsNumbers, nameNumbers, by-blocks, subscripts, doneNumbers, runNumbers, planNumbers};
+use answers::Bounded;
 use answers::Checked;
 use answers::Completed;
+use answers::Located;
 use answers::Planned;
 use answers::Ran;
+use rules::Grouping;
 
 // Check's answer: a refusal's number (0: none), line and v; N and P (0 after a refusal).
 #[repr(C)]
@@ -18,6 +21,29 @@ pub struct CheckAnswer {
     pub v: i32,
     pub cells: u32,
     pub processors: u32,
+}
+
+// Bounds' answer: a refusal's number (0: none), line and v; m, the number of iterations, and 1 if the test is by blocks.
+#[repr(C)]
+pub struct BoundsAnswer {
+    pub number: u32,
+    pub line: u32,
+    pub v: i32,
+    pub from: i32,
+    pub iterations: u32,
+    pub blocks: u32,
+}
+
+// Name's answer: a refusal's number (0: none), line and v; the first cell, how many, how many subscripts the name takes, and its class.
+#[repr(C)]
+pub struct NameAnswer {
+    pub number: u32,
+    pub line: u32,
+    pub v: i32,
+    pub first: u32,
+    pub cells: u32,
+    pub subscripts: u32,
+    pub clause: u32,
 }
 
 // Load's and Look's answer: a refusal's number (0: done), line and v.
@@ -67,6 +93,84 @@ pub extern "C" fn lrpd_check(text: &[u8]) -> CheckAnswer
             v: 0,
             cells: 0,
             processors: 0,
+        },
+    }
+}
+
+// Whether the test is by blocks.
+fn blocks_of(grouping: Grouping) -> u32
+    ensures { λ r. ⌜ r ≡ by-blocks grouping ⌝ }
+{
+    match grouping {
+        Grouping::Iterations => 0,
+        Grouping::Blocks => 1,
+    }
+}
+
+#[no_mangle]
+pub extern "C" fn lrpd_bounds(text: &[u8]) -> BoundsAnswer
+    ensures { λ r. ⌜ r ≡ boundsNumbers (boundsOf (read (now (text .entry)))) ⌝ }
+{
+    let r = describing::bounds(text);
+    match r {
+        Bounded::Range {
+            from,
+            iterations,
+            grouping,
+        } => BoundsAnswer {
+            number: 0,
+            line: 0,
+            v: 0,
+            from: from,
+            iterations: iterations,
+            blocks: blocks_of(grouping),
+        },
+        Bounded::Refused { number, line } => BoundsAnswer {
+            number: number,
+            line: line,
+            v: 0,
+            from: 0,
+            iterations: 0,
+            blocks: 0,
+        },
+    }
+}
+
+// How many subscripts a name takes.
+fn subscripts_of(subscripted: bool) -> u32
+    ensures { λ r. ⌜ r ≡ subscripts subscripted ⌝ }
+{
+    if subscripted { 1 } else { 0 }
+}
+
+#[no_mangle]
+pub extern "C" fn lrpd_name(text: &[u8], name: &[u8]) -> NameAnswer
+    ensures { λ r. ⌜ r ≡ nameNumbers (nameOf (read (now (text .entry))) (now (name .entry))) ⌝ }
+{
+    let r = describing::name(text, name);
+    match r {
+        Located::Cells {
+            first,
+            count,
+            subscripted,
+            class,
+        } => NameAnswer {
+            number: 0,
+            line: 0,
+            v: 0,
+            first: first,
+            cells: count,
+            subscripts: subscripts_of(subscripted),
+            clause: class,
+        },
+        Located::Refused { number, line } => NameAnswer {
+            number: number,
+            line: line,
+            v: 0,
+            first: 0,
+            cells: 0,
+            subscripts: 0,
+            clause: 0,
         },
     }
 }

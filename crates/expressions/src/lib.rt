@@ -1,4 +1,4 @@
-// The readers of expressions (document 01, The loop text): form, names and limits are checked, and postfix code is emitted, in one pass over what is
+// The readers of expressions (RULES 1.10): form, names and limits are checked, and postfix code is emitted, in one pass over what is
 // left of a line. "An expression holds terms, a term holds factors, a factor may hold an expression": the readers call each other.
 ghost use Prim.Native.Nat.{suc, _≤_, _+_, _*_};
 ghost use Rattle.syntax.specs.Reader.{peek-in, skip-in, readExpr, readTerms, readTerm, readFactors, readFactor, readRef};

@@ -1,4 +1,4 @@
--- What is read off the words of a log, as document 01 words it.
+-- What is read off the words of a log, as RULES 5 and 7 have it.
 use mathlib.Core.Path.{_≡_, _∙_}
 use mathlib.Core.Logic.{_↔_}
 use mathlib.Core.Bool.{true}

@@ -1,4 +1,4 @@
-// What is lent: a copy of cells, and what can't be taken (document 01, Services and answers: numbers 5 to 7).
+// What is lent: a copy of cells, and what can't be taken (RULES 10: numbers 5 to 7).
 ghost use mathlib.Core.Path.{_≡_};
 ghost use Prim.Native.Nat.{_≤_};
 ghost use lib.Dec.{ltb};

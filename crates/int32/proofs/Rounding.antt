@@ -1,5 +1,5 @@
--- Document 02, Point 2: rdiv is the whole number nearest to the exact quotient, and of two nearest ones the even one; where there are not
--- two, it is what document 01 made it. Assumes nothing.
+-- RULES 2.3 (document 02, Point 2): rdiv is the whole number nearest to the exact quotient, and of two nearest ones the even one; where there are
+-- not two, it is what document 01 made it. Assumes nothing.
 use Prim.Native.Nat.{ℕ, zero, suc, _+_, _-_, _*_, _/_, _%_, _^_, _<_, _≤_}
 use native.Mathlib.Nat.{mul-left-comm, add-mul, one-mul, zero-mul, div-add-mod', mod-lt, div-eq-of-lt-le, le-trans, le-suc, le-mul-of-pos-right, mul-le-mul-left, mul-le-mul-right}
 use native.Mathlib.Decide.{ℕ-discrete}

@@ -1,5 +1,5 @@
--- Document 02, Point 4: by the cases of the signs `/` is what it was, and what the Fortran standard says: of the whole numbers from zero to the
--- exact quotient, the one nearest to it. Assumes nothing.
+-- RULES 2.2 (document 02, Point 4): by the cases of the signs `/` is what it was, and what the Fortran standard says: of the whole numbers from zero
+-- to the exact quotient, the one nearest to it. Assumes nothing.
 use Prim.Native.Nat.{ℕ, zero, suc, _+_, _*_, _/_, _%_, _^_, _<_}
 use native.Mathlib.Nat.{div-le-self, div-lt-self, div-one, lt-of-le-of-lt, lt-of-lt-of-le, le-trans, le-suc, zero-lt-suc, div-add-mod', mod-lt, mul-le-mul-right}
 use native.Mathlib.Decide.{ℕ-discrete}

@@ -1,5 +1,5 @@
--- Document 01, Integers, and document 02, Points 2, 4 and 6. A cell's value is a number of ℤ from -2^31 to 2^31 - 1. Each operation is done on ℤ
--- and its result wrapped, so that "wrap at 32 bits" is said once; `/` goes by cases instead. Assumes nothing.
+-- RULES 2.1 to 2.4 (document 01, Integers; document 02, Points 2, 4 and 6). A cell's value is a number of ℤ from -2^31 to 2^31 - 1. Each operation is
+-- done on ℤ and its result wrapped, so that "wrap at 32 bits" is said once; `/` goes by cases instead. Assumes nothing.
 use Prim.Native.Nat.{ℕ, suc, _+_, _-_, _*_, _/_, _%_, _^_, min, max}
 use mathlib.Core.Bool.{Bool, false, cond, not}
 use lib.Dec.{ltb, eqb}

@@ -1,4 +1,4 @@
--- A step of the code of rdiv, which works on the words of magnitudes. Nothing here is part of document 01. Assumes nothing.
+-- A step of the code of rdiv, which works on the words of magnitudes. Nothing here is part of RULES. Assumes nothing.
 use Prim.Native.Nat.{ℕ, _-_, _%_, _^_}
 use lib.IntN.{ℤ, pos, negsuc}
 

@@ -1,4 +1,4 @@
-// The arithmetic of cells: 32-bit signed numbers (document 01, Integers; document 02, Points 2, 4 and 6).
+// The arithmetic of cells: 32-bit signed numbers (RULES 2.1 to 2.4).
 ghost use mathlib.Core.Path.{_≡_};
 ghost use Prim.Native.Nat.{_≤_, _<_};
 ghost use lib.IntN.{natAbs, pos};
@@ -55,7 +55,7 @@ pub fn multiply(x: i32, y: i32) -> i32
     of_word((p % 4294967296) as u32)
 }
 
-// The larger of two cells (document 02, Point 6).
+// The larger of two cells (RULES 2.4).
 pub fn maximum(x: i32, y: i32) -> i32
     ensures { λ r. ⌜ r ≡ larger x y ⌝ }
 {
@@ -68,7 +68,7 @@ pub enum Divided {
     ByZero,
 }
 
-// x / y toward zero, by the cases of the signs (document 02, Point 4). The numbers are those of cells; on 64 bits each of them has a negative.
+// x / y toward zero, by the cases of the signs (RULES 2.2). The numbers are those of cells; on 64 bits each of them has a negative.
 fn truncate(x: i64, y: i64) -> i64
     requires { ⌜ (SFits w32 x) × (SFits w32 y) × (y ≡ pos 0 → ⊥) ⌝ }
     ensures { λ r. ⌜ r ≡ truncated x y ⌝ }
@@ -143,7 +143,7 @@ fn round_half_even(a: u32, b: u32) -> u32
     q + q % 2
 }
 
-// x / y to the nearest whole number, halves to even (document 02, Point 2). The smallest number over -1 is the smallest number.
+// x / y to the nearest whole number, halves to even (RULES 2.3). The smallest number over -1 is the smallest number.
 pub fn round_divide(x: i32, y: i32) -> Divided
     ensures { λ r. ⌜ r ≡ divided rdiv x y ⌝ }
 {

@@ -1,4 +1,4 @@
-// Lines before they are read (document 01, The loop text): their bytes, which are skipped, which kind each is by its first words, and which kind may follow which.
+// Lines before they are read (RULES 1.1, 1.3, 1.4): their bytes, which are skipped, which kind each is by its first words, and which kind may follow which.
 ghost use mathlib.Core.Path.{_≡_};
 ghost use mathlib.Core.Bool.{true, false};
 ghost use Prim.Native.Nat.{_≤_, _<_, _+_};

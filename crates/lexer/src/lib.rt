@@ -1,4 +1,4 @@
-// The bytes and tokens of a loop text (document 01, The loop text). A line is a slice of its own, in lower case and without its newline; a
+// The bytes and tokens of a loop text (RULES 1.1, 1.2). A line is a slice of its own, in lower case and without its newline; a
 // token is read at a place of it.
 ghost use mathlib.Core.Path.{_≡_};
 ghost use mathlib.Core.List.{map};

@@ -108,7 +108,7 @@ numberOf s l =
     choose (not (names s l)) (λ _. 3) (λ _.
     choose (not (limits s l)) (λ _. 4) (λ _. 0)))
 
--- a rank as document 01's number: 1 over a limit, 2 a wrong name
+-- a rank as a number of RULES 10: 1 over a limit, 2 a wrong name
 abbrev pub numbered : ℕ → ℕ
 numbered zero = 0
 numbered (suc zero) = 4

@@ -1,4 +1,4 @@
-// Look (document 01, Services and answers). It takes any text and whatever is lent, and refuses what it can't take; a refusal leaves all that is lent as it
+// Look (RULES 9.4). It takes any text and whatever is lent, and refuses what it can't take; a refusal leaves all that is lent as it
 // came. The cells are lent to be read only.
 ghost use mathlib.Core.Path.{_≡_};
 ghost use lib.ListN.{length};

@@ -1,4 +1,4 @@
--- Document 01, Program: what is printed for a text.
+-- RULES 11 a (document 01, Program): what is printed for a text.
 use mathlib.Core.Path.{_≡_}
 use mathlib.Core.List.{List, []}
 use Prim.Native.Nat.{ℕ, min, _≤_}

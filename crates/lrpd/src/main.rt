@@ -1,4 +1,4 @@
-// The program (document 01, Program). What it prints for a text is `print`'s contract; `main` reads the text, of which one byte over the limit is enough to
+// The program (RULES 11). What it prints for a text is `print`'s contract; `main` reads the text, of which one byte over the limit is enough to
 // refuse it, and writes what was printed.
 ghost use mathlib.Core.Path.{_≡_};
 ghost use Prim.Native.Nat.{_≤_};

@@ -1,5 +1,5 @@
 // The stepping machine: it runs the code of a loop body, two words for each instruction (crates/code), from a place up to and including the
-// next cell access, or to the end of the iteration or a fault (document 01, Steps). The values pending stand in an array that is lent.
+// next cell access, or to the end of the iteration or a fault (RULES 4.3). The values pending stand in an array that is lent.
 ghost use Rattle.operands.specs.Pending.{Holding};
 ghost use Rattle.machine.specs.Machine.{Advances};
 use operands::Move;

@@ -1,4 +1,4 @@
-// The table of names (document 01: at most 16, and the loop's variable), as words that the reader holds. specs/Table.antt has its layout.
+// The table of names (RULES 1.13: at most 16, and the loop's variable), as words that the reader holds. specs/Table.antt has its layout.
 ghost use mathlib.Core.Path.{_≡_};
 ghost use mathlib.Core.Bool.{true};
 ghost use mathlib.Core.List.{List};
@@ -240,7 +240,7 @@ pub fn classify(table: &mut Table, i: usize, class: u32)
     table[base + FACTS] = class * 8 + 4 + table[base + FACTS] % 4;
 }
 
-// Entry i is copied in (document 02, Point 5).
+// Entry i is copied in (RULES 1.7 d).
 pub fn copy_in(table: &mut Table, i: usize)
     requires { ⌜ i < mostNames ⌝ }
     ensures { λ _. ⌜ CopiedIn (now (table .entry)) i (now (table .exit)) ⌝ }

@@ -1,4 +1,4 @@
--- The counts of a loop within document 01's limits have room for one more.
+-- The counts of a loop within the limits of RULES 1.13 have room for one more.
 use mathlib.Core.List.{List}
 use Prim.Native.Nat.{ℕ, _≤_, _<_}
 use native.Mathlib.Nat.{mul-le-mul}

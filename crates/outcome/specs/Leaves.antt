@@ -1,5 +1,5 @@
--- What a run leaves, word by word (document 01, Contracts and examples: "the shared cells, private values, partial results, marks and records it
--- leaves, both write counts of its own accesses, which processors met a fault, and which cells have an obstacle").
+-- RULES 9.7 a: what a run leaves, word by word (document 01, Contracts and examples: "the shared cells, private values, partial results, marks and records
+-- it leaves, both write counts of its own accesses, which processors met a fault, and which cells have an obstacle").
 use mathlib.Core.Path.{_≡_}
 use mathlib.Core.Logic.{_↔_}
 use mathlib.Core.Bool.{true}

@@ -1,4 +1,4 @@
--- Plan by the definitions, of small texts: rows of one table, what the definitions give and what document 02, Point 7, says.
+-- Plan by the definitions, of small texts: rows of one table, what the definitions give and what RULES 8 and 9.6 say.
 use mathlib.Core.Path.{_≡_, refl}
 use mathlib.Core.List.{List, [], _∷_, _++_, map}
 use Prim.Native.Nat.{ℕ}

@@ -1,4 +1,4 @@
--- Document 02, Point 7: what Plan's list is good for, of every accepted text whose serial run meets no fault, over any cells. The definitions are in
+-- RULES 8 e and f: what Plan's list is good for, of every accepted text whose serial run meets no fault, over any cells. The definitions are in
 -- crates/reorder/specs; crates/reorder/proofs/Theorem.antt has the same for any loop, and what a stage is.
 use mathlib.Core.Path.{_≡_, sym, _∙_, ap}
 use mathlib.Core.List.{List}

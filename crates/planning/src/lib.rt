@@ -1,4 +1,4 @@
-// Plan (document 02, Point 7): the stages in which a loop's iterations can be run. It takes any text and whatever is lent, and refuses what it can't take; a
+// Plan (RULES 8, 9.6): the stages in which a loop's iterations can be run. It takes any text and whatever is lent, and refuses what it can't take; a
 // refusal leaves the list as it came. The cells are lent to be read only.
 //
 // The loop is run serially twice, each time over a copy of the cells: the first run tells whether there is a fault, so that the second can write to the list.

@@ -1,4 +1,4 @@
--- Document 01's example of what is printed, and the ends of the range of a cell.
+-- The example of RULES 11 of what is printed, and the ends of the range of a cell.
 use mathlib.Core.Path.{_≡_, refl}
 use mathlib.Core.Bool.{true}
 use mathlib.Core.List.{List, [], _∷_, _++_}

@@ -1,4 +1,4 @@
--- Document 01, Program: what is printed for an answer of Run, the names and the cells, as bytes.
+-- RULES 11 b to d (document 01, Program): what is printed for an answer of Run, the names and the cells, as bytes.
 use mathlib.Core.Bool.{cond}
 use mathlib.Core.List.{List, [], _∷_, _++_}
 use Prim.Native.Nat.{ℕ, zero, suc, _+_, _/_, _%_}

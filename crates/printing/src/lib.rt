@@ -1,4 +1,4 @@
-// What the program prints (document 01, Program), byte for byte, into a lent buffer. 2,236 bytes hold every report: the comment line has at most 44, each of
+// What the program prints (RULES 11), byte for byte, into a lent buffer. 2,236 bytes hold every report: the comment line has at most 44, each of
 // 16 data lines at most 41 besides its values, each of 128 values at most 12 with its comma.
 ghost use mathlib.Core.Path.{_≡_};
 ghost use mathlib.Core.List.{List, [], _∷_};

@@ -1,4 +1,4 @@
--- Document 02, Point 7, for any loop. The definitions are in specs/; nothing else has to be read to know what is proved. No operation for updates is asked to
+-- RULES 8 for any loop. The definitions are in specs/; nothing else has to be read to know what is proved. No operation for updates is asked to
 -- commute. crates/planning/proofs/Theorem.antt has the same for texts.
 use mathlib.Core.Path.{_≡_}
 use mathlib.Core.List.{List}

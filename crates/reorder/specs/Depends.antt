@@ -1,5 +1,5 @@
--- Document 02, Point 7: which cells an iteration touches and changes, and which iterations depend on each other. No operation is asked to commute: an update
--- changes its cell like a write, so iterations that update one cell depend on each other, whatever the updates do.
+-- RULES 8 a and b (document 02, Point 7): which cells an iteration touches and changes, and which iterations depend on each other. No operation is asked to
+-- commute: an update changes its cell like a write, so iterations that update one cell depend on each other, whatever the updates do.
 use mathlib.Core.Path.{sym, subst}
 use mathlib.Core.Logic.{_≢_, _⊎_, inl, inr}
 use mathlib.Core.List.{[], _∷_}

@@ -1,4 +1,4 @@
--- Whole iterations in another order (document 02, Point 7). To be believed, in this order:
+-- Whole iterations in another order (RULES 8; document 02, Point 7). To be believed, in this order:
 pub mod Depends
 pub mod Stages
 pub mod Orders

@@ -1,4 +1,4 @@
--- Orders of the iterations: lists in which each number below n stands exactly once; those that run the stages in turn, and those that keep each dependent pair.
+-- RULES 8 e: orders of the iterations, lists in which each number below n stands exactly once; those by stages, and those that keep each dependent pair.
 use mathlib.Core.List.{List, [], _∷_}
 use Prim.Native.Nat.{ℕ, zero, suc, _≤_, _<_}
 use Rattle.rules.specs.Log.{Log}

@@ -1,4 +1,4 @@
--- Document 02, Point 7, Wavefronts: the stages of the iterations, and plans. g are the accesses of the serial run.
+-- RULES 8 c, d and f (document 02, Point 7, Wavefronts): the stages of the iterations, and plans. g are the accesses of the serial run.
 use mathlib.Core.Path.{_≡_}
 use Prim.Native.Nat.{ℕ, zero, suc, max, _+_, _<_}
 use native.Mathlib.Decide.{ℕ-discrete}

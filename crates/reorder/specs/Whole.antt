@@ -1,5 +1,5 @@
--- Whole iterations one after another, in any order. An iteration is here what it does to the cells that it finds: the cells that it leaves, its accesses, and
--- how it ends.
+-- RULES 8 e: whole iterations one after another, in any order. An iteration is here what it does to the cells that it finds: the cells that it leaves, its
+-- accesses, and how it ends.
 use mathlib.Core.Path.{_≡_}
 use mathlib.Core.List.{List, [], _∷_, _++_}
 use Prim.Native.Nat.{ℕ}

@@ -46,7 +46,7 @@ module _ (n k : ℕ) (some : 0 < k) where
     | no y ↦ absurd (omega (arith, cut-last p (omega arith), cut-last (suc p) (omega arith)))
   ])
 
-  -- in either test the processors' blocks are as document 01 has them
+  -- in either test the processors' blocks are as RULES 4.1 has them
   pub tested-bound : (γ : Grouping) (p : ℕ) → p ≤ k → bound (tested γ n k) p ≡ blockStart n k p
   unfolding tested singles blocks
   tested-bound Iterations p h = omega (arith, start-within p h)

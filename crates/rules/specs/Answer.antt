@@ -1,4 +1,4 @@
--- What Look shows and what Run answers, by the step rule; and what the serial run alone settles (document 01, Obstacles, Services and answers).
+-- What Look shows and what Run answers, by the step rule; and what the serial run alone settles: RULES 9.4, 9.5 and 12 (document 01).
 use mathlib.Core.Path.{_≡_}
 use mathlib.Core.List.{List, [], _∷_}
 use Prim.Native.Nat.{ℕ, zero, suc}

@@ -1,4 +1,4 @@
--- Document 01, Steps: which iterations a processor has; and document 02, Point 3: they are tested one by one, or a processor's as one.
+-- RULES 4.1 (document 01, Steps; document 02, Point 3): which iterations a processor has; they are tested one by one, or a processor's as one.
 use Prim.Native.Nat.{ℕ, _*_, _/_, min}
 use Rattle.rules.specs.declared.Grouping.{Grouping}
 use Rattle.rules.specs.declared.Grouping.the-variants.{Iterations, Blocks}

@@ -1,4 +1,4 @@
--- Accesses, and lists of them with the newest first.
+-- RULES 4.1 c and 5 b: accesses, and lists of them with the newest first.
 use mathlib.Core.List.{List, [], _∷_}
 use mathlib.Core.Option.{Option, none, some}
 use Prim.Native.Nat.{ℕ}

@@ -1,4 +1,4 @@
--- A loop as its runs see it: what each iteration does, and the cells. Which processor has which iterations is a `Partition`, kept apart,
+-- RULES 1.7 d and 4.1. A loop as its runs see it: what each iteration does, and the cells. Which processor has which iterations is a `Partition`, kept apart,
 -- since the serial run is "fed the text and the cells as lent and nothing else".
 -- Cells are functions from a cell's number, counted from 0: an update at one cell is `put`, and two states are equal when every cell is.
 -- `Cells` goes from what the code holds, a list, to a function and back.

@@ -1,4 +1,4 @@
--- Document 01, Steps: "Marks of a cell, over the accesses so far, are the sum of" four numbers. They go by groups of iterations, those
+-- RULES 5 (document 01, Steps): "Marks of a cell, over the accesses so far, are the sum of" four numbers. They go by groups of iterations, those
 -- that γ takes to one number: with the identity for γ, by iterations; document 02, Point 3: "marks and obstacles are by block".
 use mathlib.Core.Logic.{_≢_}
 use mathlib.Core.List.{[]}

@@ -1,4 +1,4 @@
--- Document 01, Obstacles: what a run that passed leaves in the cells. The serial run: the two write counts.
+-- RULES 7.2 and 4.5 (document 01, Obstacles): what a run that passed leaves in the cells. RULES 6 e (The serial run): the two write counts.
 use mathlib.Core.List.{[], _∷_}
 use mathlib.Core.Option.{Option, none, some, Option·getD}
 use mathlib.Core.Bool.{Bool, true, false, cond}

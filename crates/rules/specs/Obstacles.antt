@@ -1,4 +1,4 @@
--- Document 01, Obstacles: "found by cell, in a run carried to its end". `f i` holds the accesses of group i, an iteration or, by document 02,
+-- RULES 7.1 (document 01, Obstacles): "found by cell, in a run carried to its end". `f i` holds the accesses of group i, an iteration or, by document 02,
 -- Point 3, a block.
 use mathlib.Core.Logic.{_≢_, _⊎_, inl, inr}
 use mathlib.Core.Path.{subst}

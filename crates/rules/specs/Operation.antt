@@ -1,4 +1,4 @@
--- Document 02, Point 6: what an update does to its cell, and partial results to one another.
+-- RULES 3.2 c and 4.5 (document 02, Point 6): what an update does to its cell, and partial results to one another.
 use mathlib.Core.Path.{_≡_}
 use lib.IntN.{ℤ, pos, negsuc}
 use Rattle.int32.specs.Integers.{sum, product, larger}

@@ -1,5 +1,5 @@
--- Document 02, Point 5: "The record of a cell now holds the lowest-numbered iteration that writes it and the highest-numbered that so reads it; with
--- Point 3's clause, blocks." `f i` holds the accesses of group i, an iteration or a block.
+-- RULES 5 e (document 02, Point 5): "The record of a cell now holds the lowest-numbered iteration that writes it and the highest-numbered that so reads
+-- it; with Point 3's clause, blocks." `f i` holds the accesses of group i, an iteration or a block.
 use mathlib.Core.Path.{_≡_}
 use Prim.Native.Nat.{ℕ, suc, _≤_, _<_}
 use Rattle.rules.specs.Log.{writes, Log, Has, Exposed}

@@ -1,4 +1,4 @@
--- Document 01, The serial run: "it holds the cells and a list of accesses, empty at first".
+-- RULES 6 (document 01, The serial run): "it holds the cells and a list of accesses, empty at first".
 use mathlib.Core.List.{[], _∷_}
 use mathlib.Core.Path.{_≡_, refl}
 use Prim.Native.Nat.{ℕ, zero, suc}

@@ -1,4 +1,4 @@
--- Document 01, Steps: what each step of a processor does, the steps of a schedule, and the run to the end.
+-- RULES 4.2 to 4.4 and 4.6 (document 01, Steps): what each step of a processor does, the steps of a schedule, and the run to the end.
 use mathlib.Core.List.{List, [], _∷_}
 use mathlib.Core.Option.{Option·getD}
 use Prim.Native.Nat.{ℕ, zero, suc, _-_, _<_}

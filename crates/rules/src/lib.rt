@@ -1,4 +1,4 @@
-// The rules of a loop run (document 01, Steps). What a run is stands in specs/, the theorem that order decides nothing in
+// The rules of a loop run (RULES 4 to 7). What a run is stands in specs/, the theorem that order decides nothing in
 // proofs/Theorem.antt; the code here has the numbers of iterations, groups and processors, and deals the iterations out.
 ghost use mathlib.Core.Path.{_≡_};
 ghost use Prim.Native.Nat.{_≤_, _<_};
@@ -15,13 +15,13 @@ pub struct Group(pub u32);
 // The number of a processor, from 0. It is never used for an iteration's index.
 pub struct Processor(pub u32);
 
-// How a text's iterations are grouped: each is a group of its own, or a processor's block is one (document 02, Point 3).
+// How a text's iterations are grouped: each is a group of its own, or a processor's block is one (RULES 4.1 b).
 pub enum Grouping {
     Iterations,
     Blocks,
 }
 
-// The operator of a reduction (document 02, Point 6): what an update does to its cell, and partial results to one another.
+// The operator of a reduction (RULES 3.2 c): what an update does to its cell, and partial results to one another.
 pub enum Operator {
     Sum,
     Product,

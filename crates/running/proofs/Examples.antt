@@ -1,5 +1,5 @@
--- The examples of document 01, and of document 02, Points 1 to 3, 5 and 6, as rows of one table: what the definitions give, and what the documents say. Loops are given by
--- their texts.
+-- The examples of document 01, and of document 02, Points 1 to 3, 5 and 6 (RULES 13 says where their rules are told), as rows of one table: what the
+-- definitions give, and what the documents say. Loops are given by their texts.
 use mathlib.Core.Path.{_≡_, refl}
 use mathlib.Core.List.{List, [], _∷_, _++_, map}
 use Prim.Native.Nat.{ℕ, _+_, _-_}

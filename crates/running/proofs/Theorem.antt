@@ -1,4 +1,4 @@
--- What the clauses may decide of Run's answer. Document 01, demand 3: "Two accepted texts alike in all but the number of processors get the same answer
+-- RULES 12 d: what the clauses may decide of Run's answer. Demand 3: "Two accepted texts alike in all but the number of processors get the same answer
 -- and final cells" (`alike-texts`). Document 02, Point 3: "Of what Run answers and leaves in the cells, the processor count may change that result
 -- alone, and only in these texts", which have the clause `schedule(static)` (`alike-but-for-the-word`). And a text that passes without this clause passes
 -- with it (`passes-with-the-clause-too`).

@@ -1,4 +1,4 @@
-// Run (document 01, Services and answers): the trial, and the serial run where a fault or an obstacle rejects it. It takes any text and whatever is lent, and
+// Run (RULES 9.5): the trial, and the serial run where a fault or an obstacle rejects it. It takes any text and whatever is lent, and
 // refuses what it can't take; a refusal leaves all that is lent as it came.
 ghost use mathlib.Core.Path.{_≡_};
 ghost use lib.ListN.{length};

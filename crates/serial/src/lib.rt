@@ -1,4 +1,4 @@
-// The serial run (document 01, The serial run): by the step of crates/stepping, in place over the cells. Its accesses are noted for one processor, for the
+// The serial run (RULES 6): by the step of crates/stepping, in place over the cells. Its accesses are noted for one processor, for the
 // write counts.
 ghost use mathlib.Core.Path.{_≡_};
 ghost use lib.ListN.{length};

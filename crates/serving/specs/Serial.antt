@@ -1,4 +1,4 @@
--- Document 01, The serial run: what it answers and leaves, by the verdict on the text.
+-- RULES 9.7 b (document 01, The serial run): what it answers and leaves, by the verdict on the text.
 use mathlib.Core.Path.{_≡_}
 use mathlib.Core.List.{List, []}
 use Prim.Native.Nat.{ℕ, zero, suc}

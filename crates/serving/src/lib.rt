@@ -1,4 +1,4 @@
-// The serial run of a text (document 01, The serial run). It takes any text and whatever is lent, and refuses what it can't take; a refusal leaves all that is
+// The serial run of a text (RULES 6, 9.7 b). It takes any text and whatever is lent, and refuses what it can't take; a refusal leaves all that is
 // lent as it came.
 ghost use mathlib.Core.Path.{_≡_};
 ghost use lib.ListN.{length};

@@ -1,4 +1,4 @@
--- What an access does to cells and words. Nothing here has to be believed: crates/trial and crates/serial show that it is what document 01 says.
+-- What an access does to cells and words. Nothing here has to be believed: crates/trial and crates/serial show that it is what RULES 4.4 and 6 b say.
 use mathlib.Core.Path.{_≡_}
 use mathlib.Core.List.{List}
 use Prim.Native.Nat.{ℕ, _≤_, _<_}

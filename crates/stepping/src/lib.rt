@@ -1,4 +1,4 @@
-// One step of a processor (document 01, Steps): the code up to its next cell access, and that access, noted in the shadow tables. `carry_on` is the only
+// One step of a processor (RULES 4.3, 4.4): the code up to its next cell access, and that access, noted in the shadow tables. `carry_on` is the only
 // caller of the step. A schedule's byte takes one, the run to the end all that are left; the serial run takes all of them, with accesses in place, and the sweep of
 // crates/sweeping the same one by one.
 // What a step does to cells, words and pending values is in specs/Step.antt; that it is the step rule's is shown in crates/trial, the serial run's in

@@ -1,5 +1,5 @@
--- Document 02, Point 1: "What is added is the remainder with the minus applied to its first term"; Point 6: products and maxima likewise. The right side of an
--- update comes to what its reference reads, joined with what the remainder comes to.
+-- RULES 3.2 (document 02, Point 1): "What is added is the remainder with the minus applied to its first term"; products and maxima likewise. The right side of
+-- an update comes to what its reference reads, joined with what the remainder comes to.
 use mathlib.Core.Path.{_≡_, refl, _∙_, ap}
 use mathlib.Core.Bool.{Bool, true, false, cond}
 use mathlib.Core.List.{List}

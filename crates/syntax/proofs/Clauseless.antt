@@ -1,6 +1,6 @@
--- Document 02, Point 1: "Loops of this form may now pass; their cells are the serial run's as before". In the serial run an update does what its line says:
--- without its clauses, so that no line is an update, a text has the same serial cells, the same fault and the same write counts. So it is with the products
--- and maxima of Point 6.
+-- RULES 12 e (document 02, Point 1): "Loops of this form may now pass; their cells are the serial run's as before". In the serial run an update does what
+-- its line says: without its clauses, so that no line is an update, a text has the same serial cells, the same fault and the same write counts. So it is
+-- with the products and maxima of Point 6.
 use mathlib.Core.Path.{_≡_, refl, sym, _∙_, ap, subst}
 use mathlib.Core.Bool.{Bool, true, false, cond, _&&_, _||_}
 use mathlib.Core.List.{List, [], _∷_, map}

@@ -1,4 +1,4 @@
--- Document 01, The loop text: bytes, lines and tokens. Upper case is read as lower case before all else (`lower`).
+-- RULES 1.1 to 1.3 and 1.11 (document 01, The loop text): bytes, lines and tokens. Upper case is read as lower case before all else (`lower`).
 use mathlib.Core.Bool.{Bool, true, false, cond, _&&_, _||_, not}
 use mathlib.Core.List.{List, [], _∷_}
 use Prim.Native.Nat.{ℕ, zero, suc, _+_, _-_}

@@ -1,5 +1,5 @@
--- Document 01, Services and answers: when a line that follows the grammar is good: its place in the text (number 2), its names (number 3) and
--- the limits (number 4), by what the lines before it made known.
+-- RULES 1.4, 1.12 and 1.13 (document 01, Services and answers): when a line that follows the grammar is good: its place in the text (number 2),
+-- its names (number 3) and the limits (number 4), by what the lines before it made known.
 use mathlib.Core.Bool.{Bool, true, false, cond, _&&_, _||_, not, Bool·beq}
 use mathlib.Core.List.{List, [], _∷_, _++_, map}
 use mathlib.Core.Option.{Option, none, some}

@@ -1,5 +1,5 @@
--- Demand 2: "a text is accepted exactly when it follows the stated subset ..., names and limits included". What it is to follow the subset, by
--- the grammar alone, without a reader. That `Text.read` accepts exactly such a text is proved in proofs/Theorem.antt.
+-- RULES 1.14 d and 12 b, demand 2: "a text is accepted exactly when it follows the stated subset ..., names and limits included". What it is to follow
+-- the subset, by the grammar alone, without a reader. That `Text.read` accepts exactly such a text is proved in proofs/Theorem.antt.
 use mathlib.Core.Path.{_≡_}
 use mathlib.Core.Bool.{true, cond}
 use mathlib.Core.List.{List, [], _∷_, map}

@@ -1,4 +1,4 @@
--- Document 01, The loop text, 1 to 6: the syntax of a line and the tokens that it is written with. A line follows the grammar exactly
+-- RULES 1.5 to 1.10 (document 01, The loop text, 1 to 6): the syntax of a line and the tokens that it is written with. A line follows the grammar exactly
 -- where its tokens are `showLine` of some syntax.
 use mathlib.Core.Bool.{Bool, cond}
 use mathlib.Core.List.{List, [], _∷_, _++_}

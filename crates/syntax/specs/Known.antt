@@ -1,5 +1,5 @@
--- Document 01, The loop text: what the lines of a text make known, one after another: its names with their cells, classes and data, P, v, m
--- and the iterations, and the statements.
+-- RULES 1.5 to 1.9 (document 01, The loop text): what the lines of a text make known, one after another: its names with their cells, classes and
+-- data, P, v, m and the iterations, and the statements.
 use mathlib.Core.Bool.{Bool, true, false, cond, not}
 use mathlib.Core.List.{List, [], _∷_, _++_, map}
 use mathlib.Core.Option.{Option, none, some}

@@ -1,4 +1,4 @@
--- Document 01, Integers and The serial run: what an accepted text means: the accesses of each iteration as a tree, and the loop.
+-- RULES 2.5, 3 and 6 a (document 01, Integers and The serial run): what an accepted text means: the accesses of each iteration as a tree, and the loop.
 use mathlib.Core.Bool.{Bool, true, false, cond, _&&_, not}
 use mathlib.Core.Option.{Option, none, some}
 use mathlib.Core.List.{List, [], _∷_}

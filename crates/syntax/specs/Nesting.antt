@@ -1,4 +1,4 @@
--- Document 01, The loop text: statements stand on lines of their own, and in one another. Here are the lines between `do` and `end do`, and
+-- RULES 1.9: statements stand on lines of their own, and in one another. Here are the lines between `do` and `end do`, and
 -- nested statements (`Known.Stmts`) written out as lines again. That the two are the same is proved in proofs/Theorem.antt.
 use mathlib.Core.Path.{_≡_}
 use mathlib.Core.List.{List, [], _∷_, _++_, map}

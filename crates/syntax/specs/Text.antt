@@ -1,4 +1,4 @@
--- Document 01, Services and answers: the whole text, the first bad line with its number; the cells from the data.
+-- RULES 1.14 and 9.3 (document 01, Services and answers): the whole text, the first bad line with its number; the cells from the data.
 use mathlib.Core.Bool.{Bool, true, false, cond, _&&_, _||_, not}
 use mathlib.Core.List.{List, [], _∷_, map}
 use mathlib.Core.Option.{Option, none, some}

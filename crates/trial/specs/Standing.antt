@@ -20,7 +20,7 @@ use Rattle.stepping.specs.declared.Point.{Point}
 
 -- ---- the loop
 
--- a loop dealt out over k processors, however its iterations are grouped, within document 01's limits
+-- a loop dealt out over k processors, however its iterations are grouped, within the limits of RULES 1.13
 pub record Suits (k : ℕ) (l : Loop) (δ : Partition) : Type 0 where
   pub proper : Proper l δ
   pub processors : δ .processors ≡ k

@@ -1,4 +1,4 @@
-// The trial of a loop (document 01, Steps): each processor's record, the steps of a schedule and the run to the end, both by the step of crates/stepping; the
+// The trial of a loop (RULES 4): each processor's record, the steps of a schedule and the run to the end, both by the step of crates/stepping; the
 // shadow tables in the workspace are kept on the way. What records, cells and words stand for is in specs/Standing.antt, the step rule in crates/rules.
 ghost use mathlib.Core.Path.{_≡_};
 ghost use Prim.Native.Nat.{_<_, _≤_};

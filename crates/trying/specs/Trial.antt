@@ -1,4 +1,4 @@
--- Document 01, Contracts and examples: what the trial leaves "by the step rule under this very schedule".
+-- RULES 9.7 a (document 01, Contracts and examples): what the trial leaves "by the step rule under this very schedule".
 use mathlib.Core.Path.{_≡_}
 use mathlib.Core.Logic.{_↔_}
 use mathlib.Core.Bool.{true, false}

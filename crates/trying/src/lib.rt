@@ -1,4 +1,4 @@
-// The trial of a text (document 01, Contracts and examples): it takes the schedule's bytes and then runs on to the end by the step that Look uses. It takes any
+// The trial of a text (RULES 4.2, 9.7 a): it takes the schedule's bytes and then runs on to the end by the step that Look uses. It takes any
 // text and whatever is lent, and refuses what it can't take; a refusal leaves all that is lent as it came.
 ghost use mathlib.Core.Path.{_≡_};
 ghost use Rattle.syntax.specs.Text.{read as readText};

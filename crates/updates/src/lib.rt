@@ -1,4 +1,4 @@
-// The forms of updates (document 01, Integers; document 02, Points 1 and 6): whether the right side of an assignment repeats the left one in the form of the
+// The forms of updates (RULES 3.1, 3.2): whether the right side of an assignment repeats the left one in the form of the
 // name's clause, and the remainder. What is emitted to find that out lies after a place of the code, and others write over it.
 ghost use mathlib.Core.Path.{_≡_};
 ghost use Prim.Native.Nat.{suc, _*_, _≤_};

@@ -1,4 +1,4 @@
--- Document 01, The loop text, 2: what the functions on data items yield.
+-- RULES 1.6: what the functions on data items yield.
 use mathlib.Core.Path.{_≡_}
 use mathlib.Core.Bool.{Bool, true, cond, not, _&&_}
 use mathlib.Core.List.{List, [], _∷_, map}

@@ -1,4 +1,4 @@
-// `data` lines (document 01, The loop text, 2), after their first word.
+// `data` lines (RULES 1.6), after their first word.
 ghost use mathlib.Core.Path.{_≡_};
 ghost use mathlib.Core.List.{List};
 ghost use mathlib.Core.Bool.{true, not, _&&_};

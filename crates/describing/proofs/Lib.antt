@@ -1,0 +1,2 @@
+-- The answers of Bounds and Name.
+mod Answering
