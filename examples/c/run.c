@@ -1,7 +1,7 @@
 /* Runs a loop text under a schedule that comes from the command line, a digit for each step, and prints the result and the cells.
 
-       gcc -I include examples/c/run.c target/staticlib/libexports.a -o run
-       ./run examples/texts/permutation.loop 1001 */
+       gcc -I include examples/c/run.c target/staticlib/libexports.a -o target/run
+       target/run examples/texts/permutation.loop 1001 */
 #include <inttypes.h>
 #include <stdio.h>
 #include <string.h>
@@ -11,7 +11,7 @@ int main(int argc, char **argv)
 {
     static uint8_t text[LRPD_MOST_BYTES + 1];
     static int32_t cells[LRPD_MOST_CELLS];
-    static uint32_t workspace[LRPD_WORKSPACE(LRPD_MOST_CELLS, 8)];
+    static uint32_t workspace[LRPD_WORKSPACE(LRPD_MOST_CELLS, LRPD_MOST_PROCESSORS)];
     static uint8_t schedule[100];
 
     FILE *file = argc >= 2 && argc <= 3 ? fopen(argv[1], "rb") : NULL;

@@ -1,27 +1,28 @@
 ! Runs a loop text under a schedule that comes from the command line, a digit for each step, and prints the result and the cells.
 !
-!     gfortran fortran/lrpd.f90 examples/fortran/run.f90 target/staticlib/libexports.a -o run
-!     ./run examples/texts/permutation.loop 1001
+!     gfortran -J target fortran/lrpd.f90 examples/fortran/run.f90 target/staticlib/libexports.a -o target/run
+!     target/run examples/texts/permutation.loop 1001
 program run
   use, intrinsic :: iso_c_binding, only: c_int8_t, c_int32_t
-  use, intrinsic :: iso_fortran_env, only: error_unit
   use lrpd
   implicit none
 
-  character(len=:), allocatable :: text
-  integer(c_int32_t), allocatable :: cells(:), workspace(:)
+  character(len=:), allocatable :: text, digits
+  integer(c_int32_t), allocatable :: cells(:)
   type(lrpd_check_answer) :: sizes
   type(lrpd_done_answer) :: loaded
   type(lrpd_run_answer) :: ran
+  integer :: i
 
-  text = contents()
+  text = contents('run FILE [STEPS]')
+  digits = argument(2)
 
   ! Where Check refuses, so do Load and Run, with the same numbers.
   sizes = lrpd_check(text)
-  allocate (cells(sizes%cells), workspace(lrpd_workspace(sizes)))
+  allocate (cells(sizes%cells))
   loaded = lrpd_load(text, cells)
-  ran = lrpd_run(text, cells, workspace, steps())
-  if (ran%number /= 0) then
+  ran = lrpd_run(text, cells, schedule=[(int(iachar(digits(i:i)) - iachar('0'), c_int8_t), i=1, len(digits))])
+  if (ran%number /= lrpd_done) then
     print '(a, *(1x, i0))', 'refused', ran%number, ran%line, ran%v
     stop
   end if
@@ -30,32 +31,6 @@ program run
 
 contains
 
-  ! The schedule that the program's second argument spells.
-  function steps() result(schedule)
-    integer(c_int8_t), allocatable :: schedule(:)
-    character(len=100) :: digits
-    integer :: i
-
-    call get_command_argument(2, digits)
-    schedule = [(int(iachar(digits(i:i)) - iachar('0'), c_int8_t), i=1, len_trim(digits))]
-  end function
-
-  ! The bytes of the file that the program's argument names, as one string.
-  function contents() result(text)
-    character(len=:), allocatable :: text
-    character(len=4096) :: name
-    integer :: unit, length, status
-
-    call get_command_argument(1, name)
-    open (newunit=unit, file=trim(name), access='stream', form='unformatted', action='read', status='old', iostat=status)
-    if (status /= 0) then
-      write (error_unit, '(a)') 'usage: run FILE [STEPS]'
-      error stop 2
-    end if
-    inquire (unit=unit, size=length)
-    allocate (character(len=length) :: text)
-    read (unit) text
-    close (unit)
-  end function
+  include 'arguments.inc'
 
 end program

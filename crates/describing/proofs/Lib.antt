@@ -1,2 +1,4 @@
+-- Small texts by computing.
+pub mod Examples
 -- The answers of Bounds and Name.
 mod Answering

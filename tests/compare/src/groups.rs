@@ -6,6 +6,7 @@ use reference::Refusal;
 
 use crate::division;
 use crate::fortran;
+use crate::names;
 use crate::plans;
 use crate::runs;
 use crate::services::{check, check_and_load, load, look, run, Lent};
@@ -15,15 +16,17 @@ use crate::tally::Tally;
 pub type Group = (&'static str, fn() -> bool);
 
 /// All groups.
-pub const GROUPS: [Group; 15] = [
+pub const GROUPS: [Group; 17] = [
     ("tables", tables),
     ("lent", lent),
     ("run-table", runs::table),
     ("look-table", runs::views),
     ("plan-table", plans::table),
+    ("name-table", names::table),
     ("runs", runs::random_runs),
     ("looks", runs::random_looks),
     ("plans", plans::random_plans),
+    ("names", names::random_names),
     ("refusals", runs::random_refusals),
     ("quotient", division::quotients),
     ("rdiv", division::rounded_quotients),

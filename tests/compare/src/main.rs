@@ -1,16 +1,19 @@
 //! Compares the product, linked as C links it, with the reference.
 //!
 //!     compare              every group of texts
-//!     compare GROUP..      some of them: tables, lent, run-table, look-table, plan-table, runs,
-//!                          looks, plans, refusals, quotient, rdiv, fortran, loops, damaged, noise
+//!     compare GROUP..      some of them: tables, lent, run-table, look-table, plan-table,
+//!                          name-table, runs, looks, plans, names, refusals, quotient, rdiv,
+//!                          fortran, loops, damaged, noise
 //!     compare stack KIB    how much stack the services need; whether it is at most so much
-//!     compare text FILE    what both answer for one text
+//!     compare text FILE    what both answer for one text, on its own data
 //!
 //! The exit status is 0 only if nothing differs.
 
 mod division;
 mod fortran;
 mod groups;
+mod names;
+mod one;
 mod plans;
 mod product;
 mod runs;
@@ -33,7 +36,7 @@ fn main() -> ExitCode {
         ["stack", limit] => limit.parse().is_ok_and(stack::measure),
         ["text", file] => on_a_big_stack({
             let file = file.to_string();
-            move || show(&file)
+            move || one::show(&file)
         }),
         _ => on_a_big_stack({
             let names: Vec<String> = words.iter().map(|word| word.to_string()).collect();
@@ -65,15 +68,4 @@ fn compare(names: &[String]) -> bool {
         good &= run();
     }
     good
-}
-
-/// Prints what both answer for the text in a file; whether it is the same.
-fn show(file: &str) -> bool {
-    let Ok(text) = std::fs::read(file) else {
-        println!("{file} cannot be read");
-        return false;
-    };
-    let (answer, expected) = (product::check(&text), reference::check(&text));
-    println!("the product: {answer:?}\nthe reference: {expected:?}");
-    answer == expected
 }

@@ -1,7 +1,7 @@
 //! The product as C calls it (include/lrpd.h), behind functions with the reference's signatures. All
 //! foreign calls of the tests stand here.
 
-use reference::{Answer, Refusal};
+use reference::{Answer, Bounds, NameCells, Refusal};
 
 #[repr(C)]
 struct CheckAnswer {
@@ -37,8 +37,32 @@ struct PlanAnswer {
     stages: u32,
 }
 
+#[repr(C)]
+struct BoundsAnswer {
+    number: u32,
+    line: u32,
+    v: i32,
+    from: i32,
+    iterations: u32,
+    blocks: u32,
+}
+
+#[repr(C)]
+struct NameAnswer {
+    number: u32,
+    line: u32,
+    v: i32,
+    first: u32,
+    cells: u32,
+    subscripts: u32,
+    clause: u32,
+}
+
 extern "C" {
     fn lrpd_check(text: *const u8, length: usize) -> CheckAnswer;
+    fn lrpd_bounds(text: *const u8, length: usize) -> BoundsAnswer;
+    fn lrpd_name(text: *const u8, length: usize, name: *const u8, name_length: usize)
+        -> NameAnswer;
     fn lrpd_load(text: *const u8, length: usize, cells: *mut i32, count: usize) -> DoneAnswer;
     fn lrpd_look(
         text: *const u8,
@@ -84,6 +108,41 @@ pub fn check(text: &[u8]) -> Result<(usize, usize), Refusal> {
         assert_eq!(sizes, (0, 0), "sizes beside a refusal");
     }
     refused.map(|()| sizes)
+}
+
+/// Bounds: where v begins, how many iterations there are, and whether blocks are tested.
+pub fn bounds(text: &[u8]) -> Result<Bounds, Refusal> {
+    // SAFETY: the pointer and the length are one slice's, which is only read.
+    let answer = unsafe { lrpd_bounds(text.as_ptr(), text.len()) };
+    assert!(answer.blocks <= 1, "blocks is 0 or 1");
+    let refused = refusal(answer.number, answer.line, answer.v);
+    if refused.is_err() {
+        let numbers = (answer.from, answer.iterations, answer.blocks);
+        assert_eq!(numbers, (0, 0, 0), "bounds beside a refusal");
+    }
+    refused.map(|()| Bounds {
+        from: answer.from,
+        iterations: answer.iterations,
+        blocks: answer.blocks == 1,
+    })
+}
+
+/// Name: the cells and the clause of the name that the bytes spell.
+pub fn name(text: &[u8], asked: &[u8]) -> Result<NameCells, Refusal> {
+    // SAFETY: each pointer and length are one slice's, which is only read.
+    let answer = unsafe { lrpd_name(text.as_ptr(), text.len(), asked.as_ptr(), asked.len()) };
+    assert!(answer.subscripts <= 1, "subscripts is 0 or 1");
+    let refused = refusal(answer.number, answer.line, answer.v);
+    if refused.is_err() {
+        let numbers = [answer.first, answer.cells, answer.subscripts, answer.clause];
+        assert_eq!(numbers, [0; 4], "cells beside a refusal");
+    }
+    refused.map(|()| NameCells {
+        first: answer.first,
+        cells: answer.cells,
+        subscripts: answer.subscripts == 1,
+        clause: answer.clause,
+    })
 }
 
 /// Load: fills the cells.

@@ -2,7 +2,7 @@
 //! in the slices lent.
 
 use generate::{lend, Rng};
-use reference::{Answer, Refusal};
+use reference::{Answer, Bounds, NameCells, Refusal};
 
 use crate::product;
 use crate::tally::Text;
@@ -15,12 +15,64 @@ fn guarded<T: Copy>(elements: &[T], guard: T) -> Vec<T> {
 const GUARD: i32 = 0x5eed_5eed;
 const GUARD_WORD: u32 = 0x5eed_5eed;
 const GUARD_NUMBER: u16 = 0x5eed;
+/// A letter: read with a text or a name, it would change what they say.
+const GUARD_BYTE: u8 = b'a';
 
 /// Check.
 pub fn check(text: &mut Text, expected: Result<(usize, usize), Refusal>) {
     let answer = product::check(text.text);
     text.count("Check", answer.map(|_| "done"));
     text.compare("Check", &answer, &expected);
+}
+
+/// A word for the bounds of a loop.
+fn bounds_word(bounds: Bounds) -> &'static str {
+    match (bounds.iterations, bounds.blocks) {
+        (0, false) => "no iterations",
+        (0, true) => "no iterations, by blocks",
+        (1, false) => "1 iteration",
+        (1, true) => "1 iteration, by blocks",
+        (_, false) => "more iterations",
+        (_, true) => "more iterations, by blocks",
+    }
+}
+
+/// Bounds.
+pub fn bounds(text: &mut Text, expected: Result<Bounds, Refusal>) {
+    let lent = guarded(text.text, GUARD_BYTE);
+    let answer = product::bounds(&lent[1..=text.text.len()]);
+    text.count("Bounds", answer.map(bounds_word));
+    text.compare("Bounds", &answer, &expected);
+    text.compare("Bounds' text", &lent, &guarded(text.text, GUARD_BYTE));
+}
+
+/// The words for the clauses, by their numbers.
+const CLAUSES: [&str; 6] = [
+    "shared",
+    "in lastprivate alone",
+    "a sum",
+    "in both clauses",
+    "a product",
+    "a maximum",
+];
+const UNDECLARED: &str = "not declared";
+
+/// Name, asked for these bytes, behind which others stand that are not part of them.
+pub fn name(text: &mut Text, (asked, after): (&[u8], &[u8]), expected: Result<NameCells, Refusal>) {
+    let lent = guarded(text.text, GUARD_BYTE);
+    let lent_name = [&[GUARD_BYTE], asked, after, &[GUARD_BYTE]].concat();
+    let before = (lent.clone(), lent_name.clone());
+    let answer = product::name(&lent[1..=text.text.len()], &lent_name[1..=asked.len()]);
+    let word = |found: NameCells| CLAUSES.get(found.clause as usize).copied();
+    let counted = match answer {
+        Ok(found) => Ok(word(found).unwrap_or("of an unknown clause")),
+        Err(refusal) if (refusal.number, refusal.line) == (3, 0) => Ok(UNDECLARED),
+        Err(refusal) => Err(refusal),
+    };
+    text.count("Name", counted);
+    let service = format!("Name of {:?}", asked.escape_ascii().to_string());
+    text.compare(&service, &answer, &expected);
+    text.compare("Name's bytes", &(lent, lent_name), &before);
 }
 
 /// Load into these cells, which are `after` in the end.

@@ -92,10 +92,20 @@ pub fn child(index: usize) -> bool {
     let iterations = |_| read(&row.text).map_or(0, |program| program.iteration_count());
     let mut list = vec![0; row.expected.map_or(0, iterations) as usize];
     let checked = product::check(&row.text).map_err(numbers);
+    let bounded = product::bounds(&row.text).map_err(numbers);
+    // The one text that is accepted declares it.
+    let named = product::name(&row.text, b"a").map_err(numbers);
     let loaded = product::load(&row.text, &mut cells).map_err(numbers);
     let looked = product::look(&row.text, &cells, &mut workspace, &[], &mut view).map_err(numbers);
     let ran = product::run(&row.text, &mut cells, &mut workspace, &[]).map_err(numbers);
     let planned = product::plan(&row.text, &cells, &mut workspace, &mut list).map_err(numbers);
-    let answers = [loaded, looked, ran.map(|_| ()), planned.map(|_| ())];
-    checked == row.expected && answers == [done; 4]
+    let answers = [
+        bounded.map(|_| ()),
+        named.map(|_| ()),
+        loaded,
+        looked,
+        ran.map(|_| ()),
+        planned.map(|_| ()),
+    ];
+    checked == row.expected && answers == [done; 6]
 }

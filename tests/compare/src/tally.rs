@@ -121,7 +121,8 @@ impl Text<'_> {
     }
 }
 
-fn short(value: &impl Debug) -> String {
+/// As much of a value as is printed.
+pub fn short(value: &impl Debug) -> String {
     let shown = format!("{value:?}");
     match shown.char_indices().nth(SHOWN) {
         Some((end, _)) => format!("{} ..", &shown[..end]),

@@ -1,4 +1,4 @@
-//! What a caller lends: cells, schedules, workspaces and lists; and orders for what a plan says.
+//! What a caller lends: cells, schedules, workspaces, lists and names to ask for; and orders for what a plan says.
 
 use crate::rng::Rng;
 
@@ -75,4 +75,59 @@ pub fn order(rng: &mut Rng, stages: &[u16]) -> Vec<u32> {
     rng.shuffle(&mut order);
     order.sort_by_key(|&iteration| stages[iteration as usize]);
     order
+}
+
+/// Bytes to ask for as a name, and what stands behind them in memory.
+pub type Asked = (Vec<u8>, Vec<u8>);
+
+/// What to ask of a text with these names: each name as it is, in upper case and in a mixture, a beginning of it
+/// with the rest behind, and it with a byte more and with another; words of the text and a piece of it; any bytes,
+/// now and then many, and none.
+pub fn asked(rng: &mut Rng, text: &[u8], names: &[&str]) -> Vec<Asked> {
+    let alone = |name: &[u8]| (name.to_vec(), Vec::new());
+    let mut asked = vec![alone(b"")];
+    for name in names.iter().map(|name| name.as_bytes()) {
+        asked.push(alone(name));
+        asked.push(alone(&name.to_ascii_uppercase()));
+        asked.push(alone(&mixed_case(rng, name)));
+        let place = rng.below(name.len());
+        asked.push((name[..place].to_vec(), name[place..].to_vec()));
+        asked.push(alone(&[name, &[any_byte(rng)]].concat()));
+        let mut other = name.to_vec();
+        other[place] = match rng.chance(50) {
+            true => other[place] ^ (1 << rng.below(8)),
+            false => any_byte(rng),
+        };
+        asked.push(alone(&other));
+    }
+    let is_word = |byte: &u8| byte.is_ascii_alphanumeric() || *byte == b'_';
+    let words = text.split(|byte| !is_word(byte));
+    let words: Vec<&[u8]> = words.filter(|word| !word.is_empty()).collect();
+    if !words.is_empty() {
+        asked.extend((0..3).map(|_| alone(rng.pick(&words))));
+    }
+    let (_, piece) = text.split_at(rng.below(text.len() + 1));
+    let (piece, after) = piece.split_at(rng.below(piece.len().min(40) + 1));
+    asked.push((piece.to_vec(), after.to_vec()));
+    let length = if rng.chance(3) { 3000 } else { rng.below(40) };
+    let bytes: Vec<u8> = (0..length).map(|_| rng.bits() as u8).collect();
+    asked.push(alone(&bytes));
+    asked
+}
+
+fn mixed_case(rng: &mut Rng, name: &[u8]) -> Vec<u8> {
+    let raised = |byte: &u8| match rng.chance(50) {
+        true => byte.to_ascii_uppercase(),
+        false => *byte,
+    };
+    name.iter().map(raised).collect()
+}
+
+/// A byte, mostly one that names are made of or that stands beside them.
+fn any_byte(rng: &mut Rng) -> u8 {
+    match rng.below(4) {
+        0 => rng.bits() as u8,
+        1 => rng.pick(b" \n\t(),:=\0\xff"),
+        _ => rng.pick(b"abcdekstxyzABXYZ0129_"),
+    }
 }

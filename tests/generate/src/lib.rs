@@ -1,5 +1,5 @@
 //! What the tests are made of: tables of cases with answers written by hand from documents 01 and 02 and the
-//! project's reading of them, and random loops, damaged texts, noise, cells and schedules from
+//! project's reading of them (docs/RULES.md tells both), and random loops, damaged texts, noise, cells and schedules from
 //! explicit seeds. Nothing here interprets a loop.
 
 mod body;
@@ -13,6 +13,7 @@ mod lines;
 pub mod loops;
 pub mod neighbours;
 pub mod noise;
+pub mod ranges;
 pub mod reductions;
 pub mod rng;
 pub mod tables;

@@ -2,12 +2,12 @@
 
 use generate::layout::split_tokens;
 use generate::{
-    copies, damage, hostile, lend, neighbours, noise, reductions, wavefronts, Copied, Knobs, Loop,
-    Operation, Rng, Turned,
+    copies, damage, hostile, lend, neighbours, noise, ranges, reductions, wavefronts, Copied,
+    Knobs, Loop, Operation, Rng, Turned,
 };
 
-/// Texts of all kinds and a schedule, and cells.
-fn draw(seed: u64) -> ([Vec<u8>; 9], Vec<i32>) {
+/// Texts of all kinds, a schedule and names to ask for, and cells.
+fn draw(seed: u64) -> ([Vec<u8>; 11], Vec<i32>) {
     let mut rng = Rng::new(seed);
     let knobs = Knobs::mixed(&mut rng);
     let good = Loop::random(&mut rng, &knobs).text();
@@ -20,9 +20,19 @@ fn draw(seed: u64) -> ([Vec<u8>; 9], Vec<i32>) {
         damage::damage(&good, &mut rng),
         noise::soup(&mut rng),
         noise::bytes(&mut rng),
+        ranges::range(&mut rng),
         lend::schedule(&mut rng, 3),
+        asked(&mut rng, &good),
     ];
     (drawn, lend::cells(&mut rng, 9))
+}
+
+/// All that is asked of a text, in a row.
+fn asked(rng: &mut Rng, text: &[u8]) -> Vec<u8> {
+    let asked = lend::asked(rng, text, &["a", "flow"]).into_iter();
+    asked
+        .flat_map(|(name, after)| [name, after].concat())
+        .collect()
 }
 
 #[test]

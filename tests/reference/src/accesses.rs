@@ -1,4 +1,4 @@
-//! The whole list of accesses, and what is counted in it.
+//! The whole list of accesses (RULES 4.1 c), and what is counted in it (6 e).
 
 use std::ops::Range;
 

@@ -1,4 +1,4 @@
-//! One iteration of the loop: statements in order, expressions from the left. What an access does
+//! RULES 2.5 and 3.3, one iteration of the loop: statements in order, expressions from the left. What an access does
 //! is left to a [`Memory`], of the serial run or of a step.
 
 use crate::integers::{divide_rounded, divide_truncated};

@@ -1,4 +1,4 @@
-//! Document 02, Point 3: what the test takes as one iteration. "The argument about order is made for
+//! RULES 4.1 (document 02, Point 3): what the test takes as one iteration. "The argument about order is made for
 //! any grouping of each processor's iterations into runs of neighbours, and both tests use it."
 
 use crate::program::Program;

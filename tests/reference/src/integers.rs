@@ -1,4 +1,4 @@
-//! Document 01, "Integers". Sum, difference, product and negation are Rust's wrapping ones; here
+//! RULES 2.1 to 2.4 (document 01, "Integers"). Sum, difference, product and negation are Rust's wrapping ones; here
 //! stand the two divisions and the operations of `reduction` clauses. Both divisions take the exact quotient
 //! of 64 bits and then keep 32 bits, which makes −2147483648 divided by −1 be −2147483648, "either way".
 

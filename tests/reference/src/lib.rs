@@ -1,12 +1,14 @@
-//! An interpreter of document 01 and of document 02, Points 1 to 7, written apart from the product and
-//! for obviousness: bytes, lines, tokens, a tree, names and limits, then evaluation with the whole list
-//! of accesses kept. Marks, obstacles, private values, partial results, counts and stages are taken from that
+//! An interpreter of the rules that docs/RULES.md tells: of document 01, the client's specification, and of its
+//! change requests, document 02, Points 1 to 7. It is written apart from the product and for obviousness: bytes,
+//! lines, tokens, a tree, names and limits, then evaluation with the whole list of accesses kept. Marks, obstacles, private values, partial results, counts and stages are taken from that
 //! list as the documents word them.
 //!
 //! Comments quote these documents; "READING 44" is the entry of that number in the project's reading
 //! of document 01, "P1.2" or "7.3" one of document 02, which stand behind every choice they leave.
+//! tests/README.md says which section of RULES has each.
 
 mod accesses;
+mod describe;
 mod draft;
 mod evaluate;
 mod fortran;
@@ -30,6 +32,7 @@ mod tokens;
 mod trial;
 
 pub use accesses::{Access, Kind};
+pub use describe::{bounds, name, Bounds, NameCells};
 pub use fortran::{fortran, fortran_of_all, Threads};
 pub use integers::{divide_rounded, divide_truncated};
 pub use plan::{depend, touches, Touched};

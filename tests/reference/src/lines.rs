@@ -1,4 +1,4 @@
-//! Document 01, "The loop text": lines, the bytes allowed, and which lines are skipped.
+//! RULES 1.1 and 1.3 (document 01, "The loop text"): lines, the bytes allowed, and which lines are skipped.
 
 /// The form of a line is broken (number 2).
 #[derive(Debug, Clone, Copy, PartialEq, Eq)]

@@ -1,4 +1,4 @@
-//! Document 01, "Steps": "Marks of a cell, over the accesses so far, are the sum of" four. Kept for
+//! RULES 5 (document 01, "Steps"): "Marks of a cell, over the accesses so far, are the sum of" four. Kept for
 //! cells of every clause (READING 81). Document 02, Point 3: in a text with its clause "marks and
 //! obstacles are by block", so a block stands for "iteration" in each sentence (P3.7).
 

@@ -1,4 +1,4 @@
-//! Numbers 3 and 4: what a line's names and sizes must be, judged "only by what stands up to it"
+//! RULES 1.12 and 1.13, numbers 3 and 4: what a line's names and sizes must be, judged "only by what stands up to it"
 //! (READING 24).
 
 use crate::draft::Draft;

@@ -1,4 +1,4 @@
-//! Document 01, "Obstacles", cell by cell, and document 02, Point 5, for names in two clauses. Point 3: in
+//! RULES 7.1 (document 01, "Obstacles", cell by cell, and document 02, Point 5, for names in two clauses). Point 3: in
 //! a text with its clause "marks and obstacles are by block", so a block stands for "iteration" in each
 //! sentence (P3.8).
 

@@ -1,4 +1,4 @@
-//! Document 01, "In this order stand": which form of line may follow which. A line out of order has
+//! RULES 1.4 (document 01, "In this order stand"): which form of line may follow which. A line out of order has
 //! a broken form (number 2), found where it shows (READING 11, 24, 25, 42).
 
 use crate::lines::Broken;

@@ -1,4 +1,4 @@
-//! The form of each line, read from its tokens. What breaks here is number 2; names and limits are
+//! RULES 1.4 to 1.11: the form of each line, read from its tokens. What breaks here is number 2; names and limits are
 //! left to `names_limits`, so that "2 before 3 before 4" holds in every line (READING 23).
 
 use crate::lines::{Broken, Line};

@@ -1,4 +1,4 @@
-//! Document 02, Point 7: which iterations depend on each other, and their stages. Every pair of iterations
+//! RULES 8 (document 02, Point 7): which iterations depend on each other, and their stages. Every pair of iterations
 //! is looked at, as the Point words it.
 
 use crate::accesses::{Access, Kind};

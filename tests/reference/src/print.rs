@@ -1,4 +1,4 @@
-//! Document 01, "Program": what `lrpd` prints for a standard input.
+//! RULES 11 (document 01, "Program"): what `lrpd` prints for a standard input.
 
 use crate::reader::read;
 use crate::services::{check, load, run, workspace_needed};

@@ -1,4 +1,4 @@
-//! The text as a whole: "Number 1 is tested first. Then the first bad line counts, and in it 2
+//! RULES 1.14, the text as a whole: "Number 1 is tested first. Then the first bad line counts, and in it 2
 //! before 3 before 4."
 
 use crate::draft::Draft;

@@ -1,4 +1,4 @@
-//! Document 01, "The serial run".
+//! RULES 6 (document 01, "The serial run").
 
 use crate::accesses::{write_counts, Access, Kind};
 use crate::evaluate::{run_iteration, Memory, Paused, Stop};

@@ -1,4 +1,4 @@
-//! Document 01, "Steps": processors that move as a schedule says. An iteration is paused by not
+//! RULES 4 (document 01, "Steps"): processors that move as a schedule says. An iteration is paused by not
 //! keeping it: each step works it out again from its start, giving back the values that the accesses
 //! made so far gave, and then makes one access more.
 

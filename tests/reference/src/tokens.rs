@@ -1,4 +1,4 @@
-//! Document 01, "The loop text": the tokens of one line.
+//! RULES 1.2 (document 01, "The loop text"): the tokens of one line.
 
 /// A token of a line in lower case.
 #[derive(Debug, Clone, Copy, PartialEq, Eq)]

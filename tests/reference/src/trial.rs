@@ -1,4 +1,4 @@
-//! The trial: what speculation leaves, each part taken from the whole list of accesses.
+//! The trial (RULES 4, 5 and 7): what speculation leaves, each part taken from the whole list of accesses.
 
 use crate::accesses::{by_cell, visits, write_counts, Access, Kind};
 use crate::groups::group_of;

@@ -1,4 +1,4 @@
-//! Document 01's examples as it words them, and the trial's parts by hand.
+//! The examples of document 01 (the client's specification) as it words them, and the trial's parts by hand.
 
 use reference::syntax::Operation::{self, Maximum, Product, Sum};
 use reference::{

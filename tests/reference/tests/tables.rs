@@ -1,10 +1,11 @@
 //! The tables written by hand, row by row.
 
 use generate::tables::plans::{self, Planned};
-use generate::tables::{arguments, data, looks, prints, runs, text_rows};
+use generate::tables::{arguments, data, looks, names, prints, runs, text_rows};
 use generate::{lend, Rng};
 use reference::{
-    check, load, look, lrpd, plan, run, serial, stepped, trial, workspace_needed, Answer, Refusal,
+    bounds, check, load, look, lrpd, name, plan, run, serial, stepped, trial, workspace_needed,
+    Answer, Refusal,
 };
 
 /// Reports all rows that differ, not just the first.
@@ -49,6 +50,8 @@ fn refused_texts_leave_everything_as_found() {
         let mut view = vec![9; 6];
         let mut list = vec![8; 4];
         let expected = check(&row.text).unwrap_err();
+        assert_eq!(bounds(&row.text), Err(expected));
+        assert_eq!(name(&row.text, b"a"), Err(expected));
         assert_eq!(load(&row.text, &mut cells), Err(expected));
         assert_eq!(
             run(&row.text, &mut cells, &mut workspace, &[9]).unwrap_err(),
@@ -195,6 +198,38 @@ fn plan_answers_as_the_table_says() {
 }
 
 #[test]
+fn bounds_answers_as_the_table_says() {
+    let mut wrong = Vec::new();
+    for row in names::bounds_rows() {
+        let answer = bounds(&row.text)
+            .map(|bounds| (bounds.from, bounds.iterations, bounds.blocks))
+            .map_err(|refusal| (refusal.number, refusal.line));
+        if answer != row.expected {
+            wrong.push(format!(
+                "{:?}: {answer:?}, not {:?}",
+                row.name, row.expected
+            ));
+        }
+    }
+    assert_none(wrong);
+}
+
+#[test]
+fn name_answers_as_the_table_says() {
+    let mut wrong = Vec::new();
+    for row in names::name_rows() {
+        let answer = name(&row.text, &row.asked)
+            .map(|found| (found.first, found.cells, found.subscripts, found.clause))
+            .map_err(|refusal| (refusal.number, refusal.line));
+        if answer != row.expected {
+            let asked = row.asked.escape_ascii();
+            wrong.push(format!("{:?}, {asked}: {answer:?}", row.name));
+        }
+    }
+    assert_none(wrong);
+}
+
+#[test]
 fn lrpd_prints_what_the_table_says() {
     for (name, input, output) in prints::ROWS {
         let printed = String::from_utf8(lrpd(input.as_bytes())).expect("text");
@@ -258,8 +293,10 @@ fn the_tables_have_many_rows() {
         prints::ROWS.len(),
         arguments::rows().len(),
         plans::rows().len(),
+        names::name_rows().len(),
+        names::bounds_rows().len(),
     );
-    println!("texts, loads, runs, looks, prints, arguments, plans: {counts:?}");
+    println!("texts, loads, runs, looks, prints, arguments, plans, names, bounds: {counts:?}");
     assert!(counts.0 > 2600 && counts.2 > 1100 && counts.3 > 480 && counts.5 > 40);
-    assert!(counts.6 > 130);
+    assert!(counts.6 > 130 && counts.7 > 200 && counts.8 > 80);
 }

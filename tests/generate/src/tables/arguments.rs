@@ -1,4 +1,4 @@
-//! Numbers 5 to 8: what is lent to Load, Look and Run (READING 73, 87, 89).
+//! Numbers 5 to 8 (RULES 9.1, 10): what is lent to Load, Look and Run (READING 73, 87, 89).
 
 /// What a caller lends, and the number that refuses it; 0 for none.
 #[derive(Debug, Clone)]

@@ -1,6 +1,7 @@
-//! Document 02, Point 3: "A text with the clause `schedule(static)`, at most once, is tested with each
+//! RULES 4.1 b, 4.4, 5 and 7.1 by blocks (document 02, Point 3): "A text with the clause `schedule(static)`, at most once, is tested with each
 //! processor's block as one long iteration". What Run answers, and what Look shows.
 
+use super::cases::Case;
 use super::looks::{self, LookRow, Seen};
 use super::runs::{self, text, Ran, RunRow};
 
@@ -15,37 +16,6 @@ pub fn run_rows() -> Vec<RunRow> {
     rows.extend(count_rows());
     rows.extend(fault_rows());
     rows
-}
-
-/// A loop, its clauses without `num_threads` and the one of this Point.
-struct Case<'c> {
-    name: &'c str,
-    names: &'c str,
-    clauses: &'c str,
-    bounds: &'c str,
-    body: &'c str,
-    cells: &'c [i32],
-}
-
-impl Case<'_> {
-    /// By blocks, for so many processors.
-    fn blocks(&self, processors: u32, expected: Ran) -> RunRow {
-        let clauses = format!(
-            "num_threads({processors}) schedule(static) {}",
-            self.clauses
-        );
-        let name = format!("{}: blocks, P = {processors}", self.name);
-        let text = text(self.names, &clauses, self.bounds, self.body);
-        runs::row(&name, &text, self.cells, expected)
-    }
-
-    /// The same without the clause.
-    fn iterations(&self, processors: u32, expected: Ran) -> RunRow {
-        let clauses = format!("num_threads({processors}) {}", self.clauses);
-        let name = format!("{}: iterations, P = {processors}", self.name);
-        let text = text(self.names, &clauses, self.bounds, self.body);
-        runs::row(&name, &text, self.cells, expected)
-    }
 }
 
 /// "Of what Run answers and leaves in the cells, the processor count may change that result alone, and
@@ -66,8 +36,8 @@ fn word_rows() -> Vec<RunRow> {
         recurrence.blocks(2, Ran::Rerun(3, 3, carried())),
         recurrence.blocks(3, Ran::Rerun(3, 3, carried())),
         recurrence.blocks(8, Ran::Rerun(3, 3, carried())),
-        recurrence.iterations(1, Ran::Rerun(3, 3, carried())),
-        recurrence.iterations(2, Ran::Rerun(3, 3, carried())),
+        recurrence.on(1, Ran::Rerun(3, 3, carried())),
+        recurrence.on(2, Ran::Rerun(3, 3, carried())),
     ];
     // P = 3 has 1, 2 | 3, 4 | 5, 6: each block sets z first. For more, and for 2, there is a block that
     // begins with an even iteration.
@@ -87,7 +57,7 @@ fn word_rows() -> Vec<RunRow> {
         rows.push(mixture.blocks(processors, Ran::Rerun(15, 8, after())));
     }
     for processors in [1, 3, 8] {
-        rows.push(mixture.iterations(processors, Ran::Rerun(15, 8, after())));
+        rows.push(mixture.on(processors, Ran::Rerun(15, 8, after())));
     }
     rows
 }
@@ -186,7 +156,7 @@ fn shared_rows() -> Vec<RunRow> {
         pairs.blocks(2, Ran::Passed(4, 2, in_pairs())),
         pairs.blocks(3, Ran::Rerun(4, 2, in_pairs())),
         pairs.blocks(4, Ran::Rerun(4, 2, in_pairs())),
-        pairs.iterations(2, Ran::Rerun(4, 2, in_pairs())),
+        pairs.on(2, Ran::Rerun(4, 2, in_pairs())),
         ahead.blocks(1, Ran::Passed(3, 3, vec![2, 3, 5, 5])),
         ahead.blocks(2, Ran::Rerun(3, 3, vec![2, 3, 5, 5])),
         one_cell.blocks(1, Ran::Passed(2, 1, vec![2])),
@@ -248,18 +218,18 @@ fn lastprivate_rows() -> Vec<RunRow> {
     vec![
         handed_on.blocks(1, Ran::Passed(8, 5, left_on())),
         handed_on.blocks(2, Ran::Rerun(8, 5, left_on())),
-        handed_on.iterations(1, Ran::Rerun(8, 5, left_on())),
+        handed_on.on(1, Ran::Rerun(8, 5, left_on())),
         set_first.blocks(2, Ran::Passed(6, 5, vec![6, 5, 5, 6, 6])),
         set_first.blocks(4, Ran::Rerun(6, 5, vec![6, 5, 5, 6, 6])),
-        set_first.iterations(2, Ran::Rerun(6, 5, vec![6, 5, 5, 6, 6])),
+        set_first.on(2, Ran::Rerun(6, 5, vec![6, 5, 5, 6, 6])),
         elsewhere.blocks(1, Ran::Passed(4, 4, vec![5, 9, 0, 5, 5])),
         elsewhere.blocks(2, Ran::Rerun(4, 4, vec![5, 9, 0, 5, 5])),
         later.blocks(1, Ran::Passed(2, 2, vec![5, 9, 0, 0, 0])),
         later.blocks(2, Ran::Rerun(2, 2, vec![5, 9, 0, 0, 0])),
         within.blocks(2, Ran::Passed(2, 2, vec![5, 9, 0, 0, 0])),
-        within.iterations(2, Ran::Rerun(2, 2, vec![5, 9, 0, 0, 0])),
+        within.on(2, Ran::Rerun(2, 2, vec![5, 9, 0, 0, 0])),
         read_after.blocks(2, Ran::Passed(4, 2, vec![3, 0, 0, 0, 3])),
-        read_after.iterations(2, Ran::Rerun(4, 2, vec![3, 0, 0, 0, 3])),
+        read_after.on(2, Ran::Rerun(4, 2, vec![3, 0, 0, 0, 3])),
         highest.blocks(2, Ran::Passed(2, 1, vec![20, 0, 0, 0, 0])),
         only_read.blocks(2, Ran::Passed(4, 4, vec![8, 8, 8, 8, 8])),
     ]
@@ -312,9 +282,9 @@ fn reduction_rows() -> Vec<RunRow> {
     let mut rows = vec![
         handed_on.blocks(1, Ran::Passed(8, 5, left_on())),
         handed_on.blocks(2, Ran::Rerun(8, 5, left_on())),
-        handed_on.iterations(1, Ran::Rerun(8, 5, left_on())),
+        handed_on.on(1, Ran::Rerun(8, 5, left_on())),
         set_first.blocks(2, Ran::Passed(6, 5, vec![6, 5, 5, 6, 6])),
-        set_first.iterations(2, Ran::Rerun(6, 5, vec![6, 5, 5, 6, 6])),
+        set_first.on(2, Ran::Rerun(6, 5, vec![6, 5, 5, 6, 6])),
         running.blocks(1, Ran::Passed(4, 1, vec![15, 0, 0, 0, 0])),
         running.blocks(2, Ran::Rerun(4, 1, vec![15, 0, 0, 0, 0])),
     ];
@@ -459,11 +429,11 @@ fn fault_rows() -> Vec<RunRow> {
         outside.blocks(8, Ran::Fault(9, 4, 5)),
         made_good.blocks(1, Ran::Passed(5, 5, vec![2, 5, 5, 5, 5])),
         made_good.blocks(2, Ran::Rerun(5, 5, vec![2, 5, 5, 5, 5])),
-        made_good.iterations(1, Ran::Rerun(5, 5, vec![2, 5, 5, 5, 5])),
+        made_good.on(1, Ran::Rerun(5, 5, vec![2, 5, 5, 5, 5])),
         made_zero.blocks(1, Ran::Fault(10, 4, 3)),
         made_zero.blocks(2, Ran::Fault(10, 4, 3)),
         in_the_block.blocks(2, Ran::Fault(10, 4, 4)),
-        in_the_block.iterations(2, Ran::Fault(10, 4, 4)),
+        in_the_block.on(2, Ran::Fault(10, 4, 4)),
     ]
 }
 

@@ -1,7 +1,8 @@
-//! Document 02, Point 5: "A name may stand in `firstprivate` and `lastprivate` together. Its obstacle is only
+//! RULES 7.1, copied cells (document 02, Point 5): "A name may stand in `firstprivate` and `lastprivate` together. Its obstacle is only
 //! that an iteration reads it before writing it and a lower-numbered iteration writes it". What Run answers,
 //! and what Look shows.
 
+use super::cases::Case;
 use super::looks::{self, LookRow, Seen};
 use super::runs::{self, text, Ran, RunRow};
 
@@ -18,57 +19,31 @@ pub fn run_rows() -> Vec<RunRow> {
     rows
 }
 
-/// A loop and its names in both clauses.
-struct Case<'c> {
-    name: &'c str,
-    names: &'c str,
-    copied: &'c str,
-    bounds: &'c str,
-    body: &'c str,
-    cells: &'c [i32],
-}
-
 impl Case<'_> {
-    fn row(&self, clauses: &str, processors: u32, expected: Ran) -> RunRow {
-        let clauses = format!("num_threads({processors}) {clauses}");
-        let name = format!("{}: {clauses}", self.name);
-        let text = text(self.names, &clauses, self.bounds, self.body);
-        runs::row(&name, &text, self.cells, expected)
+    /// The clause `firstprivate` of the names that `lastprivate` has.
+    fn first(&self) -> String {
+        self.clauses.replacen("lastprivate", "firstprivate", 1)
     }
 
     /// In both clauses, for so many processors.
     fn both(&self, processors: u32, expected: Ran) -> RunRow {
-        let names = self.copied;
-        let clauses = format!("firstprivate({names}) lastprivate({names})");
-        self.row(&clauses, processors, expected)
-    }
-
-    /// The same in `lastprivate` alone.
-    fn plain(&self, processors: u32, expected: Ran) -> RunRow {
-        let clauses = format!("lastprivate({})", self.copied);
-        self.row(&clauses, processors, expected)
+        let clauses = format!("{} {}", self.first(), self.clauses);
+        self.with(&clauses, processors, expected)
     }
 
     /// In both clauses, tested by blocks.
-    fn blocks(&self, processors: u32, expected: Ran) -> RunRow {
-        let names = self.copied;
-        let clauses = format!("lastprivate({names}) schedule(static) firstprivate({names})");
-        self.row(&clauses, processors, expected)
-    }
-
-    /// The same in `lastprivate` alone.
-    fn plain_blocks(&self, processors: u32, expected: Ran) -> RunRow {
-        let clauses = format!("lastprivate({}) schedule(static)", self.copied);
-        self.row(&clauses, processors, expected)
+    fn both_blocks(&self, processors: u32, expected: Ran) -> RunRow {
+        let clauses = format!("{} schedule(static) {}", self.clauses, self.first());
+        self.with(&clauses, processors, expected)
     }
 }
 
-/// z and an array.
+/// z, in `lastprivate` alone, and an array.
 const fn of_z<'c>(name: &'c str, bounds: &'c str, body: &'c str, cells: &'c [i32]) -> Case<'c> {
     Case {
         name,
         names: "z, a(4)",
-        copied: "z",
+        clauses: "lastprivate(z)",
         bounds,
         body,
         cells,
@@ -94,7 +69,7 @@ const WRITTEN_THEN_READ: Case = of_z(
 const AHEAD: Case = Case {
     name: "a(i) = a(i + 1)",
     names: "a(4)",
-    copied: "a",
+    clauses: "lastprivate(a)",
     bounds: "1, 3",
     body: "a(i) = a(i + 1)",
     cells: &[1, 2, 3, 5],
@@ -103,7 +78,7 @@ const AHEAD: Case = Case {
 const BEHIND: Case = Case {
     name: "a(i) = a(i - 1)",
     names: "a(4)",
-    copied: "a",
+    clauses: "lastprivate(a)",
     bounds: "2, 4",
     body: "a(i) = a(i - 1)",
     cells: &[1, 2, 3, 5],
@@ -127,28 +102,28 @@ fn early_rows() -> Vec<RunRow> {
     let renewed = Case {
         name: "old levels kept, then renewed",
         names: "a(2), b(2)",
-        copied: "a",
+        clauses: "lastprivate(a)",
         bounds: "1, 4",
         body: "if (i <= 2) then\nb(i) = a(i)\nelse\na(i - 2) = i\nend if",
         cells: &[7, 8, 0, 0],
     };
     let mut rows = vec![
         then_first.both(2, Ran::Passed(6, 5, vec![40, 5, 5, 30, 40])),
-        then_first.plain(2, Ran::Rerun(6, 5, vec![40, 5, 5, 30, 40])),
+        then_first.on(2, Ran::Rerun(6, 5, vec![40, 5, 5, 30, 40])),
         renewed.both(2, Ran::Passed(4, 4, vec![3, 4, 7, 8])),
         renewed.both(3, Ran::Passed(4, 4, vec![3, 4, 7, 8])),
-        renewed.plain(2, Ran::Rerun(4, 4, vec![3, 4, 7, 8])),
+        renewed.on(2, Ran::Rerun(4, 4, vec![3, 4, 7, 8])),
         AHEAD.both(2, Ran::Passed(3, 3, vec![2, 3, 5, 5])),
-        AHEAD.plain(2, Ran::Rerun(3, 3, vec![2, 3, 5, 5])),
+        AHEAD.on(2, Ran::Rerun(3, 3, vec![2, 3, 5, 5])),
     ];
     for processors in [1, 2, 3, 8] {
         let one_each = || vec![7, 3, 0, 0, 0];
         let nine_last = || vec![9, 6, 7, 8, 9];
         rows.extend([
             READ_THEN_WRITTEN.both(processors, Ran::Passed(2, 2, one_each())),
-            READ_THEN_WRITTEN.plain(processors, Ran::Rerun(2, 2, one_each())),
+            READ_THEN_WRITTEN.on(processors, Ran::Rerun(2, 2, one_each())),
             by_all.both(processors, Ran::Passed(5, 5, nine_last())),
-            by_all.plain(processors, Ran::Rerun(5, 5, nine_last())),
+            by_all.on(processors, Ran::Rerun(5, 5, nine_last())),
         ]);
     }
     rows
@@ -178,7 +153,7 @@ fn late_rows() -> Vec<RunRow> {
     let one_of_two = Case {
         name: "z(1) read and then written, z(2) written and then read",
         names: "z(2), a(2)",
-        copied: "z",
+        clauses: "lastprivate(z)",
         bounds: "1, 2",
         body: "if (i == 1) then\na(1) = z(1)\nz(2) = 4\nelse\na(2) = z(2)\nz(1) = 6\nend if",
         cells: &[3, 5, 0, 0],
@@ -190,12 +165,12 @@ fn late_rows() -> Vec<RunRow> {
         between_twice.both(2, Ran::Rerun(5, 4, vec![4, 9, 9, 0, 3])),
         one_of_two.both(2, Ran::Rerun(4, 4, vec![6, 4, 3, 4])),
         BEHIND.both(2, Ran::Rerun(3, 3, vec![1; 4])),
-        BEHIND.plain(2, Ran::Rerun(3, 3, vec![1; 4])),
+        BEHIND.on(2, Ran::Rerun(3, 3, vec![1; 4])),
     ];
     for processors in [1, 2, 3, 8] {
         rows.extend([
             WRITTEN_THEN_READ.both(processors, Ran::Rerun(2, 2, vec![7, 7, 0, 0, 0])),
-            WRITTEN_THEN_READ.plain(processors, Ran::Rerun(2, 2, vec![7, 7, 0, 0, 0])),
+            WRITTEN_THEN_READ.on(processors, Ran::Rerun(2, 2, vec![7, 7, 0, 0, 0])),
         ]);
     }
     rows
@@ -239,22 +214,22 @@ fn alone_rows() -> Vec<RunRow> {
     let z = |value| vec![value, 0, 0, 0, 0];
     let mut rows = vec![
         third.both(2, Ran::Passed(1, 1, z(4))),
-        third.plain(2, Ran::Passed(1, 1, z(4))),
+        third.on(2, Ran::Passed(1, 1, z(4))),
         after_reads.both(2, Ran::Passed(3, 3, vec![4, 5, 5, 0, 0])),
-        after_reads.plain(2, Ran::Rerun(3, 3, vec![4, 5, 5, 0, 0])),
+        after_reads.on(2, Ran::Rerun(3, 3, vec![4, 5, 5, 0, 0])),
         before_writes.both(2, Ran::Passed(5, 3, vec![4, 0, 0, 3, 4])),
-        before_writes.plain(2, Ran::Rerun(5, 3, vec![4, 0, 0, 3, 4])),
+        before_writes.on(2, Ran::Rerun(5, 3, vec![4, 0, 0, 3, 4])),
         two_of_three.both(2, Ran::Rerun(2, 1, z(3))),
         two_of_three.both(3, Ran::Rerun(2, 1, z(3))),
         written_first.both(2, Ran::Passed(3, 1, z(2))),
-        written_first.plain(2, Ran::Passed(3, 1, z(2))),
+        written_first.on(2, Ran::Passed(3, 1, z(2))),
     ];
     for processors in [1, 2, 8] {
         rows.extend([
             once.both(processors, Ran::Passed(1, 1, z(4))),
-            once.plain(processors, Ran::Passed(1, 1, z(4))),
+            once.on(processors, Ran::Passed(1, 1, z(4))),
             twice.both(processors, Ran::Rerun(2, 1, z(3))),
-            twice.plain(processors, Ran::Rerun(2, 1, z(3))),
+            twice.on(processors, Ran::Rerun(2, 1, z(3))),
         ]);
     }
     rows
@@ -282,7 +257,7 @@ fn value_rows() -> Vec<RunRow> {
     let each_its_own = Case {
         name: "each iteration its own cell",
         names: "z(4)",
-        copied: "z",
+        clauses: "lastprivate(z)",
         bounds: "1, 4",
         body: "z(i) = z(i) + i",
         cells: &[1, 1, 1, 1],
@@ -295,15 +270,15 @@ fn value_rows() -> Vec<RunRow> {
         ]);
     }
     rows.extend([
-        some.plain(2, Ran::Rerun(3, 2, vec![30, 9, 0, 0, 0])),
+        some.on(2, Ran::Rerun(3, 2, vec![30, 9, 0, 0, 0])),
         last_in_it.both(2, Ran::Passed(4, 1, vec![40, 0, 0, 0, 0])),
         own.both(2, Ran::Passed(5, 5, vec![18, 9, 9, 9, 27])),
-        own.plain(2, Ran::Rerun(5, 5, vec![18, 9, 9, 9, 27])),
+        own.on(2, Ran::Rerun(5, 5, vec![18, 9, 9, 9, 27])),
         only_read.both(2, Ran::Passed(4, 4, vec![9; 5])),
         never.both(2, Ran::Passed(0, 0, vec![9, 0, 0, 0, 0])),
         no_iterations.both(2, Ran::Passed(0, 0, vec![9, 0, 0, 0, 0])),
         each_its_own.both(2, Ran::Passed(4, 4, vec![2, 3, 4, 5])),
-        each_its_own.plain(2, Ran::Passed(4, 4, vec![2, 3, 4, 5])),
+        each_its_own.on(2, Ran::Passed(4, 4, vec![2, 3, 4, 5])),
     ]);
     rows
 }
@@ -336,43 +311,43 @@ fn block_rows() -> Vec<RunRow> {
     let left_on = || vec![40, 5, 10, 20, 30];
     let sums = || vec![57, 6, 8, 53, 57];
     let mut rows = vec![
-        in_one.blocks(1, Ran::Passed(2, 2, kept())),
-        in_one.blocks(2, Ran::Passed(2, 2, kept())),
-        in_one.blocks(3, Ran::Rerun(2, 2, kept())),
-        in_one.blocks(4, Ran::Rerun(2, 2, kept())),
+        in_one.both_blocks(1, Ran::Passed(2, 2, kept())),
+        in_one.both_blocks(2, Ran::Passed(2, 2, kept())),
+        in_one.both_blocks(3, Ran::Rerun(2, 2, kept())),
+        in_one.both_blocks(4, Ran::Rerun(2, 2, kept())),
         in_one.both(2, Ran::Rerun(2, 2, kept())),
-        upward.blocks(1, Ran::Passed(2, 2, met())),
-        upward.blocks(2, Ran::Rerun(2, 2, met())),
-        upward.blocks(3, Ran::Rerun(2, 2, met())),
+        upward.both_blocks(1, Ran::Passed(2, 2, met())),
+        upward.both_blocks(2, Ran::Rerun(2, 2, met())),
+        upward.both_blocks(3, Ran::Rerun(2, 2, met())),
         upward.both(1, Ran::Rerun(2, 2, met())),
-        downward.plain_blocks(1, Ran::Passed(2, 2, old())),
-        downward.plain_blocks(2, Ran::Rerun(2, 2, old())),
-        downward.plain(1, Ran::Rerun(2, 2, old())),
-        handed_on.blocks(1, Ran::Passed(8, 5, left_on())),
-        handed_on.blocks(2, Ran::Rerun(8, 5, left_on())),
+        downward.blocks(1, Ran::Passed(2, 2, old())),
+        downward.blocks(2, Ran::Rerun(2, 2, old())),
+        downward.on(1, Ran::Rerun(2, 2, old())),
+        handed_on.both_blocks(1, Ran::Passed(8, 5, left_on())),
+        handed_on.both_blocks(2, Ran::Rerun(8, 5, left_on())),
         handed_on.both(1, Ran::Rerun(8, 5, left_on())),
         // Block 0 reads first and writes, block 1 writes first.
-        set_by_third.blocks(1, Ran::Passed(8, 5, sums())),
-        set_by_third.blocks(2, Ran::Passed(8, 5, sums())),
-        set_by_third.blocks(3, Ran::Rerun(8, 5, sums())),
-        set_by_third.blocks(4, Ran::Rerun(8, 5, sums())),
-        set_by_third.blocks(8, Ran::Rerun(8, 5, sums())),
+        set_by_third.both_blocks(1, Ran::Passed(8, 5, sums())),
+        set_by_third.both_blocks(2, Ran::Passed(8, 5, sums())),
+        set_by_third.both_blocks(3, Ran::Rerun(8, 5, sums())),
+        set_by_third.both_blocks(4, Ran::Rerun(8, 5, sums())),
+        set_by_third.both_blocks(8, Ran::Rerun(8, 5, sums())),
         set_by_third.both(2, Ran::Rerun(8, 5, sums())),
-        set_by_third.plain_blocks(1, Ran::Passed(8, 5, sums())),
-        set_by_third.plain_blocks(2, Ran::Rerun(8, 5, sums())),
-        less_one.blocks(1, Ran::Passed(2, 1, vec![3, 0, 0, 0, 0])),
-        less_one.blocks(2, Ran::Rerun(2, 1, vec![3, 0, 0, 0, 0])),
+        set_by_third.blocks(1, Ran::Passed(8, 5, sums())),
+        set_by_third.blocks(2, Ran::Rerun(8, 5, sums())),
+        less_one.both_blocks(1, Ran::Passed(2, 1, vec![3, 0, 0, 0, 0])),
+        less_one.both_blocks(2, Ran::Rerun(2, 1, vec![3, 0, 0, 0, 0])),
         // P3.5: each iteration a block of its own
-        READ_THEN_WRITTEN.blocks(8, Ran::Passed(2, 2, vec![7, 3, 0, 0, 0])),
-        WRITTEN_THEN_READ.blocks(8, Ran::Rerun(2, 2, vec![7, 7, 0, 0, 0])),
-        WRITTEN_THEN_READ.blocks(1, Ran::Passed(2, 2, vec![7, 7, 0, 0, 0])),
-        BEHIND.blocks(1, Ran::Passed(3, 3, vec![1; 4])),
-        BEHIND.blocks(2, Ran::Rerun(3, 3, vec![1; 4])),
+        READ_THEN_WRITTEN.both_blocks(8, Ran::Passed(2, 2, vec![7, 3, 0, 0, 0])),
+        WRITTEN_THEN_READ.both_blocks(8, Ran::Rerun(2, 2, vec![7, 7, 0, 0, 0])),
+        WRITTEN_THEN_READ.both_blocks(1, Ran::Passed(2, 2, vec![7, 7, 0, 0, 0])),
+        BEHIND.both_blocks(1, Ran::Passed(3, 3, vec![1; 4])),
+        BEHIND.both_blocks(2, Ran::Rerun(3, 3, vec![1; 4])),
     ];
     for processors in [1, 2, 3, 4, 8] {
         rows.extend([
-            downward.blocks(processors, Ran::Passed(2, 2, old())),
-            AHEAD.blocks(processors, Ran::Passed(3, 3, vec![2, 3, 5, 5])),
+            downward.both_blocks(processors, Ran::Passed(2, 2, old())),
+            AHEAD.both_blocks(processors, Ran::Passed(3, 3, vec![2, 3, 5, 5])),
         ]);
     }
     rows
@@ -398,13 +373,13 @@ fn form_rows() -> Vec<RunRow> {
     let as_names = Case {
         name: "firstprivate and lastprivate as names (P5.10)",
         names: "firstprivate, lastprivate(2)",
-        copied: "firstprivate, lastprivate",
+        clauses: "lastprivate(firstprivate, lastprivate)",
         bounds: "1, 2",
         body: "if (i == 1) then\nlastprivate(1) = firstprivate\nelse\nfirstprivate = 7\nend if",
         cells: &[3, 0, 0],
     };
     rows.push(as_names.both(2, Ran::Passed(2, 2, vec![7, 3, 0])));
-    rows.push(as_names.plain(2, Ran::Rerun(2, 2, vec![7, 3, 0])));
+    rows.push(as_names.on(2, Ran::Rerun(2, 2, vec![7, 3, 0])));
     rows
 }
 
@@ -504,7 +479,7 @@ fn fault_rows() -> Vec<RunRow> {
     let outside = |name, body| Case {
         name,
         names: "k, a(2)",
-        copied: "k, a",
+        clauses: "lastprivate(k, a)",
         bounds: "1, 4",
         body,
         cells: &[2, 0, 0],
@@ -519,14 +494,14 @@ fn fault_rows() -> Vec<RunRow> {
     );
     vec![
         made_zero.both(2, Ran::Fault(10, 7, 2)),
-        made_zero.plain(2, Ran::Fault(10, 7, 2)),
+        made_zero.on(2, Ran::Fault(10, 7, 2)),
         made_good.both(2, Ran::Rerun(2, 2, vec![5, 2, 0, 0, 0])),
         spoiled_later.both(2, Ran::Passed(2, 2, vec![0, 2, 0, 0, 0])),
-        spoiled_later.plain(2, Ran::Rerun(2, 2, vec![0, 2, 0, 0, 0])),
+        spoiled_later.on(2, Ran::Rerun(2, 2, vec![0, 2, 0, 0, 0])),
         subscript.both(2, Ran::Passed(4, 2, vec![9, 0, 3])),
-        subscript.plain(2, Ran::Rerun(4, 2, vec![9, 0, 3])),
+        subscript.on(2, Ran::Rerun(4, 2, vec![9, 0, 3])),
         used_again.both(2, Ran::Fault(9, 7, 4)),
-        used_again.blocks(1, Ran::Fault(9, 7, 4)),
+        used_again.both_blocks(1, Ran::Fault(9, 7, 4)),
     ]
 }
 

@@ -1,4 +1,4 @@
-//! Each limit of document 01 at its edge and one past it, where a table line would be too long to
+//! Each limit of RULES 1.13 at its edge and one past it, where a table line would be too long to
 //! write out: the text's length, `if` depth and brackets.
 
 use super::TextRow;

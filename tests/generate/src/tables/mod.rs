@@ -1,8 +1,10 @@
 //! Cases with answers written by hand from documents 01 and 02 and the project's reading of them (entries
-//! are named as "READING 44" and "P1.2"), none of them computed.
+//! are named as "READING 44" and "P1.2"; tests/README.md says which section of docs/RULES.md has each), none of
+//! them computed.
 
 pub mod arguments;
 pub mod blocks;
+mod cases;
 pub mod copies;
 pub mod data;
 pub mod declarations;
@@ -10,6 +12,7 @@ pub mod directives;
 pub mod do_lines;
 pub mod limits;
 pub mod looks;
+pub mod names;
 pub mod plans;
 pub mod precedence;
 pub mod prints;

@@ -1,4 +1,4 @@
-//! What Plan answers and writes to its list (document 02, Point 7). The cells are as lent after every end.
+//! What Plan answers and writes to its list (RULES 8, 9.6; document 02, Point 7). The cells are as lent after every end.
 
 use super::runs::text;
 

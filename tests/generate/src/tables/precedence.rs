@@ -1,5 +1,5 @@
 //! "The first bad line counts": texts with two bad lines, of every kind and number, and texts that end
-//! at their bad line or right after it (READING 3, 23, 24).
+//! at their bad line or right after it (RULES 1.14; READING 3, 23, 24).
 
 use super::TextRow;
 

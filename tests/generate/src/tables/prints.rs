@@ -1,4 +1,4 @@
-//! What the program `lrpd` prints (READING 94, 95, 96).
+//! What the program `lrpd` prints (RULES 11; READING 94, 95, 96).
 
 /// A name for the row, the standard input, and what is printed.
 pub const ROWS: &[(&str, &str, &str)] = &[

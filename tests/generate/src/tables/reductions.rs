@@ -1,9 +1,10 @@
-//! Document 02, Point 6: "Add `reduction(*:list)` and `reduction(max:list)`. Product updates are `x = x * e`,
+//! RULES 3 and 4.5 (document 02, Point 6): "Add `reduction(*:list)` and `reduction(max:list)`. Product updates are `x = x * e`,
 //! where the remainder has no +, - or / outside brackets. Maximum updates are `x = max(x, e)`. [...] Each name
 //! has the update of its own clause only." What Run answers, and what Look shows.
 
+use super::cases::Case;
 use super::looks::{self, LookRow, Seen};
-use super::runs::{self, text, Ran, RunRow};
+use super::runs::{text, Ran, RunRow};
 
 /// What Run answers and leaves in the cells, under every schedule.
 pub fn run_rows() -> Vec<RunRow> {
@@ -24,25 +25,7 @@ pub fn run_rows() -> Vec<RunRow> {
 /// The numbers of processors: one, as many as there may be, and some between.
 const PROCESSORS: [u32; 4] = [1, 2, 3, 8];
 
-/// A loop, its clauses without `num_threads`.
-struct Case<'c> {
-    name: &'c str,
-    names: &'c str,
-    clauses: &'c str,
-    bounds: &'c str,
-    body: &'c str,
-    cells: &'c [i32],
-}
-
 impl Case<'_> {
-    /// For so many processors.
-    fn on(&self, processors: u32, expected: Ran) -> RunRow {
-        let clauses = format!("num_threads({processors}) {}", self.clauses);
-        let name = format!("{}: {clauses}", self.name);
-        let text = text(self.names, &clauses, self.bounds, self.body);
-        runs::row(&name, &text, self.cells, expected)
-    }
-
     /// For one, two, three and eight.
     fn on_all(&self, expected: &Ran) -> Vec<RunRow> {
         PROCESSORS

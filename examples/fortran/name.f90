@@ -1,0 +1,46 @@
+! Runs a loop text and prints the cells of one name: which they are, counted from 1, its clause, and their values afterwards.
+!
+!     gfortran -J target fortran/lrpd.f90 examples/fortran/name.f90 target/staticlib/libexports.a -o target/name
+!     target/name examples/texts/weights.loop peak
+program name
+  use, intrinsic :: iso_c_binding, only: c_int32_t
+  use lrpd
+  implicit none
+
+  character(len=*), parameter :: clauses(0:5) = [character(len=25) :: &
+    'shared', 'lastprivate', 'reduction(+)', 'firstprivate, lastprivate', 'reduction(*)', 'reduction(max)']
+  character(len=:), allocatable :: text
+  integer(c_int32_t), allocatable :: cells(:)
+  type(lrpd_name_answer) :: found
+  type(lrpd_check_answer) :: sizes
+  type(lrpd_done_answer) :: loaded
+  type(lrpd_run_answer) :: ran
+  integer :: last
+
+  text = contents('name FILE NAME')
+  found = lrpd_name(text, argument(2))
+  if (found%number /= lrpd_done) call refuse(found%number, found%line, found%v)
+
+  ! A text that Name takes Check and Load take too.
+  sizes = lrpd_check(text)
+  allocate (cells(sizes%cells))
+  loaded = lrpd_load(text, cells)
+  ran = lrpd_run(text, cells)
+  if (ran%number /= lrpd_done) call refuse(ran%number, ran%line, ran%v)
+
+  last = found%first + found%cells - 1
+  print '(2a, i0, a, i0, 2a)', argument(2), ': cells ', found%first, ' to ', last, ', ', trim(clauses(found%clause))
+  print '(i0)', cells(found%first:last)
+
+contains
+
+  subroutine refuse(number, line, v)
+    integer, intent(in) :: number, line, v
+
+    print '(a, 3(1x, i0), 2a)', 'refused', number, line, v, ': ', lrpd_message(number)
+    stop
+  end subroutine
+
+  include 'arguments.inc'
+
+end program

@@ -1,0 +1,230 @@
+! Calls each function of fortran/lrpd.f90, with its optional arguments and without, and ends with an error where one does not
+! answer, or leave in what it was lent, what it should.
+program thin
+  use, intrinsic :: iso_c_binding, only: c_int8_t, c_int16_t, c_int32_t
+  use, intrinsic :: iso_fortran_env, only: error_unit
+  use lrpd
+  implicit none
+
+  ! Six cells, a, s and z in this order, and four iterations.
+  character(len=*), parameter :: lines(*) = [character(len=80) :: &
+    'integer a(4), s', &
+    'integer z', &
+    'data a /1, 2, 3, 4/', &
+    'data s /5/', &
+    '!$omp parallel do num_threads(2) reduction(+:s) firstprivate(z) lastprivate(z)', &
+    'do i = -1, 2', &
+    'z = 10*a(i + 2)', &
+    'a(i + 2) = z', &
+    's = s + z', &
+    'end do']
+  integer(c_int32_t), parameter :: loaded(*) = [1, 2, 3, 4, 5, 0], after(*) = [10, 20, 30, 40, 105, 40]
+  integer(c_int8_t), parameter :: mixed(*) = [integer(c_int8_t) :: 1, 0, 0, 1, 1, 0]
+  character(len=:), allocatable :: text
+  integer :: failures = 0
+
+  text = lrpd_text(lines)
+  call texts
+  call descriptions
+  call loads
+  call runs
+  call looks
+  call plans
+  if (failures > 0) error stop 1
+
+contains
+
+  subroutine expect(good, what)
+    logical, intent(in) :: good
+    character(len=*), intent(in) :: what
+
+    if (good) return
+    failures = failures + 1
+    write (error_unit, '(2a)') 'not as it should be: ', what
+  end subroutine
+
+  ! A loop of one shared cell, which each of two iterations writes.
+  function meeting() result(text)
+    character(len=:), allocatable :: text
+
+    text = lrpd_text([character(len=40) :: 'integer a(1)', '!$omp parallel do num_threads(2)', 'do i = 1, 2', 'a(1) = i', 'end do'])
+  end function
+
+  ! Three iterations of this line, from 7 on, with two cells.
+  function with_line(line) result(text)
+    character(len=*), intent(in) :: line
+    character(len=:), allocatable :: text
+
+    text = lrpd_text([character(len=40) :: 'integer s(2)', '!$omp parallel do num_threads(1)', 'do i = 7, 9', line, 'end do'])
+  end function
+
+  subroutine texts
+    character(len=*), parameter :: nl = new_line('a')
+
+    call expect(lrpd_text(['a  ', ' b ', '   ', 'c c']) == 'a'//nl//' b'//nl//nl//'c c'//nl, 'lines')
+    call expect(len(lrpd_text(['a  ', ' b '])) == 5, 'no blanks at the ends of lines')
+    call expect(len(lrpd_text([character(len=3) ::])) == 0, 'no lines')
+  end subroutine
+
+  subroutine descriptions
+    call expect(is_check(lrpd_check(text), [0, 0, 0, 6, 2]), 'Check')
+    call expect(is_check(lrpd_check(''), [2, 1, 0, 0, 0]), 'Check, no characters')
+    call expect(is_check(lrpd_check(repeat(' ', 2049)), [1, 0, 0, 0, 0]), 'Check, 2,049 characters')
+    call expect(is_bounds(lrpd_bounds(text), [0, 0, 0, -1, 4, 0]), 'Bounds')
+    call expect(is_bounds(lrpd_bounds(with_line('s(1) = u')), [3, 4, 0, 0, 0, 0]), 'Bounds, refused')
+    call expect(is_name(lrpd_name(text, 'a'), [0, 0, 0, 1, 4, 1, lrpd_shared]), 'Name, the first')
+    call expect(is_name(lrpd_name(text, 'S'), [0, 0, 0, 5, 1, 0, lrpd_sum]), 'Name, the second in upper case')
+    call expect(is_name(lrpd_name(text, 'z'), [0, 0, 0, 6, 1, 0, lrpd_copied]), 'Name, the last')
+    call expect(is_name(lrpd_name(text, 'z '), [3, 0, 0, 0, 0, 0, 0]), 'Name, with a blank')
+    call expect(is_name(lrpd_name(text, trim('z ')), [0, 0, 0, 6, 1, 0, lrpd_copied]), 'Name, trimmed')
+    call expect(is_name(lrpd_name(text, 'i'), [3, 0, 0, 0, 0, 0, 0]), 'Name, of the variable')
+    call expect(is_name(lrpd_name(text, ''), [3, 0, 0, 0, 0, 0, 0]), 'Name, no characters')
+    call expect(is_name(lrpd_name('', 'a'), [2, 1, 0, 0, 0, 0, 0]), 'Name, refused')
+  end subroutine
+
+  subroutine loads
+    integer(c_int32_t) :: cells(6), wide(12)
+
+    call expect(is_done(lrpd_load(text, cells), [0, 0, 0]), 'Load')
+    call expect(all(cells == loaded), 'what Load leaves')
+    wide = 7
+    call expect(is_done(lrpd_load(text, wide(2::2)), [0, 0, 0]), 'Load of every other cell')
+    call expect(all(wide(2::2) == loaded) .and. all(wide(1::2) == 7), 'the cells between')
+    wide = 7
+    call expect(is_done(lrpd_load(text, wide), [5, 0, 0]), 'Load, too many cells')
+    call expect(all(wide == 7), 'what a refusal leaves')
+  end subroutine
+
+  subroutine runs
+    integer(c_int32_t) :: cells(6), one(1), two(2)
+    integer(c_int32_t), allocatable :: workspace(:)
+
+    allocate (workspace(lrpd_workspace(lrpd_check(text))))
+    workspace = 9
+    cells = loaded
+    call expect(is_run(lrpd_run(text, cells, workspace, mixed), [0, 0, 0, 0, 12, 6]), 'Run')
+    call expect(all(cells == after) .and. all(workspace == 0), 'what Run leaves')
+    workspace = 9
+    cells = loaded
+    call expect(is_run(lrpd_run(text, cells, workspace), [0, 0, 0, 0, 12, 6]), 'Run without a schedule')
+    call expect(all(cells == after) .and. all(workspace == 0), 'what Run without a schedule leaves')
+    cells = loaded
+    call expect(is_run(lrpd_run(text, cells, schedule=mixed), [0, 0, 0, 0, 12, 6]), 'Run without a workspace')
+    call expect(all(cells == after), 'what Run without a workspace leaves')
+    cells = loaded
+    call expect(is_run(lrpd_run(text, cells), [0, 0, 0, 0, 12, 6]), 'Run with neither')
+    call expect(all(cells == after), 'what Run with neither leaves')
+
+    one = 5
+    call expect(is_run(lrpd_run(meeting(), one), [0, 0, 0, 1, 2, 1]), 'Run, serially')
+    call expect(one(1) == 2, 'what Run leaves serially')
+
+    ! Refusals, with what is lent and with what is not.
+    cells = loaded
+    call expect(is_run(lrpd_run('', cells), [2, 1, 0, 0, 0, 0]), 'Run, refused')
+    call expect(is_run(lrpd_run(text, cells(:5)), [5, 0, 0, 0, 0, 0]), 'Run, too few cells')
+    call expect(is_run(lrpd_run(text, cells, workspace(2:)), [6, 0, 0, 0, 0, 0]), 'Run, a word too few')
+    call expect(is_run(lrpd_run(text, cells, workspace(2:), mixed), [6, 0, 0, 0, 0, 0]), 'Run, a word too few, a schedule')
+    call expect(is_run(lrpd_run(text, cells, schedule=[2_c_int8_t]), [7, 0, 0, 0, 0, 0]), 'Run, processor 2')
+    call expect(is_run(lrpd_run(text, cells, schedule=[-1_c_int8_t]), [7, 0, 0, 0, 0, 0]), 'Run, processor 255')
+    call expect(all(cells == loaded), 'what refusals leave')
+    two = 3
+    call expect(is_run(lrpd_run(with_line('s(i - 6) = 1'), two), [9, 4, 9, 0, 0, 0]), 'Run, a subscript')
+    call expect(is_run(lrpd_run(with_line('s(1) = 1/(i - 8)'), two), [10, 4, 8, 0, 0, 0]), 'Run, a divisor')
+    call expect(all(two == 3), 'what faults leave')
+  end subroutine
+
+  ! Document 01's example: the last step shows.
+  subroutine looks
+    integer(c_int32_t) :: one(1), view(2)
+    integer(c_int32_t), allocatable :: workspace(:)
+
+    one = 5
+    allocate (workspace(lrpd_workspace(lrpd_check(meeting()))))
+    workspace = 9
+    call expect(is_done(lrpd_look(meeting(), one, workspace, [1_c_int8_t, 0_c_int8_t], view), [0, 0, 0]), 'Look')
+    call expect(all(view == [1, 1]) .and. all(workspace == 0) .and. one(1) == 5, 'what Look leaves')
+    call expect(is_done(lrpd_look(meeting(), one, schedule=[0_c_int8_t, 1_c_int8_t], view=view), [0, 0, 0]), &
+      'Look without a workspace')
+    call expect(all(view == [2, 1]) .and. one(1) == 5, 'what Look without a workspace leaves')
+    call expect(is_done(lrpd_look(meeting(), one, schedule=[0_c_int8_t], view=view(:1)), [8, 0, 0]), 'Look, a word too few')
+    call expect(is_done(lrpd_look(meeting(), one, workspace(:9), [0_c_int8_t], view), [6, 0, 0]), 'Look, too little workspace')
+    call expect(is_done(lrpd_look('', one, schedule=[0_c_int8_t], view=view), [2, 1, 0]), 'Look, refused')
+    call expect(all(view == [2, 1]), 'what refusals leave in a view')
+  end subroutine
+
+  subroutine plans
+    integer(c_int32_t) :: two(2)
+    integer(c_int16_t) :: list(4)
+    integer(c_int16_t), allocatable :: long(:)
+    integer(c_int32_t), allocatable :: workspace(:)
+    character(len=:), allocatable :: chain
+
+    allocate (workspace(lrpd_workspace(lrpd_check(text))))
+    workspace = 9
+    list = 9
+    call expect(is_plan(lrpd_plan(text, loaded, workspace, list), [0, 0, 0, 4]), 'Plan')
+    call expect(all(list == [1, 2, 3, 4]) .and. all(workspace == 0), 'what Plan leaves')
+    list = 9
+    call expect(is_plan(lrpd_plan(text, loaded, list=list), [0, 0, 0, 4]), 'Plan without a workspace')
+    call expect(all(list == [1, 2, 3, 4]), 'what Plan without a workspace leaves')
+    list = 9
+    call expect(is_plan(lrpd_plan(text, loaded, list=list(:3)), [11, 0, 0, 0]), 'Plan, a number too few')
+    call expect(is_plan(lrpd_plan(text, loaded, workspace(:9), list), [6, 0, 0, 0]), 'Plan, too little workspace')
+    call expect(is_plan(lrpd_plan('', loaded, list=list), [2, 1, 0, 0]), 'Plan, refused')
+    two = 3
+    call expect(is_plan(lrpd_plan(with_line('s(i - 6) = 1'), two, list=list(:3)), [9, 4, 9, 0]), 'Plan, a subscript')
+    call expect(all(list == 9), 'what refusals leave in a list')
+
+    ! As many stages as there may be: the last ones read negative.
+    chain = lrpd_text([character(len=40) :: 'integer s', '!$omp parallel do num_threads(1)', 'do i = 1, 65535', 's = i', 'end do'])
+    allocate (long(lrpd_most_iterations))
+    call expect(is_plan(lrpd_plan(chain, two(:1), list=long), [0, 0, 0, 65535]), 'Plan, 65,535 stages')
+    call expect(iand(int(long(65535)), 65535) == 65535 .and. long(65535) == -1 .and. long(32767) == 32767, 'the last of them')
+  end subroutine
+
+  ! Whether an answer is these numbers.
+
+  pure logical function is_check(answer, numbers)
+    type(lrpd_check_answer), intent(in) :: answer
+    integer, intent(in) :: numbers(5)
+
+    is_check = all([answer%number, answer%line, answer%v, answer%cells, answer%processors] == numbers)
+  end function
+
+  pure logical function is_bounds(answer, numbers)
+    type(lrpd_bounds_answer), intent(in) :: answer
+    integer, intent(in) :: numbers(6)
+
+    is_bounds = all([answer%number, answer%line, answer%v, answer%from, answer%iterations, answer%blocks] == numbers)
+  end function
+
+  pure logical function is_name(answer, numbers)
+    type(lrpd_name_answer), intent(in) :: answer
+    integer, intent(in) :: numbers(7)
+
+    is_name = all([answer%number, answer%line, answer%v, answer%first, answer%cells, answer%subscripts, answer%clause] == numbers)
+  end function
+
+  pure logical function is_done(answer, numbers)
+    type(lrpd_done_answer), intent(in) :: answer
+    integer, intent(in) :: numbers(3)
+
+    is_done = all([answer%number, answer%line, answer%v] == numbers)
+  end function
+
+  pure logical function is_run(answer, numbers)
+    type(lrpd_run_answer), intent(in) :: answer
+    integer, intent(in) :: numbers(6)
+
+    is_run = all([answer%number, answer%line, answer%v, answer%rerun, answer%pairs, answer%cells] == numbers)
+  end function
+
+  pure logical function is_plan(answer, numbers)
+    type(lrpd_plan_answer), intent(in) :: answer
+    integer, intent(in) :: numbers(4)
+
+    is_plan = all([answer%number, answer%line, answer%v, answer%stages] == numbers)
+  end function
+
+end program
