@@ -10,6 +10,7 @@ pub mod data;
 pub mod declarations;
 pub mod directives;
 pub mod do_lines;
+pub mod from_fortran;
 pub mod limits;
 pub mod looks;
 pub mod names;
@@ -61,5 +62,6 @@ pub fn text_rows() -> Vec<TextRow> {
     rows.extend(statements::rows());
     rows.extend(limits::rows());
     rows.extend(precedence::rows());
+    rows.extend(from_fortran::rows());
     rows
 }
