@@ -1,8 +1,9 @@
 ! Lapwingboard for Fortran: the functions of include/lrpd.h, which says what they do, for texts and integer arrays as Fortran has
 ! them. Compile this file with the program and link liblrpd (`make` builds it).
 !
-! The lines of a text are parted by new_line('a'); lrpd_text makes a text of lines. All of the string is the text: of a padded variable
-! pass trim(text). Where no workspace is given, a function allocates one for its call.
+! The lines of a text are parted by new_line('a'); lrpd_text makes a text of lines. All of a string is the text, or the name: of a
+! padded variable pass trim(text). A workspace may be left out, and one is then allocated for the call; what comes after it goes by
+! its keyword.
 module lrpd
   use, intrinsic :: iso_c_binding, only: c_char, c_int8_t, c_int16_t, c_int32_t, c_size_t
   implicit none
@@ -32,14 +33,14 @@ module lrpd
     integer(c_int32_t) :: number, line, v, cells, processors
   end type
 
-  ! A refusal's number, or 0, its line and v; then the first value of the loop's variable, how many iterations there are, and 1 if marks
-  ! and obstacles go by blocks.
+  ! A refusal's number, or 0, its line and v; then the first value of the loop's variable, how many iterations there are, and 1 if
+  ! marks and obstacles go by blocks.
   type, bind(C) :: lrpd_bounds_answer
     integer(c_int32_t) :: number, line, v, from, iterations, blocks
   end type
 
-  ! A refusal's number, or 0, its line and v; then the name's first cell, counted from 1, how many it has, 1 if it takes a subscript, and
-  ! its clause.
+  ! A refusal's number, or 0, its line and v; then the name's first cell, counted from 1, how many it has, 1 if it takes a
+  ! subscript, and its clause.
   type, bind(C) :: lrpd_name_answer
     integer(c_int32_t) :: number, line, v, first, cells, subscripts, clause
   end type

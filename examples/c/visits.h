@@ -296,8 +296,8 @@ static void keep_first(struct visit *first, struct visit now, int does)
         *first = now;
 }
 
-/* Takes in what an iteration does with a cell, after all iterations before it. */
-static void take_in(struct record *record, uint32_t clause, struct visit now)
+/* Takes in what an iteration does with a cell, after all iterations before it. 1 if that makes an obstacle, and there was none. */
+static uint32_t take_in(struct record *record, uint32_t clause, struct visit now)
 {
     int updates = (now.marks & UPDATED) != 0, touches = (now.marks & ORDINARY) != 0, writes = (now.marks & WROTE) != 0;
     /* What the same block wrote before is not read first. */
@@ -313,7 +313,8 @@ static void take_in(struct record *record, uint32_t clause, struct visit now)
         met = touches ? now : record->toucher;
     else
         met = record->updater;
-    if (record->one.marks == 0 && met.marks != 0) {
+    uint32_t found = record->one.marks == 0 && met.marks != 0;
+    if (found) {
         record->one = met;
         record->other = now;
     }
@@ -323,23 +324,27 @@ static void take_in(struct record *record, uint32_t clause, struct visit now)
     keep_first(&record->updater, now, updates);
     if (writes)
         record->last_writer = now;
+    return found;
 }
 
-/* Finds the obstacles. 0 if a statement is too long for that. */
+/* Finds the obstacles. 0 if a statement is too long for that. A name needs its clause only until all its cells have one: without it
+   fewer iterations are taken statement by statement, but a picture would not show its updates. */
 static int find_obstacles(void)
 {
     memcpy(cells, entry, sizeof cells);
     for (uint32_t index = 0; index < bounds.iterations; index++) {
         if (!go(index))
             return 0;
-        for (size_t n = 0; n < name_count; n++)
+        for (size_t n = 0; n < name_count; n++) {
             for (uint32_t c = names[n].is.first; c < names[n].is.first + names[n].is.cells; c++)
                 if (marks[c] != 0)
-                    take_in(&records[c], names[n].clause, (struct visit){index, marks[c]});
+                    names[n].obstacles += take_in(&records[c], names[n].clause, (struct visit){index, marks[c]});
+            if (wanted == 0 && names[n].obstacles == names[n].is.cells)
+                names[n].clause = LRPD_SHARED;
+        }
     }
     for (size_t n = 0; n < name_count; n++)
-        for (uint32_t c = 0; c < names[n].is.cells; c++)
-            names[n].obstacles += records[names[n].is.first + c].one.marks != 0;
+        names[n].clause = names[n].is.clause;
     return 1;
 }
 

@@ -6,10 +6,13 @@
 //!                          fortran, loops, damaged, noise
 //!     compare stack KIB    how much stack the services need; whether it is at most so much
 //!     compare text FILE    what both answer for one text, on its own data
+//!     compare explain PROGRAM [FILE..]
+//!                          what the example explain says of these texts and of drawn loops
 //!
 //! The exit status is 0 only if nothing differs.
 
 mod division;
+mod explain;
 mod fortran;
 mod groups;
 mod names;
@@ -34,6 +37,11 @@ fn main() -> ExitCode {
     let good = match words[..] {
         ["stack-child", index] => index.parse().is_ok_and(stack::child),
         ["stack", limit] => limit.parse().is_ok_and(stack::measure),
+        ["explain", program, ref files @ ..] => on_a_big_stack({
+            let program = program.to_string();
+            let files: Vec<String> = files.iter().map(|file| file.to_string()).collect();
+            move || explain::explained(&program, &files)
+        }),
         ["text", file] => on_a_big_stack({
             let file = file.to_string();
             move || one::show(&file)

@@ -35,6 +35,7 @@ pub use accesses::{Access, Kind};
 pub use describe::{bounds, name, Bounds, NameCells};
 pub use fortran::{fortran, fortran_of_all, Threads};
 pub use integers::{divide_rounded, divide_truncated};
+pub use obstacles::obstacles;
 pub use plan::{depend, touches, Touched};
 pub use print::lrpd;
 pub use reader::read;
