@@ -10,7 +10,7 @@ program thin
   type(lrpd_run_answer) :: ran
 
   cells = [a, k]
-  ran = lrpd_run(lrpd_text([character(len=40) :: &
+  ran = lrpd_run(lrpd_text([character(len=132) :: &
     'integer a(4), k(4)', &
     '!$omp parallel do num_threads(2)', &
     'do i = 1, 4', &
