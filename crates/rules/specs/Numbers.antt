@@ -1,4 +1,4 @@
--- Devices: the numbers of classes and groups as the code has them.
+-- The numbers of classes, which Name answers (RULES 9.2 c). The rest are devices: operators and groups by their numbers, as the code has them.
 use Prim.Native.Nat.{ℕ}
 use lib.Dec.{eqb}
 use mathlib.Core.Bool.{cond}
