@@ -1,7 +1,7 @@
 -- Bounds and Name by the definitions, of small texts: rows of one table, what the definitions give and what RULES 9.2 says.
 use mathlib.Core.Path.{_≡_, refl}
 use mathlib.Core.Bool.{true, false}
-use mathlib.Core.List.{List, [], _∷_, _++_, map}
+use mathlib.Core.List.{List, [], _∷_, map}
 use Prim.Native.Nat.{ℕ}
 use Prim.Native.String.{String}
 use lib.IntN.{pos, negsuc}
@@ -12,17 +12,13 @@ use Rattle.syntax.specs.Known.{find, class-in, after}
 use Rattle.syntax.specs.Conditions.{inLine, names, limits, stands}
 use Rattle.syntax.specs.Reader.{readMore, readDeclare, readClauses, readDirective, readLoop, readEnd, readStart, readLine, parse}
 use Rattle.syntax.specs.Text.{judged, judge-line, judge, read}
+use Rattle.syntax.proofs.Quoted.{text}
 use Rattle.answers.specs.declared.Bounded.{Bounded}
 use Rattle.answers.specs.declared.Bounded.the-variants.{Range, Refused as Unbounded}
 use Rattle.answers.specs.declared.Located.{Located}
 use Rattle.answers.specs.declared.Located.the-variants.{Cells, Refused as Unlocated}
 use Rattle.answers.specs.Answers.{boundsOf, nameOf}
 use Rattle.syntax.specs.Bytes as bytes′
-
--- lines, each ended by a newline
-abbrev text : List String → List ℕ
-text [] = []
-text (l ∷ ls) = bytes l ++ (10 ∷ text ls)
 
 -- a loop without statements, of this directive and these bounds
 abbrev loop : String → String → List ℕ

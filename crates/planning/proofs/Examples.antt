@@ -22,16 +22,12 @@ use Rattle.syntax.specs.Conditions.{mentions, inTerms, inTerm, inFactors, inFac
 use Rattle.syntax.specs.Reader.{readExpr, readTerms, readTerm, readFactors, readFactor, readRef, readMore, readDeclare, readGive, readClauses, readDirective, readLoop, readAssign, readWhen, readEnd, readStart, readLine, parse}
 use Rattle.syntax.specs.Text.{judged, judge-line, judge, read}
 use Rattle.syntax.specs.Meaning.{no-zeros, alike, summand, multiplicand, alone, rival, is-update, remainder, located, divides, called, eval, evalTerms, evalTerm, evalFactors, evalFactor, place, assigned, exec, class-of, loopOf}
+use Rattle.syntax.proofs.Quoted.{text}
 use Rattle.answers.specs.declared.Planned.{Planned}
 use Rattle.answers.specs.declared.Planned.the-variants.{Staged, Faulted, Refused}
 use Rattle.answers.specs.Answers.{planOf, listPlanned, planWorkspace}
 use Rattle.int32.specs.Integers as integers
 use Rattle.syntax.specs.Bytes as bytes′
-
--- lines, each ended by a newline
-abbrev text : List String → List ℕ
-text [] = []
-text (l ∷ ls) = bytes l ++ (10 ∷ text ls)
 
 -- a loop of these names, clauses, bounds and statements
 abbrev loop : String → String → String → List String → List ℕ

@@ -27,6 +27,7 @@ use Rattle.syntax.specs.Conditions.{mentions, inTerms, inTerm, inFactors, inFac
 use Rattle.syntax.specs.Reader.{readExpr, readTerms, readTerm, readFactors, readFactor, readRef, readMore, readDeclare, readGive, readClauses, readDirective, readLoop, readAssign, readWhen, readEnd, readStart, readLine, parse}
 use Rattle.syntax.specs.Text.{Verdict, refused, good, judged, judge-line, judge, read, loaded}
 use Rattle.syntax.specs.Meaning.{no-zeros, alike, summand, multiplicand, alone, rival, is-update, remainder, located, divides, called, eval, evalTerms, evalTerm, evalFactors, evalFactor, place, assigned, exec, class-of, loopOf, partitionOf}
+use Rattle.syntax.proofs.Quoted.{text}
 use Rattle.answers.specs.declared.Checked.{Checked}
 use Rattle.answers.specs.declared.Checked.the-variants.{Sizes, Refused}
 use Rattle.answers.specs.declared.Ran.{Ran}
@@ -37,11 +38,6 @@ use Rattle.rules.specs.Merge as merge
 use Rattle.syntax.specs.Bytes as bytes′
 
 -- ---- texts
-
--- lines, each ended by a newline
-abbrev text : List String → List ℕ
-text [] = []
-text (l ∷ ls) = bytes l ++ (10 ∷ text ls)
 
 -- `a(i) = a(i) + 1`, 3 iterations, shared
 pub rising : List ℕ

@@ -30,3 +30,5 @@ pub mod Table
 pub mod TableLines
 pub mod LoopValues
 pub mod Statements
+-- Texts in examples.
+pub mod Quoted

@@ -1,6 +1,6 @@
 -- The table of an accepted text's names: its entries follow one another from cell 0 on, so the cells of the entry that a name finds are cells
--- of the table, and their class is that entry's.
-use mathlib.Core.Path.{_≡_}
+-- of the table and of no other name, and their class is that entry's.
+use mathlib.Core.Path.{_≡_, refl, sym, _∙_}
 use mathlib.Core.Bool.{Bool, true, false, cond, _&&_}
 use mathlib.Core.List.{List, [], _∷_}
 use Prim.Native.Nat.{ℕ, zero, suc, _+_, _≤_, _<_}
@@ -12,6 +12,7 @@ use Rattle.syntax.specs.Known.{Entry, named, nowhere, find, cells}
 use Rattle.syntax.specs.Meaning.{class-of}
 use Rattle.syntax.specs.Sane.{Each, Laid, SaneEntry, SaneTable}
 use Rattle.syntax.proofs.TestLaws.{both-hold, cond-each}
+use Rattle.syntax.proofs.Spelling.{same-true}
 
 pub cells-filled : (t : List Entry) → SaneTable t → 0 < length t → 0 < cells t
 cells-filled [] h k = absurd (omega arith)
@@ -57,6 +58,29 @@ find-first x t h k = find-each (λ e. e .first < cells t) x t k (go 0 t (h .laid
     go : (c : ℕ) (es : List Entry) → Laid c es → Each SaneEntry es → c + cells es ≤ cells t → Each (λ e. e .first < cells t) es
     go c [] l s b = tt
     go c (e ∷ es) l s b = (omega (arith, l .0, s .0 .some-cells), go (c + e .size) es (l .1) (s .1) (omega arith))
+
+-- ---- the cells of two names
+
+-- cell k is one of an entry's
+abbrev pub Among : ℕ → Entry → Type 0
+Among k e = (e .first ≤ k) × (k < e .first + e .size)
+
+-- no cell is of both
+pub find-apart : (x y : List ℕ) → (x ≡ y → ⊥) → (c : ℕ) (t : List Entry) (k : ℕ) → Laid c t → Among k (find x t) → Among k (find y t) → ⊥
+unfolding find
+find-apart x y n c [] k h p q = omega (arith, p .1)
+find-apart x y n c (e ∷ es) k h p q =
+    go (named x e) refl (named y e) refl (find-between x (c + e .size) es (h .1)) (find-between y (c + e .size) es (h .1))
+    (find-apart x y n (c + e .size) es k (h .1)) p q
+  where
+    go : (a : Bool) → named x e ≡ a → (b : Bool) → named y e ≡ b
+        → Between (c + e .size) (c + e .size + cells es) (find x es) → Between (c + e .size) (c + e .size + cells es) (find y es)
+        → (Among k (find x es) → Among k (find y es) → ⊥)
+        → Among k (cond a e (find x es)) → Among k (cond b e (find y es)) → ⊥
+    go true u true v f g ih p q = n (same-true x (e .name) u ∙ sym (same-true y (e .name) v))
+    go true u false v f g ih p q = omega (arith, h .0, p .1, q .0, g .from (omega (arith, q .0, q .1)))
+    go false u true v f g ih p q = omega (arith, h .0, q .1, p .0, f .from (omega (arith, p .0, p .1)))
+    go false u false v f g ih p q = ih p q
 
 -- ---- the class of a cell
 
