@@ -1,9 +1,9 @@
--- RULES 9 and 10 (document 01, Services and answers; document 02, Point 7): what each service answers and leaves in what is lent, by the verdict on the text.
+-- RULES 9 and 10 (document 01, Services and answers; document 02, Points 7 and 8): what each service answers and leaves in what is lent, by the verdict on the text.
 use mathlib.Core.Bool.{cond}
-use mathlib.Core.List.{List, [], map}
+use mathlib.Core.List.{List, [], map, _++_}
 use Prim.Native.Nat.{ℕ, zero, suc, _+_, _*_}
 use lib.Dec.{eqb, leb, ltb}
-use lib.ListN.{length, replicate}
+use lib.ListN.{length, replicate, drop}
 use lib.IntN.{ℤ, pos, _+ℤ_}
 use Rattle.rules.specs.Cells.{listed}
 use Rattle.rules.specs.Loop.{Loop}
@@ -15,6 +15,7 @@ use Rattle.syntax.specs.Bytes.{all, lower}
 use Rattle.syntax.specs.Known.{Entry, State, cells, find, known}
 use Rattle.syntax.specs.Text.{Verdict, refused, good, loaded}
 use Rattle.syntax.specs.Meaning.{loopOf, partitionOf}
+use Rattle.printed.specs.Form.{form}
 use Rattle.answers.specs.declared.Bounded.{Bounded}
 use Rattle.answers.specs.declared.Bounded.the-variants.{Range, Refused as Unbounded}
 use Rattle.answers.specs.declared.Checked.{Checked}
@@ -25,6 +26,8 @@ use Rattle.answers.specs.declared.Located.{Located}
 use Rattle.answers.specs.declared.Located.the-variants.{Cells, Refused as Unlocated}
 use Rattle.answers.specs.declared.Planned.{Planned}
 use Rattle.answers.specs.declared.Planned.the-variants.{Staged, Faulted as Failed, Refused as Unplanned}
+use Rattle.answers.specs.declared.Printed.{Printed}
+use Rattle.answers.specs.declared.Printed.the-variants.{Form, Refused as Unprinted}
 use Rattle.answers.specs.declared.Ran.{Ran}
 use Rattle.answers.specs.declared.Ran.the-variants.{Passed, Rerun, Faulted, Refused as Unfit}
 
@@ -173,3 +176,26 @@ listPlanned (good s) m w q = taken (planNumber s (length m) w (length q)) (stage
 unfoldable pub planWorkspace : Verdict → List ℤ → List ℕ → ℕ → List ℕ
 planWorkspace (refused n k) m w p = w
 planWorkspace (good s) m w p = taken (planNumber s (length m) (length w) p) (replicate (length w) 0) w
+
+-- ---- Print (document 02, Point 8)
+
+-- a form f, where n bytes are lent: "12, bytes lent fewer than the printed form"
+abbrev pub formNumber : List ℕ → ℕ → ℕ
+formNumber f n = cond (leb (length f) n) 0 12
+
+-- "The answer is the length"
+abbrev pub formAnswered : List ℕ → ℕ → Printed
+formAnswered f n = let m = formNumber f n in taken m (Form (length f)) (Unprinted m 0)
+
+-- "the rest of the lent bytes is unchanged"; "a refusal writes nothing"
+abbrev pub formWritten : List ℕ → List ℕ → List ℕ
+formWritten f b = taken (formNumber f (length b)) (f ++ drop (length f) b) b
+
+-- "after 4"
+unfoldable pub printOf : Verdict → List ℕ → ℕ → Printed
+printOf (refused m k) text n = Unprinted m k
+printOf (good s) text n = formAnswered (form text) n
+
+unfoldable pub bytesPrinted : Verdict → List ℕ → List ℕ → List ℕ
+bytesPrinted (refused m k) text b = b
+bytesPrinted (good s) text b = formWritten (form text) b

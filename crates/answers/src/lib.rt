@@ -56,6 +56,12 @@ pub enum Planned {
     Refused { number: u32, line: u32 },
 }
 
+// What Print answers (RULES 9.8): the length of the printed form, or a refusal.
+pub enum Printed {
+    Form { length: u32 },
+    Refused { number: u32, line: u32 },
+}
+
 // What the serial run answers.
 pub enum Served {
     Finished { pairs: u32, cells: u32 },

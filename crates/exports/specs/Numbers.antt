@@ -14,6 +14,8 @@ use Rattle.answers.specs.declared.Located.{Located}
 use Rattle.answers.specs.declared.Located.the-variants.{Cells, Refused as Unlocated}
 use Rattle.answers.specs.declared.Planned.{Planned}
 use Rattle.answers.specs.declared.Planned.the-variants.{Staged, Faulted as Failed, Refused as Unplanned}
+use Rattle.answers.specs.declared.Printed.{Printed}
+use Rattle.answers.specs.declared.Printed.the-variants.{Form, Refused as Unprinted}
 use Rattle.answers.specs.declared.Ran.{Ran}
 use Rattle.answers.specs.declared.Ran.the-variants.{Passed, Rerun, Faulted, Refused as Unfit}
 use Rattle.exports.specs.declared.BoundsAnswer.{BoundsAnswer}
@@ -21,6 +23,7 @@ use Rattle.exports.specs.declared.CheckAnswer.{CheckAnswer}
 use Rattle.exports.specs.declared.DoneAnswer.{DoneAnswer}
 use Rattle.exports.specs.declared.NameAnswer.{NameAnswer}
 use Rattle.exports.specs.declared.PlanAnswer.{PlanAnswer}
+use Rattle.exports.specs.declared.PrintAnswer.{PrintAnswer}
 use Rattle.exports.specs.declared.RunAnswer.{RunAnswer}
 
 unfoldable pub checkNumbers : Checked → CheckAnswer
@@ -59,3 +62,8 @@ unfoldable pub planNumbers : Planned → PlanAnswer
 planNumbers (Staged k) = record { number = 0; line = 0; v = pos 0; stages = k }
 planNumbers (Failed n k x) = record { number = n; line = k; v = x; stages = 0 }
 planNumbers (Unplanned n k) = record { number = n; line = k; v = pos 0; stages = 0 }
+
+-- document 02, Point 8: "The answer is the length"
+unfoldable pub printNumbers : Printed → PrintAnswer
+printNumbers (Form n) = record { number = 0; line = 0; v = pos 0; length = n }
+printNumbers (Unprinted k l) = record { number = k; line = l; v = pos 0; length = 0 }

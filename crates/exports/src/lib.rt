@@ -3,13 +3,14 @@
 ghost use mathlib.Core.Path.{_≡_};
 ghost use lib.ListN.{length};
 ghost use Rattle.syntax.specs.Text.{read};
-ghost use Rattle.answers.specs.Answers.{checkOf, boundsOf, nameOf, loadOf, cellsLoaded, lookOf, viewShown, lookWorkspace, runOf, cellsRun, runWorkspace, planOf, listPlanned, planWorkspace};
-ghost use Rattle.exports.specs.Numbers.{checkNumbers, boundsNumbers, nameNumbers, by-blocks, subscripts, doneNumbers, runNumbers, planNumbers};
+ghost use Rattle.answers.specs.Answers.{checkOf, boundsOf, nameOf, loadOf, cellsLoaded, lookOf, viewShown, lookWorkspace, runOf, cellsRun, runWorkspace, planOf, listPlanned, planWorkspace, printOf, bytesPrinted};
+ghost use Rattle.exports.specs.Numbers.{checkNumbers, boundsNumbers, nameNumbers, by-blocks, subscripts, doneNumbers, runNumbers, planNumbers, printNumbers};
 use answers::Bounded;
 use answers::Checked;
 use answers::Completed;
 use answers::Located;
 use answers::Planned;
+use answers::Printed;
 use answers::Ran;
 use rules::Grouping;
 
@@ -72,6 +73,15 @@ pub struct PlanAnswer {
     pub line: u32,
     pub v: i32,
     pub stages: u32,
+}
+
+// Print's answer: a refusal's number (0: none), line and v; the length of the printed form.
+#[repr(C)]
+pub struct PrintAnswer {
+    pub number: u32,
+    pub line: u32,
+    pub v: i32,
+    pub length: u32,
 }
 
 #[no_mangle]
@@ -323,4 +333,26 @@ pub extern "C" fn lrpd_plan(
 {
     let r = planning::plan(text, cells, workspace, list);
     plan_answer(r)
+}
+
+#[no_mangle]
+pub extern "C" fn lrpd_print(text: &[u8], bytes: &mut [u8]) -> PrintAnswer
+    ensures { λ r. ⌜ r ≡ printNumbers (printOf (read (now (text .entry))) (now (text .entry)) (length (now (bytes .entry)))) ⌝ }
+    ensures { λ _. ⌜ now (bytes .exit) ≡ bytesPrinted (read (now (text .entry))) (now (text .entry)) (now (bytes .entry)) ⌝ }
+{
+    let r = forming::print(text, bytes);
+    match r {
+        Printed::Form { length: n } => PrintAnswer {
+            number: 0,
+            line: 0,
+            v: 0,
+            length: n,
+        },
+        Printed::Refused { number: k, line: l } => PrintAnswer {
+            number: k,
+            line: l,
+            v: 0,
+            length: 0,
+        },
+    }
 }

@@ -45,7 +45,7 @@ parse-bytes s f b = go (readLine peek-in skip-in f s) refl
 
 -- ---- kinds and stages
 
-yields-closing : (P : Line → Type 0) → P close → (f : ℕ) (s : List ℕ) → Yields P (readClosing peek-in skip-in s)
+pub yields-closing : (P : Line → Type 0) → P close → (f : ℕ) (s : List ℕ) → Yields P (readClosing peek-in skip-in s)
 yields-closing P h f s =
     yields-next P (expects peek-in skip-in "!$omp" s) _ (λ _ t. yields-next P (wants peek-in skip-in "end" t) _ (λ _ u.
     yields-next P (wants peek-in skip-in "parallel" u) _ (λ _ v. yields-next P (wants peek-in skip-in "do" v) _ (λ _ _. h))))
@@ -65,15 +65,16 @@ stage-is (EndIf n j) f s = refl
 stage-is (EndDo n j) f s = refl
 stage-is Closing f s = yields-closing (λ l. stageOf l ≡ 7) refl f s
 
-pub line-stage : (k : Kind) (f : ℕ) (s : List ℕ) → Yields (λ l. stageOf l ≡ stageBy k) (whole (readBy k f) s)
-line-stage k f s = go (readBy k f s) (stage-is k f s)
+-- what holds of what is read holds of the whole line
+pub line-yields : (P : Line → Type 0) (k : Kind) (f : ℕ) (s : List ℕ) → Yields P (readBy k f s) → Yields P (whole (readBy k f) s)
+line-yields P k f s = go (readBy k f s)
   where
-    P : Line → Type 0
-    P l = stageOf l ≡ stageBy k
-
     go : (q : Parsed (List ℕ) Line) → Yields P q → Yields P (next q (λ l v. next (finish peek-in skip-in v) (λ _. done l)))
     go broken h = tt
     go (done l u) h = yields-next P (finish peek-in skip-in u) _ (λ _ _. h)
+
+pub line-stage : (k : Kind) (f : ℕ) (s : List ℕ) → Yields (λ l. stageOf l ≡ stageBy k) (whole (readBy k f) s)
+line-stage k f s = line-yields (λ l. stageOf l ≡ stageBy k) k f s (stage-is k f s)
 
 -- a line is read as its kind is
 pub line-by : (k : Kind) (s : List ℕ) → Kinds (λ f. readStart peek-in skip-in f s) s k → (f : ℕ) → readLine peek-in skip-in f s ≡ whole (readBy k f) s

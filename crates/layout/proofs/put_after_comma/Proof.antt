@@ -1,0 +1,30 @@
+-- `layout::put_after_comma` meets its contract.
+use mathlib.Core.Path.{ap}
+use native.Mathlib.Omega.{arith}
+use lib.ListN.{length, drop}
+use Rattle.syntax.specs.Bytes.{tokens}
+use Rattle.writing.proofs.Writing.{writes-as, writes-then}
+use Rattle.layout.specs.Copied.{signed}
+use Rattle.layout.proofs.Copying.{comma-copy}
+use borrow.Author.Needs.{needs}
+use Rattle.layout.proofs.put_after_comma.Statement.{statement}
+use Rattle.layout.proofs.put_after_comma.Tie as tie
+
+put-requires : tie.Need-put-requires
+put-requires c κs = omega (arith, ap length (comma-copy (signed (tokens (drop (c .before .before .before .args .at) (c .before .before .before .args .s .now))))), c .before .before .before .pre .1)
+
+put-requires-2 : tie.Need-put-requires-2
+put-requires-2 c κs = omega (arith, ap length (comma-copy (signed (tokens (drop (c .before .before .before .before .before .before .before .args .at) (c .before .before .before .before .before .before .before .args .s .now))))), c .before .before .before .put .ensures .place, c .before .before .before .before .before .before .before .pre .1)
+
+put-signed-requires : tie.Need-put-signed-requires
+put-signed-requires c κs = (c .before .before .before .before .before .before .before .before .before .before .before .pre .0, omega (arith, ap length (comma-copy (signed (tokens (drop (c .before .before .before .before .before .before .before .before .before .before .before .args .at) (c .before .before .before .before .before .before .before .before .before .before .before .args .s .now))))), c .before .before .before .before .before .before .before .put .ensures .place, c .before .before .before .put2 .ensures .place, c .before .before .before .before .before .before .before .before .before .before .before .pre .1))
+
+same-length : tie.Need-same-length
+same-length c = search needs
+
+returns : tie.Need-returns
+returns c = writes-as (comma-copy (signed (tokens (drop (c .before .before .before .before .before .before .before .before .before .before .before .before .before .before .args .at) (c .before .before .before .before .before .before .before .before .before .before .before .before .before .before .args .s .now))))) (writes-then (c .before .before .before .before .before .before .before .before .before .before .put .ensures) (writes-then (c .before .before .before .before .before .before .put2 .ensures) (c .before .before .put-signed .ensures .writes)))
+
+pub put-after-comma-spec : {M : Type 1} → statement M
+put-after-comma-spec =
+    tie.close (tie.spec put-requires put-requires-2 put-signed-requires same-length returns)

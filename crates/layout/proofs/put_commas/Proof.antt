@@ -1,0 +1,56 @@
+-- `layout::put_commas` meets its contract: k copies are written, the first of them before.
+use mathlib.Core.Path.{sym}
+use Prim.Native.Nat.{_+_, _-_, _≤_}
+use native.Mathlib.Omega.{arith}
+use lib.ListN.{drop}
+use Rattle.syntax.specs.Bytes.{tokens}
+use Rattle.writing.specs.Written.{blanked}
+use Rattle.writing.proofs.Writing.{writes-length, fits-first, Along, along-none, along-more, along-all, along-fits}
+use Rattle.layout.specs.Copied.{signed, commas}
+use Rattle.layout.proofs.Copying.{blanked-commas, commas-room, no-commas}
+use borrow.Author.Needs.{needs}
+use Rattle.layout.proofs.put_commas.Statement.{statement}
+use Rattle.layout.proofs.put_commas.Tie as tie
+
+abbrev Inv-loop : tie.InvT-loop
+Inv-loop out₀ to s at copies p₀ k₀ out p k =
+    let xs = signed (tokens (drop at s)) in
+    (1 ≤ k) × Along (blanked (commas (copies - 1) xs)) (blanked (commas (copies - k) xs)) out₀ to out p
+
+abbrev μ-loop : tie.MeasureT-loop
+μ-loop out₀ to s at copies p₀ k₀ out p k = copies - k
+
+loop-holds : tie.Need-loop-holds Inv-loop μ-loop
+loop-holds c = (omega arith, along-none _ _ _)
+
+put-after-comma-requires : tie.Need-put-after-comma-requires Inv-loop μ-loop
+put-after-comma-requires c κs = (c .before .before .before .before .before .pre .0, commas-room (c .before .before .loop .p) (c .before .before .loop .k) (c .before .before .before .before .before .args .copies) _ (omega arith) (along-fits (c .before .before .before .before .before .pre .1) (c .before .before .loop .inv .1)))
+
+add-k : tie.Need-add-k Inv-loop μ-loop
+add-k c = search needs
+
+loop-less : tie.Need-loop-less Inv-loop μ-loop
+loop-less c = search needs
+
+loop-again : tie.Need-loop-again Inv-loop μ-loop
+loop-again c = (omega arith, along-more _ _ (blanked-commas (c .before .before .before .before .before .loop .k) (c .before .before .before .before .before .before .before .before .args .copies) _ (omega arith)) (c .before .before .before .before .before .loop .inv .1) (c .before .before .put-after-comma .ensures))
+
+same-length : tie.Need-same-length Inv-loop μ-loop
+same-length c = writes-length (c .before .loop .inv .1 .writes)
+
+returns : tie.Need-returns Inv-loop μ-loop
+returns c = along-all (no-commas (c .before .loop .k) (c .before .before .before .before .args .copies) _ (omega arith)) (c .before .loop .inv .1)
+
+pub put-commas-spec : {M : Type 1} → statement M
+put-commas-spec =
+    tie.close
+    (tie.spec
+    Inv-loop
+    μ-loop
+    loop-holds
+    put-after-comma-requires
+    add-k
+    loop-less
+    loop-again
+    same-length
+    returns)

@@ -1,0 +1,24 @@
+-- `layout::put_copies` meets its contract.
+use mathlib.Core.Path.{refl}
+use lib.ListN.{drop}
+use Rattle.syntax.specs.Bytes.{tokens}
+use Rattle.writing.proofs.TokenBytes.{moves-more, moves-as}
+use Rattle.layout.proofs.Copying.{listed-first, listed-others}
+use borrow.Author.Needs.{needs}
+use Rattle.layout.proofs.put_copies.Statement.{statement}
+use Rattle.layout.proofs.put_copies.Tie as tie
+
+put-signed-requires : tie.Need-put-signed-requires
+put-signed-requires c κs = (c .before .before .before .pre .0, listed-first (c .before .before .before .args .to) (c .before .before .before .args .copies) (tokens (drop (c .before .before .before .args .at) (c .before .before .before .args .s .now))) (c .before .before .before .pre .1))
+
+put-commas-requires : tie.Need-put-commas-requires
+put-commas-requires c κs = (c .before .before .before .before .before .before .before .pre .0, listed-others (c .before .before .before .before .before .before .before .args .copies) (c .before .before .before .before .before .before .before .pre .1) (c .before .before .before .put-signed .ensures))
+
+same-length : tie.Need-same-length
+same-length c = search needs
+
+returns : tie.Need-returns
+returns c = moves-as refl refl (moves-more _ (c .before .before .before .before .before .before .put-signed .ensures) (c .before .before .put-commas .ensures))
+
+pub put-copies-spec : {M : Type 1} → statement M
+put-copies-spec = tie.close (tie.spec put-signed-requires put-commas-requires same-length returns)

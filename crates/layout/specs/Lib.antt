@@ -1,0 +1,2 @@
+-- The tokens of a line as they are printed.
+pub mod Copied

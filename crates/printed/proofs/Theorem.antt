@@ -1,0 +1,78 @@
+-- RULES 1.15 (document 02, Point 8): what is proved of the printed form, `form`, of accepted texts.
+use mathlib.Core.Path.{_≡_, _∙_, ap, subst}
+use mathlib.Core.Logic.{_↔_}
+use mathlib.Core.List.{List}
+use Prim.Native.Nat.{ℕ, _≤_}
+use lib.ListN.{length}
+use lib.IntN.{ℤ}
+use Rattle.rules.specs.Serial.{serial}
+use Rattle.syntax.specs.Bytes.{Token, tokens}
+use Rattle.syntax.specs.Known.{State, nothing}
+use Rattle.syntax.specs.Conditions.{concat}
+use Rattle.syntax.specs.Text.{read, good}
+use Rattle.syntax.specs.Meaning.{loopOf, partitionOf}
+use Rattle.syntax.specs.Follows.{learnt}
+use Rattle.syntax.specs.Sane.{Each}
+use Rattle.syntax.proofs.Theorem.{accepted-complete}
+use Rattle.printed.specs.Form.{spaced, ended, printed, program, form}
+use Rattle.printed.specs.Differ.{DifferOnly}
+use Rattle.printed.specs.Restated.{restated, SameKnown, SameLoop, SameResult}
+use Rattle.printed.proofs.RoundTrip.{Proper, spaced-tokens}
+use Rattle.printed.proofs.PrintedAlike.{formed-differ, differ-formed}
+use Rattle.printed.proofs.PrintedAgain.{printed-follows, printed-known, formed-once, printed-again}
+use Rattle.printed.proofs.SameLoops.{known-loop, loop-serial}
+use Rattle.printed.proofs.PrintedBound.{printed-bound}
+use Rattle.printed.proofs.Programs.{program-follows, accepted}
+
+-- "Two accepted texts print alike exactly when they differ only in what this form removes."
+pub print-alike : (s t : List ℕ) (u v : State) → read s ≡ good u → read t ≡ good v → (form s ≡ form t) ↔ DifferOnly s t
+unfolding form
+print-alike s t u v h k =
+    let p = program s in
+    let q = program t in
+    let f = accepted s u h .follows in
+    let g = accepted t v k .follows in
+    (λ e. formed-differ s t p q f g (formed-once s t p q f g e), λ e. ap (concat ended) (differ-formed s t p q f g e))
+
+-- "A printed text that fits in 2,048 bytes is accepted and prints as itself": and it says the same, names, cells, classes, data, P, grouping, v,
+-- bounds, and the statements but for their lines and leading zeros.
+pub record Reprinted (text : List ℕ) (s : State) : Type 0 where
+  pub state : State
+  pub accepted : read (form text) ≡ good state
+  pub itself : form (form text) ≡ form text
+  pub same : SameKnown s state
+
+pub printed-accepted : (text : List ℕ) (s : State) → read text ≡ good s → length (form text) ≤ 2048 → Reprinted text s
+unfolding form
+printed-accepted text s h b =
+    let p = program text in
+    let a = accepted text s h in
+    let g = printed-follows text p (a .follows) b in
+    record {
+      state = learnt nothing (restated p);
+      accepted = accepted-complete (form text) (restated p) g;
+      itself = ap printed (program-follows (form text) (restated p) g) ∙ printed-again text p (a .follows);
+      same = subst (λ (u : State). SameKnown u (learnt nothing (restated p))) (a .known) (printed-known text p (a .follows));
+    }
+
+-- Its loop does the same over any cells: every iteration's tree is the same but for the lines of faults.
+pub printed-loop : (s t : State) → SameKnown s t → (m : List ℤ) → SameLoop (loopOf s m) (loopOf t m)
+printed-loop = known-loop
+
+-- And its serial run: the same cells and accesses, and the same fault but for its line.
+pub printed-serial : (s t : State) → SameKnown s t → (m : List ℤ) → SameResult (serial (loopOf s m)) (serial (loopOf t m))
+printed-serial s t h m = loop-serial (loopOf s m) (loopOf t m) (known-loop s t h m)
+
+-- And its iterations are grouped and shared among the processors alike.
+pub printed-partition : (s t : State) → SameKnown s t → partitionOf t ≡ partitionOf s
+unfolding partitionOf
+printed-partition s t h = rw (h .grouping, h .count, h .processors)
+
+-- "The answer is the length": it is below 65,536, so 16 bits hold it.
+pub form-bound : (text : List ℕ) (s : State) → read text ≡ good s → length (form text) ≤ 65530
+unfolding form
+form-bound text s h = printed-bound text (program text) (accepted text s h .follows)
+
+-- The lexer round trip: tokens as the lexer makes them, written with one blank between them, are the tokens of these bytes.
+pub round-trip : (ts : List Token) → Each Proper ts → tokens (spaced ts) ≡ ts
+round-trip = spaced-tokens

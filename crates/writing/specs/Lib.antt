@@ -1,0 +1,2 @@
+-- What is written to lent bytes.
+pub mod Written
