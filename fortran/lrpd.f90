@@ -9,20 +9,24 @@ module lrpd
   implicit none
   private
   public :: lrpd_check_answer, lrpd_bounds_answer, lrpd_name_answer, lrpd_done_answer, lrpd_run_answer, lrpd_plan_answer
+  public :: lrpd_print_answer
   public :: lrpd_text, lrpd_message, lrpd_workspace
-  public :: lrpd_check, lrpd_bounds, lrpd_name, lrpd_load, lrpd_look, lrpd_run, lrpd_plan
+  public :: lrpd_check, lrpd_bounds, lrpd_name, lrpd_load, lrpd_look, lrpd_run, lrpd_plan, lrpd_print
 
   ! The version of this module and its library.
-  character(len=*), parameter, public :: lrpd_version = '1.7.1'
+  character(len=*), parameter, public :: lrpd_version = '1.8.0'
 
   ! The most characters of a text, cells, processors and iterations of a loop.
   integer, parameter, public :: lrpd_most_bytes = 2048, lrpd_most_cells = 4096, lrpd_most_processors = 8
   integer, parameter, public :: lrpd_most_iterations = 65535
 
+  ! Characters that are enough for every printed form.
+  integer, parameter, public :: lrpd_print_room = 65535
+
   ! The numbers of an answer; lrpd_message gives each in words.
   integer, parameter, public :: lrpd_done = 0, lrpd_too_long = 1, lrpd_broken = 2, lrpd_bad_name = 3, lrpd_over_limit = 4
   integer, parameter, public :: lrpd_bad_cells = 5, lrpd_bad_workspace = 6, lrpd_bad_schedule = 7, lrpd_bad_view = 8
-  integer, parameter, public :: lrpd_bad_subscript = 9, lrpd_zero_divisor = 10, lrpd_bad_list = 11
+  integer, parameter, public :: lrpd_bad_subscript = 9, lrpd_zero_divisor = 10, lrpd_bad_list = 11, lrpd_bad_room = 12
 
   ! The clauses of a name.
   integer, parameter, public :: lrpd_shared = 0, lrpd_lastprivate = 1, lrpd_sum = 2, lrpd_copied = 3
@@ -58,6 +62,11 @@ module lrpd
   ! A refusal's number, or 0, its line and v; then the number of stages.
   type, bind(C) :: lrpd_plan_answer
     integer(c_int32_t) :: number, line, v, stages
+  end type
+
+  ! A refusal's number, or 0, its line and v; then the number of characters of the printed form.
+  type, bind(C) :: lrpd_print_answer
+    integer(c_int32_t) :: number, line, v, length
   end type
 
   interface
@@ -119,6 +128,14 @@ module lrpd
       integer(c_int16_t), intent(inout) :: list(*)
       type(lrpd_plan_answer) :: answer
     end function
+
+    function c_print(text, length, bytes, room) bind(C, name="lrpd_print") result(answer)
+      import :: c_char, c_size_t, lrpd_print_answer
+      character(kind=c_char), intent(in) :: text(*)
+      integer(c_size_t), value :: length, room
+      character(kind=c_char), intent(inout) :: bytes(*)
+      type(lrpd_print_answer) :: answer
+    end function
   end interface
 
 contains
@@ -165,6 +182,8 @@ contains
       words = 'a division by zero'
     case (lrpd_bad_list)
       words = 'not exactly one number in the list for each iteration'
+    case (lrpd_bad_room)
+      words = 'fewer bytes lent than the printed form has'
     case default
       words = 'not a number of this library'
     end select
@@ -269,6 +288,18 @@ contains
       answer = c_plan(text, len(text, c_size_t), cells, size(cells, kind=c_size_t), workspace, size(workspace, kind=c_size_t), &
         list, size(list, kind=c_size_t))
     end if
+  end function
+
+  ! Gives the text's printed form, which has no characters after a refusal. Enough room is allocated for the call.
+  function lrpd_print(text, form) result(answer)
+    character(len=*), intent(in) :: text
+    character(len=:), allocatable, intent(out) :: form
+    type(lrpd_print_answer) :: answer
+    character(len=:), allocatable :: own
+
+    allocate (character(len=lrpd_print_room) :: own)
+    answer = c_print(text, len(text, c_size_t), own, len(own, c_size_t))
+    form = own(:answer%length)
   end function
 
 end module

@@ -21,7 +21,7 @@ extern "C" {
 #endif
 
 /* The version of this header and its library: the second number is that of the client's last change request that is in it. */
-#define LRPD_VERSION "1.7.1"
+#define LRPD_VERSION "1.8.0"
 
 /* The most bytes of a text, cells, processors and iterations of a loop. */
 #define LRPD_MOST_BYTES 2048
@@ -32,6 +32,9 @@ extern "C" {
 /* The words of workspace that Look, Run and Plan ask for. */
 #define LRPD_WORKSPACE(cells, processors) \
     (4352 + 64 * (size_t)(processors) + (size_t)(cells) * (4 + 8 * (size_t)(processors)))
+
+/* Bytes that are enough for every printed form. */
+#define LRPD_PRINT_ROOM 65535
 
 /* An answer begins with the three numbers of a refusal; the number 0 means none, and then line and v are 0 too. Line and v are 0 but
    where they are named. */
@@ -47,7 +50,8 @@ enum {
     LRPD_BAD_VIEW = 8,       /* a view of not exactly two words for each cell */
     LRPD_BAD_SUBSCRIPT = 9,  /* line, v: the serial run met a subscript outside its array */
     LRPD_ZERO_DIVISOR = 10,  /* line, v: the serial run met a zero divisor */
-    LRPD_BAD_LIST = 11       /* not exactly as many numbers in the list as the loop has iterations */
+    LRPD_BAD_LIST = 11,      /* not exactly as many numbers in the list as the loop has iterations */
+    LRPD_BAD_ROOM = 12       /* fewer bytes lent than the printed form has */
 };
 
 /* A number in words, for a message. */
@@ -66,6 +70,7 @@ static inline const char *lrpd_message(uint32_t number)
     case LRPD_BAD_SUBSCRIPT: return "a subscript is outside its array";
     case LRPD_ZERO_DIVISOR: return "a division by zero";
     case LRPD_BAD_LIST: return "not exactly one number in the list for each iteration";
+    case LRPD_BAD_ROOM: return "fewer bytes lent than the printed form has";
     default: return "not a number of this library";
     }
 }
@@ -138,6 +143,14 @@ struct lrpd_name_answer {
     uint32_t clause;
 };
 
+/* The printed form has so many bytes; 0 after a refusal. */
+struct lrpd_print_answer {
+    uint32_t number;
+    uint32_t line;
+    int32_t v;
+    uint32_t length;
+};
+
 /* Check: whether the text is a loop, and how many cells and processors it has. Numbers 1 to 4. */
 struct lrpd_check_answer lrpd_check(const uint8_t *text, size_t length);
 
@@ -173,6 +186,13 @@ struct lrpd_run_answer lrpd_run(const uint8_t *text, size_t length, int32_t *cel
    workspace is zero afterwards. */
 struct lrpd_plan_answer lrpd_plan(const uint8_t *text, size_t length, const int32_t *cells, size_t count, uint32_t *workspace,
                                   size_t words, uint16_t *list, size_t room);
+
+/* Print: writes the text's printed form to the bytes, and answers how many it has: the text's lines in lower case, one blank between
+   tokens, a newline after each line, two-word endings, data with every copy written out, literals without leading zeros; no comments,
+   empty lines or closing directive. All else stays as it stood. Two texts differ only in what this removes exactly if their forms are
+   the same bytes. A form of at most 2,048 bytes is accepted as a text, and its form is itself. Numbers 1 to 4 and 12; a refusal leaves
+   the bytes as found, and so are those behind the form. */
+struct lrpd_print_answer lrpd_print(const uint8_t *text, size_t length, uint8_t *bytes, size_t room);
 
 #ifdef __cplusplus
 }

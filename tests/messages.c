@@ -11,6 +11,7 @@ int main(void)
     SHOW(LRPD_MOST_CELLS);
     SHOW(LRPD_MOST_PROCESSORS);
     SHOW(LRPD_MOST_ITERATIONS);
+    SHOW(LRPD_PRINT_ROOM);
     SHOW(LRPD_DONE);
     SHOW(LRPD_TOO_LONG);
     SHOW(LRPD_BROKEN);
@@ -23,6 +24,7 @@ int main(void)
     SHOW(LRPD_BAD_SUBSCRIPT);
     SHOW(LRPD_ZERO_DIVISOR);
     SHOW(LRPD_BAD_LIST);
+    SHOW(LRPD_BAD_ROOM);
     SHOW(LRPD_SHARED);
     SHOW(LRPD_LASTPRIVATE);
     SHOW(LRPD_SUM);
@@ -33,7 +35,7 @@ int main(void)
     SHOW(LRPD_WORKSPACE(1, 1));
     SHOW(LRPD_WORKSPACE(17, 3));
     SHOW(LRPD_WORKSPACE(4096, 8));
-    for (uint32_t number = 0; number <= 12; number++)
+    for (uint32_t number = 0; number <= 13; number++)
         printf("%ld: %s\n", (long)number, lrpd_message(number));
     printf("all bits: %s\n", lrpd_message(UINT32_MAX));
     return 0;

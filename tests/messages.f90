@@ -9,6 +9,7 @@ program messages
   call show('LRPD_MOST_CELLS', lrpd_most_cells)
   call show('LRPD_MOST_PROCESSORS', lrpd_most_processors)
   call show('LRPD_MOST_ITERATIONS', lrpd_most_iterations)
+  call show('LRPD_PRINT_ROOM', lrpd_print_room)
   call show('LRPD_DONE', lrpd_done)
   call show('LRPD_TOO_LONG', lrpd_too_long)
   call show('LRPD_BROKEN', lrpd_broken)
@@ -21,6 +22,7 @@ program messages
   call show('LRPD_BAD_SUBSCRIPT', lrpd_bad_subscript)
   call show('LRPD_ZERO_DIVISOR', lrpd_zero_divisor)
   call show('LRPD_BAD_LIST', lrpd_bad_list)
+  call show('LRPD_BAD_ROOM', lrpd_bad_room)
   call show('LRPD_SHARED', lrpd_shared)
   call show('LRPD_LASTPRIVATE', lrpd_lastprivate)
   call show('LRPD_SUM', lrpd_sum)
@@ -31,7 +33,7 @@ program messages
   call show('LRPD_WORKSPACE(1, 1)', lrpd_workspace(lrpd_check_answer(0, 0, 0, 1, 1)))
   call show('LRPD_WORKSPACE(17, 3)', lrpd_workspace(lrpd_check_answer(0, 0, 0, 17, 3)))
   call show('LRPD_WORKSPACE(4096, 8)', lrpd_workspace(lrpd_check_answer(0, 0, 0, 4096, 8)))
-  do number = 0, 12
+  do number = 0, 13
     print '(i0, 2a)', number, ': ', lrpd_message(number)
   end do
   print '(2a)', 'all bits: ', lrpd_message(-1)

@@ -18,6 +18,17 @@ program thin
     'a(i + 2) = z', &
     's = s + z', &
     'end do']
+  character(len=*), parameter :: forms(*) = [character(len=100) :: &
+    'integer a ( 4 ) , s', &
+    'integer z', &
+    'data a / 1 , 2 , 3 , 4 /', &
+    'data s / 5 /', &
+    '!$omp parallel do num_threads ( 2 ) reduction ( + : s ) firstprivate ( z ) lastprivate ( z )', &
+    'do i = - 1 , 2', &
+    'z = 10 * a ( i + 2 )', &
+    'a ( i + 2 ) = z', &
+    's = s + z', &
+    'end do']
   integer(c_int32_t), parameter :: loaded(*) = [1, 2, 3, 4, 5, 0], after(*) = [10, 20, 30, 40, 105, 40]
   integer(c_int8_t), parameter :: mixed(*) = [integer(c_int8_t) :: 1, 0, 0, 1, 1, 0]
   character(len=:), allocatable :: text
@@ -30,6 +41,7 @@ program thin
   call runs
   call looks
   call plans
+  call prints
   if (failures > 0) error stop 1
 
 contains
@@ -183,6 +195,25 @@ contains
     call expect(iand(int(long(65535)), 65535) == 65535 .and. long(65535) == -1 .and. long(32767) == 32767, 'the last of them')
   end subroutine
 
+  subroutine prints
+    character(len=:), allocatable :: form, again, copies
+
+    call expect(is_print(lrpd_print(text, form), [0, 0, 0, len(lrpd_text(forms))]), 'Print')
+    call expect(form == lrpd_text(forms) .and. len(form) == len(lrpd_text(forms)), 'the printed form')
+    call expect(is_print(lrpd_print(form, again), [0, 0, 0, len(form)]), 'Print of a form')
+    call expect(again == form, 'the form of a form')
+    call expect(is_print(lrpd_print('', form), [2, 1, 0, 0]), 'Print, refused')
+    call expect(len(form) == 0, 'no form after a refusal')
+    call expect(is_print(lrpd_print(with_line('s(1) = u'), form), [3, 4, 0, 0]), 'Print, a name')
+
+    ! All cells by one item: far more characters than a text may have.
+    copies = lrpd_text([character(len=40) :: 'integer a(4096)', 'data a /4096*-2147483647/', &
+      '!$omp parallel do num_threads(1)', 'do i = 1, 1', 'end do'])
+    call expect(is_print(lrpd_print(copies, form), [0, 0, 0, 61524]), 'Print, 4,096 copies')
+    call expect(len(form) == 61524 .and. form(61518:) == 'end do'//new_line('a'), 'the form of 4,096 copies')
+    call expect(is_print(lrpd_print(form, again), [1, 0, 0, 0]), 'Print of a long form')
+  end subroutine
+
   ! Whether an answer is these numbers.
 
   pure logical function is_check(answer, numbers)
@@ -225,6 +256,13 @@ contains
     integer, intent(in) :: numbers(4)
 
     is_plan = all([answer%number, answer%line, answer%v, answer%stages] == numbers)
+  end function
+
+  pure logical function is_print(answer, numbers)
+    type(lrpd_print_answer), intent(in) :: answer
+    integer, intent(in) :: numbers(4)
+
+    is_print = all([answer%number, answer%line, answer%v, answer%length] == numbers)
   end function
 
 end program

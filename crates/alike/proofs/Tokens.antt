@@ -3,13 +3,11 @@ use mathlib.Core.Path.{_≡_, refl, sym, _∙_, ap, subst}
 use mathlib.Core.Bool.{Bool, true, false, cond, _&&_, not}
 use mathlib.Core.List.{List, [], _∷_}
 use mathlib.Core.Option.{some}
-use Prim.Native.Nat.{ℕ, suc, _+_, _-_, _≤_, _<_}
-use native.Mathlib.Numerals.{add-one}
+use Prim.Native.Nat.{ℕ, _+_, _-_, _≤_, _<_}
 use native.Mathlib.Omega.{arith}
 use borrow.Author.Tests.{eq-eqb, ne-eqb}
 use lib.Dec.{eqb}
-use lib.ListN.{length, take, drop, getD, length-drop}
-use lib.Seq.{drop-cons}
+use lib.ListN.{length, drop, getD, length-drop}
 use Rattle.syntax.specs.Bytes.{choose, same, Token, kindOf, bytesOf, name, other-word, digits, sign, equal, token-size, trimmed}
 use Rattle.syntax.specs.Meaning.{no-zeros, zeros-aside, alike}
 use Rattle.syntax.specs.Reader.{kind, text, token-in, after-in, peek-in, skip-in}
@@ -19,15 +17,11 @@ use Rattle.lexer.specs.declared.Kind.{Kind}
 use Rattle.lexer.specs.declared.Kind.the-variants.{End}
 use Rattle.lexer.specs.declared.Tok.{Tok}
 use Rattle.lexer.specs.Lex.{kind-number, part, Lexed}
+use Rattle.lexer.proofs.Laws.{part-cons}
 use Rattle.lexer.proofs.PlaceLaws.{trimmed-length}
 use Rattle.alike.specs.Alike.{sameToken, Alike}
 
 -- ---- leading zeros
-
-part-cons : (s : List ℕ) (i e : ℕ) → i < e → e ≤ length s → part s i e ≡ getD s i 0 ∷ part s (i + 1) e
-part-cons s i e h k =
-    let n : e - i ≡ suc (e - (i + 1)) = omega arith in
-    (λ j. take (n j) (drop-cons s i 0 (omega arith) j)) ∙ ap (λ (q : ℕ). getD s i 0 ∷ take (e - (i + 1)) (drop q s)) (sym (add-one i))
 
 module _ (s : List ℕ) (i e : ℕ) (h : i < e) (k : e ≤ length s) where
   pub zeros-on : getD s i 0 ≡ 48 → no-zeros (part s i e) ≡ no-zeros (part s (i + 1) e)

@@ -2,3 +2,5 @@
 pub mod Shapes
 pub mod Whole
 pub mod Answering
+-- Rows of what it answers, computed.
+pub mod Examples

@@ -1,13 +1,13 @@
 -- A line of an accepted text, printed as its kind tells, is the line of the printed form.
-use mathlib.Core.Path.{_≡_, refl, sym, _∙_, ap}
+use mathlib.Core.Path.{_≡_, refl, sym, _∙_, ap, subst}
 use mathlib.Core.Bool.{Bool, true, false, cond}
 use mathlib.Core.List.{List, []}
-use mathlib.Core.Option.{Option, none, some}
+use mathlib.Core.Option.{some}
 use Prim.Native.Nat.{ℕ, _+_, _*_}
 use native.Mathlib.Omega.{arith}
 use lib.ListN.{length}
-use Rattle.syntax.specs.Bytes.{tokens, skipped-line}
-use Rattle.syntax.specs.Grammar.{otherwise, end-if, Line, declare, give, direct, loop, inside, assign, when, end-do, showLine}
+use Rattle.syntax.specs.Bytes.{Token, tokens, skipped-line}
+use Rattle.syntax.specs.Grammar.{otherwise, Line, declare, direct, loop, inside, assign, when, showLine}
 use Rattle.syntax.specs.Known.{Open}
 use Rattle.syntax.specs.Conditions.{fits}
 use Rattle.syntax.specs.Reader.{Parsed, broken, done, parse, readStart, peek-in, skip-in}
@@ -20,6 +20,7 @@ use Rattle.kinds.specs.Kinds.{readBy, Kinds}
 use Rattle.reader.proofs.Parses.{lineOf, parse-bytes, yields-closing, line-yields, line-by}
 use Rattle.printed.specs.Form.{closing, formed-line, ended}
 use Rattle.printed.proofs.FormedLaws.{rewritten, formed-own, formed-end-if, formed-end-do}
+use Rattle.writing.specs.Written.{Writes, Fits}
 use Rattle.layout.specs.Copied.{line-bytes}
 use Rattle.layout.proofs.Data.{own-line, data-line}
 use Rattle.forming.specs.declared.Shape.{Shape}
@@ -46,7 +47,8 @@ prints (EndIf n j) f s = λ os h. ap ended (sym (formed-end-if j))
 prints (EndDo n j) f s = λ os h. ap ended (sym (formed-end-do j))
 prints Closing f s = yields-closing (Prints Closing) (λ os h. refl) f s
 
-good-prints : (s : List ℕ) (k : Kind) → Kinds (λ f. readStart peek-in skip-in f s) s k → (g : Good s) → shaped (shapeBy k) (tokens s) ≡ lineForm (parse (tokens s))
+good-prints : (s : List ℕ) (k : Kind) → Kinds (λ f. readStart peek-in skip-in f s) s k → (g : Good s)
+    → shaped (shapeBy k) (tokens s) ≡ lineForm (parse (tokens s))
 good-prints s k h g =
     go (whole (readBy k f) s) (line-yields (Prints k) k f s (prints k f s)) (sym (g .follows) ∙ parse-bytes s f (omega arith) ∙ ap lineOf (line-by k s h f))
   where
@@ -59,6 +61,14 @@ good-prints s k h g =
         let i : g .line ≡ l = cc in
         let t = line-exactly (tokens s) l .0 (g .follows ∙ ap some i) in
         ap (shaped (shapeBy k)) t ∙ y (g .opens) (ap (fits (g .opens)) (sym i) ∙ g .counted) ∙ ap lineForm (ap some (sym i) ∙ sym (g .follows))
+
+-- ---- by the shape that the code found
+
+pub shape-room : (to : ℕ) (ts : List Token) {x y : Shape} → x ≡ y → Fits to (shaped x ts) → Fits to (shaped y ts)
+shape-room to ts e = subst (λ (x : Shape). Fits to (shaped x ts)) e
+
+pub shape-writes : {b a : List ℕ} {to r : ℕ} (ts : List Token) {x y : Shape} → x ≡ y → Writes b to (shaped y ts) a r → Writes b to (shaped x ts) a r
+shape-writes {b} {a} {to} {r} ts e = subst (λ (x : Shape). Writes b to (shaped x ts) a r) (sym e)
 
 -- ---- skipped or not
 

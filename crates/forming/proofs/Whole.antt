@@ -2,14 +2,14 @@
 use mathlib.Core.Path.{_≡_, refl, _∙_, ap, subst}
 use mathlib.Core.Bool.{Bool, true, false, cond}
 use mathlib.Core.List.{List, [], _∷_, _++_, map}
-use mathlib.Core.Option.{Option, none, some}
+use mathlib.Core.Option.{some}
 use Prim.Native.Nat.{ℕ, suc, _+_, _-_, _≤_, _<_}
 use native.Mathlib.Omega.{arith}
 use lib.Dec.{leb}
 use lib.ListN.{length, take, drop, length-take}
 use borrow.Author.Tests.{leb-true, leb-false}
 use Rattle.syntax.specs.Bytes.{lower, lines, Token, tokens, skipped-line}
-use Rattle.syntax.specs.Grammar.{Line, showLine}
+use Rattle.syntax.specs.Grammar.{Line}
 use Rattle.syntax.specs.Known.{State, after, nothing}
 use Rattle.syntax.specs.Conditions.{concat, may-follow, fits, stands, stageOf}
 use Rattle.syntax.specs.Reader.{parse}
@@ -18,12 +18,12 @@ use Rattle.syntax.specs.Follows.{Program, spoken, shown, InOrder, Follows}
 use Rattle.syntax.proofs.Spelling.{both-true}
 use Rattle.syntax.proofs.Complete.{parse-complete}
 use Rattle.lexer.specs.Lex.{ended}
-use Rattle.reader.proofs.TextLines.{end-within, end-after, lines-last, lines-more}
+use Rattle.reader.proofs.TextLines.{end-within, lines-last, lines-more}
 use Rattle.printed.specs.Form.{closing, kept, formed-line, printed}
 use Rattle.printed.specs.Form as form
 use Rattle.writing.specs.Written.{Writes, Fits}
 use Rattle.writing.proofs.Writing.{fits-first, Along, along-none, along-more, along-all, along-fits}
-use Rattle.forming.specs.Lines.{Good, lineForm, GoodLine, lineOrNone, GoodLines, linesForm}
+use Rattle.forming.specs.Lines.{lineForm, GoodLine, lineOrNone, GoodLines, linesForm}
 
 -- ---- an accepted text's lines
 
@@ -59,13 +59,17 @@ lines-print k (b ∷ ls) s p e o = go (skipped-line b) refl p e o (λ s p. lines
         → ((s : State) (p : Program) → spoken (suc k) ls ≡ map shown p → InOrder s p → Prints ls p) → Prints (b ∷ ls) p
     go true q p e o i =
         let r = i s p e o in
-        record { good = (λ (n : skipped-line b ≡ false). let z : _≡_ {A = ℕ} 0 1 = cc in absurd (omega arith), r .good); whole = ap (λ (c : Bool). cond c [] (lineForm (parse (tokens b))) ++ concat lineOrNone ls) q ∙ r .whole }
+        record {
+          good = (λ (n : skipped-line b ≡ false). let z : _≡_ {A = ℕ} 0 1 = cc in absurd (omega arith), r .good);
+          whole = ap (λ (c : Bool). cond c [] (lineForm (parse (tokens b))) ++ concat lineOrNone ls) q ∙ r .whole;
+        }
     go false q [] e o i = let z : _≡_ {A = ℕ} 0 1 = cc in absurd (omega arith)
     go false q ((j, l) ∷ p) e o i =
         let r = i (after j l s) p (ap others e) (o .3) in
         let t : parse (tokens b) ≡ some l = ap parse (ap first-tokens e) ∙ parse-complete l in
+        let c = both-true (may-follow (s .stage) (stageOf l)) (fits (s .opens) l) (o .0) .1 in
         record {
-          good = (λ n. record { line = l; follows = t; opens = s .opens; counted = both-true (may-follow (s .stage) (stageOf l)) (fits (s .opens) l) (o .0) .1 }, r .good);
+          good = (λ n. record { line = l; follows = t; opens = s .opens; counted = c }, r .good);
           whole =
               ap (λ (c : Bool). cond c [] (lineForm (parse (tokens b))) ++ concat lineOrNone ls) q
               ∙ (λ i. lineForm (t i) ++ r .whole i) ∙ printed-more j l p;

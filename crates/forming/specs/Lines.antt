@@ -1,8 +1,8 @@
 -- The lines of an accepted text as they are printed, by their bytes in lower case. Nothing here has to be believed: together they are the printed form
 -- (proofs/Whole.antt).
 use mathlib.Core.Path.{_≡_}
-use mathlib.Core.Bool.{Bool, true, false, cond}
-use mathlib.Core.List.{List, [], _∷_, _++_}
+use mathlib.Core.Bool.{true, false, cond}
+use mathlib.Core.List.{List, [], _++_}
 use mathlib.Core.Option.{Option, none, some}
 use Prim.Native.Nat.{ℕ}
 use Rattle.syntax.specs.Bytes.{lines, Token, tokens, skipped-line}

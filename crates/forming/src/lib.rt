@@ -2,11 +2,11 @@
 ghost use mathlib.Core.Path.{_≡_};
 ghost use Prim.Native.Nat.{_≤_};
 ghost use lib.ListN.{length};
-ghost use Rattle.syntax.specs.Bytes.{lines, tokens};
+ghost use Rattle.syntax.specs.Bytes.{tokens};
 ghost use Rattle.syntax.specs.Text.{read as readText};
 ghost use Rattle.writing.specs.Written.{Fits, Writes};
 ghost use Rattle.answers.specs.Answers.{formAnswered, formWritten, printOf, bytesPrinted};
-ghost use Rattle.forming.specs.Lines.{shapeBy, shaped, Good, lineForm, GoodLine, lineOrNone, GoodLines, linesForm};
+ghost use Rattle.forming.specs.Lines.{shapeBy, shaped, GoodLine, lineOrNone, GoodLines, linesForm};
 use answers::Printed;
 use kinds::Kind;
 use kinds::is_skipped;

@@ -10,25 +10,21 @@ use lib.Seq.{drop-drop}
 use mathlib.Core.Option.{Option}
 use Rattle.syntax.specs.Bytes.{choose, same, bytes, Token, tokens, tokens-after, bytesOf}
 use Rattle.syntax.specs.Grammar.{number, sg}
-use Rattle.syntax.specs.Reader.{Parsed, broken, done, kind, text, first, rest, readDigits, peek-in, skip-in}
+use Rattle.syntax.specs.Reader.{broken, done, kind, text, first, rest, readDigits, peek-in, skip-in}
 use Rattle.syntax.proofs.Places.{peek-tokens, skip-tokens}
 use Rattle.lexer.specs.declared.Tok.{Tok}
 use Rattle.lexer.specs.Lex.{part, kind-number, Lexed}
 use Rattle.lexer.specs.Places.{Lands, Goes, Any, passes}
 use Rattle.lexer.proofs.PlaceLaws.{pass-onward}
-use Rattle.printed.specs.Form.{zeros-gone, after-blanks}
+use Rattle.printed.specs.Form.{after-blanks}
 use Rattle.writing.specs.declared.Moved.{Moved}
 use Rattle.writing.specs.Written.{Writes, Fits, told, blanked, Moves}
 use Rattle.writing.proofs.Writing.{writes-then, writes-as, fits-first, fits-then}
-use Rattle.writing.proofs.TokenBytes.{blanked-append, tokens-left, token-told, moves-then, moves-as}
+use Rattle.writing.proofs.TokenBytes.{blanked-append, rest-drop, tokens-left, token-told, moves-then, moves-as}
 use Rattle.layout.specs.declared.Repeat.{Repeat}
 use Rattle.layout.specs.Copied.{signed-size, signed, after-signed, commas, listed, repeats, front, back, spread-after, spread, line-bytes, Starred, Repeats}
 
 -- ---- what comes next
-
-rest-drop : (ts : List Token) → rest ts ≡ drop 1 ts
-rest-drop [] = refl
-rest-drop (t ∷ ts) = refl
 
 spread-drop : (d : Bool) (k : ℕ) (ts : List Token) → spread-after d k ts ≡ spread d (drop k ts)
 unfolding spread-after
@@ -98,7 +94,8 @@ listed-long n ts =
 pub listed-first : (to n : ℕ) (ts : List Token) → Fits to (blanked (listed n ts)) → Fits to (blanked (signed ts))
 listed-first to n ts f = fits-first to (blanked (signed ts)) _ (blanked-append (signed ts) (commas (n - 1) (signed ts))) f
 
-pub listed-others : {b m s : List ℕ} {to at : ℕ} {x : Moved} (n : ℕ) → Fits to (blanked (listed n (tokens (drop at s)))) → Moves b to s at signed after-signed m x
+pub listed-others : {b m s : List ℕ} {to at : ℕ} {x : Moved} (n : ℕ) → Fits to (blanked (listed n (tokens (drop at s))))
+    → Moves b to s at signed after-signed m x
     → Fits (x .to) (blanked (commas (n - 1) (signed (tokens (drop at s)))))
 listed-others {s = s} {at = at} n f u =
     let xs = signed (tokens (drop at s)) in
@@ -115,7 +112,8 @@ take-two [] = refl
 take-two (t ∷ []) = refl
 take-two (t ∷ u ∷ ts) = refl
 
-pub signed-one : {b a s : List ℕ} {to at : ℕ} {r : Moved} → eqb (kind (first (tokens (drop at s)))) 3 ≡ true → Moves b to s at (take 1) (drop 1) a r → Moves b to s at signed after-signed a r
+pub signed-one : {b a s : List ℕ} {to at : ℕ} {r : Moved} → eqb (kind (first (tokens (drop at s)))) 3 ≡ true → Moves b to s at (take 1) (drop 1) a r
+    → Moves b to s at signed after-signed a r
 signed-one {s = s} {at = at} e u =
     let ts = tokens (drop at s) in
     moves-as (ap (λ (c : Bool). take (cond c 1 2) ts) (sym e)) (ap (λ (c : Bool). drop (cond c 1 2) ts) (sym e)) u
@@ -132,7 +130,8 @@ signed-first to ts f = go (eqb (kind (first ts)) 3) refl
     go true e = omega (arith, ap (λ (c : Bool). length (blanked (take (cond c 1 2) ts))) e, f)
     go false e = fits-first to (blanked (take 1 ts)) _ (signed-parts ts e) f
 
-pub signed-second : {b m s : List ℕ} {to at : ℕ} {x : Moved} → eqb (kind (first (tokens (drop at s)))) 3 ≡ false → Fits to (blanked (signed (tokens (drop at s))))
+pub signed-second : {b m s : List ℕ} {to at : ℕ} {x : Moved} → eqb (kind (first (tokens (drop at s)))) 3 ≡ false
+    → Fits to (blanked (signed (tokens (drop at s))))
     → Moves b to s at (take 1) (drop 1) m x → Fits (x .to) (blanked (take 1 (tokens (drop (x .at) s))))
 signed-second {s = s} {at = at} e f u =
     let ts = tokens (drop at s) in
@@ -143,7 +142,8 @@ pub signed-two : {b m a s : List ℕ} {to at : ℕ} {x r : Moved} → eqb (kind 
     → Moves b to s at (take 1) (drop 1) m x → Moves m (x .to) s (x .at) (take 1) (drop 1) a r → Moves b to s at signed after-signed a r
 signed-two {s = s} {at = at} e u v =
     let ts = tokens (drop at s) in
-    moves-as (take-two ts ∙ ap (λ (c : Bool). take (cond c 1 2) ts) (sym e)) (drop-drop 1 1 ts ∙ ap (λ (c : Bool). drop (cond c 1 2) ts) (sym e)) (moves-then u v)
+    moves-as (take-two ts ∙ ap (λ (c : Bool). take (cond c 1 2) ts) (sym e)) (drop-drop 1 1 ts ∙ ap (λ (c : Bool). drop (cond c 1 2) ts) (sym e))
+    (moves-then u v)
 
 -- ---- `r*`
 
@@ -175,7 +175,8 @@ module _ (s : List ℕ) (at : ℕ) (r : Repeat) where
       star : (y : Bool) → same (bytes "*") (text (peek-in (drop m s))) ≡ y → same (bytes "*") (text (first (rest (tokens (drop at s))))) ≡ y
       star y h = ap (λ (o : Option Token). same (bytes "*") (text o)) (ap first (sym then) ∙ sym (peek-tokens (drop m s))) ∙ h
 
-      by-star : (y : Bool) → same (bytes "*") (text (peek-in (drop m s))) ≡ y → Lands {A = Unit {0}} Any s (cond y (done tt (skip-in (drop m s))) broken) (r .next) → Repeats true s at r
+      by-star : (y : Bool) → same (bytes "*") (text (peek-in (drop m s))) ≡ y
+          → Lands {A = Unit {0}} Any s (cond y (done tt (skip-in (drop m s))) broken) (r .next) → Repeats true s at r
       by-star true h l =
           by-tests true true e (star true h) (
             l .1,
@@ -211,11 +212,13 @@ module _ (s : List ℕ) (at : ℕ) (r : Repeat) where
         omega (arith, found .1 .3, listed-long n (drop 2 ts), e, f)
 
     -- so they are what comes next
-    found-front : (to : ℕ) → Fits to (blanked (front data? (tokens (drop at s)))) → listed (r .copies) (tokens (drop (r .next) s)) ≡ front data? (tokens (drop at s))
+    found-front : (to : ℕ) → Fits to (blanked (front data? (tokens (drop at s))))
+        → listed (r .copies) (tokens (drop (r .next) s)) ≡ front data? (tokens (drop at s))
     unfolding front
     found-front to f =
         let ts = tokens (drop at s) in
-        (λ i. listed (found-copies to f i) (found .1 .2 i)) ∙ ap (λ (c : Bool). cond c (listed (number (text (first ts))) (drop 2 ts)) (take 1 ts)) (sym (found .0))
+        (λ i. listed (found-copies to f i) (found .1 .2 i))
+        ∙ ap (λ (c : Bool). cond c (listed (number (text (first ts))) (drop 2 ts)) (take 1 ts)) (sym (found .0))
 
     pub found-room : (to : ℕ) → Fits to (blanked (front data? (tokens (drop at s)))) → Fits to (blanked (listed (r .copies) (tokens (drop (r .next) s))))
     found-room to f = omega (arith, ap (λ (us : List Token). length (blanked us)) (found-front to f), f)

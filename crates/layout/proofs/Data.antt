@@ -63,7 +63,8 @@ spread-digits d ts e =
     ap (λ (c : Bool). choose c (λ _. listed (number d) (drop 1 ts) ++ spread-after true (suc (signed-size (drop 1 ts))) ts) (λ _. digits d ∷ spread true ts)) e
 
 -- all copies of an item, and then what comes after it
-item-spread : (i : Item) (ts : List Token) → Starless ts → 0 < copies i → spread true (showItem i ++ ts) ≡ showItems (replicate (copies i) (once i)) ++ spread true ts
+item-spread : (i : Item) (ts : List Token) → Starless ts → 0 < copies i
+    → spread true (showItem i ++ ts) ≡ showItems (replicate (copies i) (once i)) ++ spread true ts
 unfolding spread-after repeats showMore
 item-spread (item none bare d) ts e h = spread-digits d ts e
 item-spread (item none plus d) ts e h = ap (λ (us : List Token). sg "+" ++ us) (spread-digits d ts e)
@@ -111,6 +112,7 @@ items-spread i (j ∷ js) h =
 pub data-line : (x : List ℕ) (i : Item) (is : List Item) → Counted (i ∷ is) → line-bytes true (showLine (give x i is)) ≡ ended (formed-line (give x i is))
 unfolding showLine spread-after repeats
 data-line x i is h =
-    line-of true (word-of (bytes "data")) (name x ∷ sign (bytes "/") ∷ (showList showItem i is ++ sg "/")) (name x ∷ sign (bytes "/") ∷ (showItems (written-out (i ∷ is)) ++ sg "/"))
+    line-of true (word-of (bytes "data")) (name x ∷ sign (bytes "/") ∷ (showList showItem i is ++ sg "/"))
+    (name x ∷ sign (bytes "/") ∷ (showItems (written-out (i ∷ is)) ++ sg "/"))
     (ap (λ (ts : List Token). name x ∷ sign (bytes "/") ∷ ts) (items-spread i is h))
     ∙ ap ended (sym (formed-data x i is (ltb-true 0 (copies i) (both-true (ltb 0 (copies i)) _ h .0))))

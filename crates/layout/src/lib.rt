@@ -1,6 +1,4 @@
 // A line in the printed form (RULES 1.15): its tokens, one blank between them, a newline after it; of a data line every copy written out.
-ghost use mathlib.Core.Path.{_≡_};
-ghost use mathlib.Core.Bool.{Bool};
 ghost use Prim.Native.Nat.{_≤_, _<_, _+_, _-_};
 ghost use lib.ListN.{length, drop};
 ghost use Rattle.syntax.specs.Bytes.{tokens};

@@ -1,5 +1,5 @@
 -- Laws of runs of bytes, of equal strings, and of stores one after another.
-use mathlib.Core.Path.{_≡_, refl, _∙_, ap}
+use mathlib.Core.Path.{_≡_, refl, sym, _∙_, ap}
 use mathlib.Core.Bool.{Bool, true, false, _&&_, _||_}
 use mathlib.Core.List.{List, [], _∷_, _++_, map, map-append}
 use Prim.Native.Nat.{ℕ, suc, _+_, _-_, _*_, _≤_, _<_}
@@ -76,9 +76,12 @@ starts-short (x ∷ w) (b ∷ s) h = go (eqb x b) (starts-short w s (omega arith
 
 -- ---- stores
 
+pub sets-append : {A : Type 0} (l : List A) (i : ℕ) (vs ws : List A) → sets (sets l i vs) (i + length vs) ws ≡ sets l i (vs ++ ws)
+sets-append l i [] ws = let e : i + 0 ≡ i = omega arith in rw e
+sets-append l i (v ∷ vs) ws = let e : i + suc (length vs) ≡ suc i + length vs = omega arith in rw e (sets-append (set l i v) (suc i) vs ws)
+
 pub sets-snoc : {A : Type 0} (l : List A) (i : ℕ) (vs : List A) (a : A) → sets l i (vs ++ (a ∷ [])) ≡ set (sets l i vs) (i + length vs) a
-sets-snoc l i [] a = let e : i + 0 ≡ i = omega arith in rw e
-sets-snoc l i (v ∷ vs) a = let e : i + suc (length vs) ≡ suc i + length vs = omega arith in rw e (sets-snoc (set l i v) (suc i) vs a)
+sets-snoc l i vs a = sym (sets-append l i vs (a ∷ []))
 
 -- one element more of a list that is written out through f
 pub sets-map : {A B : Type 0} (f : A → B) (l : List B) (s : List A) (i : ℕ) (d : A) → i < length s
@@ -93,6 +96,11 @@ sets-map f l s i d h =
 
 pub part-none : (s : List ℕ) (a : ℕ) → part s a a ≡ []
 part-none s a = let e : a - a ≡ 0 = omega arith in rw e
+
+pub part-cons : (s : List ℕ) (a e : ℕ) → a < e → e ≤ length s → part s a e ≡ getD s a 0 ∷ part s (a + 1) e
+part-cons s a e h k =
+    let n : e - a ≡ suc (e - (a + 1)) = omega arith in
+    (λ j. take (n j) (drop-cons s a 0 (omega arith) j)) ∙ ap (λ (q : ℕ). getD s a 0 ∷ take (e - (a + 1)) (drop q s)) (sym (add-one a))
 
 pub part-snoc : (s : List ℕ) (a i : ℕ) → a ≤ i → i < length s → part s a (i + 1) ≡ part s a i ++ (getD s i 0 ∷ [])
 part-snoc s a i h k =

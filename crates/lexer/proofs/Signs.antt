@@ -3,18 +3,10 @@ use mathlib.Core.Path.{_≡_, refl}
 use mathlib.Core.Bool.{Bool, true, false, cond, _||_}
 use mathlib.Core.List.{List}
 use Prim.Native.Nat.{ℕ, _≤_, _<_}
-use native.Mathlib.Decide.{decLe}
 use native.Mathlib.Omega.{arith}
 use lib.ListN.{length}
 use Rattle.syntax.specs.Bytes.{starts, bytes, sign-size}
-use Rattle.lexer.proofs.Laws.{starts-short}
-
--- what begins with w is as long as w
-begun : (w s : List ℕ) → starts w s ≡ true → length w ≤ length s
-begun w s h = elim (decLe (length w) (length s)) [
-  | yes y ↦ y
-  | no y ↦ let f : starts w s ≡ false = starts-short w s (omega arith) in let z : _≡_ {A = ℕ} 0 1 = cc in absurd (omega arith)
-]
+use Rattle.syntax.proofs.TestLaws.{starts-length}
 
 either : {a b : Bool} (P : Type 0) → (a ≡ true → P) → (b ≡ true → P) → a || b ≡ true → P
 either {a} {b} P f g h = go a b f g h
@@ -33,9 +25,9 @@ sign-some s = go (starts (bytes "!$omp") s) (starts (bytes "==") s || (starts (b
 
 pub sign-within : (s : List ℕ) → 0 < length s → sign-size s ≤ length s
 sign-within s h = go (starts (bytes "!$omp") s) (starts (bytes "==") s || (starts (bytes "/=") s || (starts (bytes "<=") s || starts (bytes ">=") s)))
-    (begun (bytes "!$omp") s)
-    (either (2 ≤ length s) (begun (bytes "==") s)
-    (either (2 ≤ length s) (begun (bytes "/=") s) (either (2 ≤ length s) (begun (bytes "<=") s) (begun (bytes ">=") s))))
+    (starts-length (bytes "!$omp") s)
+    (either (2 ≤ length s) (starts-length (bytes "==") s)
+    (either (2 ≤ length s) (starts-length (bytes "/=") s) (either (2 ≤ length s) (starts-length (bytes "<=") s) (starts-length (bytes ">=") s))))
   where
     go : (a b : Bool) → (a ≡ true → 5 ≤ length s) → (b ≡ true → 2 ≤ length s) → cond a 5 (cond b 2 1) ≤ length s
     go true b f g = f refl

@@ -1,15 +1,16 @@
 -- What stands at a place of a line, as the definitions of tokens see it: by where the blanks end, and by the first byte there.
 use mathlib.Core.Path.{_≡_, refl, sym, _∙_, ap}
-use mathlib.Core.Bool.{Bool, true, false, cond, _&&_, not}
+use mathlib.Core.Bool.{Bool, true, false, cond}
 use mathlib.Core.List.{List, [], _∷_}
 use mathlib.Core.Option.{some}
 use Prim.Native.Nat.{ℕ, suc, _+_, _-_, _≤_, _<_}
 use native.Mathlib.Omega.{arith}
-use lib.Dec.{eqb, leb}
+use lib.Dec.{eqb}
 use lib.ListN.{length, getD, take, drop, drop-of-length-le}
 use lib.Seq.{drop-cons, drop-drop}
-use Rattle.syntax.specs.Bytes.{choose, letter, digit, in-word, run, token-size, token-of, trimmed, word-of, kindOf, bytesOf, name, other-word, digits, sign, sign-size, any, same, reserved}
+use Rattle.syntax.specs.Bytes.{choose, letter, digit, in-word, run, token-size, token-of, trimmed, word-of, kindOf, digits, sign, sign-size}
 use Rattle.syntax.specs.Reader.{kind, text, peek-in, skip-in, token-in, after-in}
+use Rattle.syntax.proofs.Places.{token-bytes}
 use Rattle.lexer.proofs.Laws.{part-none}
 use Rattle.lexer.specs.declared.Run.the-variants.{Blank}
 use Rattle.lexer.specs.declared.Kind.{Kind}
@@ -25,16 +26,6 @@ trimmed-run (b ∷ l) = go (eqb b 32) (trimmed-run l)
         → choose c (λ _. trimmed l) (λ _. b ∷ l) ≡ drop (choose c (λ _. suc (run (goes Blank) l)) (λ _. 0)) (b ∷ l)
     go true h = h
     go false h = refl
-
--- a token has the bytes that it is made of
-pub token-bytes : (b : ℕ) (w : List ℕ) → bytesOf (token-of b w) ≡ w
-token-bytes b w = go (letter b) (digit b) (leb (length w) 31 && not (any (same w) reserved))
-  where
-    go : (l d c : Bool) → bytesOf (cond l (cond c (name w) (other-word w)) (cond d (digits w) (sign w))) ≡ w
-    go true d true = refl
-    go true d false = refl
-    go false true c = refl
-    go false false c = refl
 
 -- a is where the blanks from a place on end
 module _ (s : List ℕ) (at a : ℕ) (e : a ≡ at + run (goes Blank) (drop at s)) where

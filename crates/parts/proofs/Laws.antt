@@ -3,9 +3,9 @@ use mathlib.Core.Path.{_≡_, refl, sym, _∙_, ap, subst}
 use mathlib.Core.Bool.{cond}
 use mathlib.Core.List.{List, [], _∷_, _++_}
 use Prim.Native.Nat.{ℕ, zero, suc, _+_, _-_, _*_, _≤_, _<_, max}
-use native.Mathlib.Nat.{add-zero, add-suc, suc-add}
+use native.Mathlib.Nat.{add-zero}
 use native.Mathlib.Omega.{arith}
-use lib.ListN.{length, set, drop, length-append, length-drop}
+use lib.ListN.{length, drop, length-append, length-drop}
 use lib.Seq.{sets}
 use Rattle.syntax.specs.Known.{Entry}
 use Rattle.syntax.specs.Conditions.{Mention}
@@ -16,19 +16,16 @@ use Rattle.parts.specs.Answer.{worst, Reads}
 use Rattle.parts.specs.Parts.{stands, leadBy, Sealed, unread, other, closes, Emits}
 use Rattle.parts.specs.declared.Joint.{Joint}
 use Rattle.code.proofs.Words.{words-append, words-length}
+use Rattle.lexer.proofs.Laws.{sets-append}
 use Rattle.parts.specs.declared.Got.{Got}
 use Rattle.parts.specs.declared.Got.the-variants.{Broken, Done}
 
--- ---- ranks and stores
+-- ---- ranks
 
 pub worst-append : (t : List Entry) (v : List ℕ) (ms ns : List Mention) → worst t v (ms ++ ns) ≡ max (worst t v ms) (worst t v ns)
 unfolding worst
 worst-append t v [] ns = omega arith
 worst-append t v (m ∷ ms) ns = omega (arith, worst-append t v ms ns)
-
-pub sets-append : (l : List ℕ) (i : ℕ) (vs ws : List ℕ) → sets (sets l i vs) (i + length vs) ws ≡ sets l i (vs ++ ws)
-sets-append l i [] ws = rw add-zero
-sets-append l i (v ∷ vs) ws = rw (add-suc, ← suc-add) (sets-append (set l i v) (suc i) vs ws)
 
 -- with fuel above k there is one unit to spend
 pub fueled : (X : ℕ → Type 0) (k : ℕ) → ((f : ℕ) → k ≤ f → X (suc f)) → (f : ℕ) → k < f → X f

@@ -11,7 +11,7 @@ use lib.Seq.{take-append-le}
 use Rattle.syntax.specs.Bytes.{choose, all, bytes, lower, letter, digit, in-word, run, starts, in-front, lines, Token, token-of, sign-size, token-size, tokens-after, tokens, skipped-line}
 use Rattle.syntax.specs.Follows.{spoken}
 use Rattle.syntax.proofs.Spelling.{both-true}
-use Rattle.syntax.proofs.TestLaws.{choose-each}
+use Rattle.syntax.proofs.TestLaws.{choose-each, starts-length}
 use Rattle.printed.specs.Differ.{speech, Differ, nowhere, DifferOnly}
 
 same-speech : (s t : List ℕ) → speech s ≡ speech t → DifferOnly s t
@@ -115,11 +115,6 @@ unfolding run
 run-less p [] = omega arith
 run-less p (b ∷ u) = choose-each (λ (n : ℕ). n ≤ suc (length u)) (p b) _ _ (λ h. omega (arith, run-less p u)) (λ h. omega arith)
 
-starts-less : (x u : List ℕ) → starts x u ≡ true → length x ≤ length u
-starts-less [] u h = omega arith
-starts-less (b ∷ x) [] h = let z : _≡_ {A = ℕ} 0 1 = cc in absurd (omega arith)
-starts-less (b ∷ x) (c ∷ u) h = omega (arith, starts-less x u (both-true (eqb b c) _ h .1))
-
 sign-less : (b : ℕ) (u : List ℕ) → sign-size (b ∷ u) ≤ suc (length u)
 sign-less b u = go _ _ _ _ _ refl refl refl refl refl
   where
@@ -129,11 +124,11 @@ sign-less b u = go _ _ _ _ _ refl refl refl refl refl
     go : (v w x y z : Bool) → starts (bytes "!$omp") l ≡ v → starts (bytes "==") l ≡ w → starts (bytes "/=") l ≡ x → starts (bytes "<=") l ≡ y
         → starts (bytes ">=") l ≡ z
         → cond v 5 (cond (w || (x || (y || z))) 2 1) ≤ suc (length u)
-    go true w x y z a c d e f = starts-less (bytes "!$omp") l a
-    go false true x y z a c d e f = starts-less (bytes "==") l c
-    go false false true y z a c d e f = starts-less (bytes "/=") l d
-    go false false false true z a c d e f = starts-less (bytes "<=") l e
-    go false false false false true a c d e f = starts-less (bytes ">=") l f
+    go true w x y z a c d e f = starts-length (bytes "!$omp") l a
+    go false true x y z a c d e f = starts-length (bytes "==") l c
+    go false false true y z a c d e f = starts-length (bytes "/=") l d
+    go false false false true z a c d e f = starts-length (bytes "<=") l e
+    go false false false false true a c d e f = starts-length (bytes ">=") l f
     go false false false false false a c d e f = omega arith
 
 size-less : (b : ℕ) (u : List ℕ) → token-size b u ≤ suc (length u)

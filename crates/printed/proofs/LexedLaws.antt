@@ -11,6 +11,7 @@ use Rattle.syntax.specs.Bytes.{choose, all, any, same, bytes, reserved, letter,
 use Rattle.syntax.specs.Sane.{Each}
 use Rattle.syntax.proofs.Spelling.{both-true}
 use Rattle.syntax.proofs.TestLaws.{both-hold, choose-each}
+use Rattle.syntax.proofs.Places.{token-bytes}
 use Rattle.printed.proofs.RoundTrip.{Ends, end, blank, Wordly, Signly, Proper}
 
 -- ---- words and digits
@@ -93,15 +94,6 @@ all-take p zero s h = refl
 all-take p (suc n) [] h = refl
 all-take p (suc n) (b ∷ s) h = let (x, y) = both-true (p b) (all p s) h in both-hold x (all-take p n s y)
 
-pub made-bytes : (b : ℕ) (w : List ℕ) → bytesOf (token-of b w) ≡ w
-made-bytes b w = go (letter b) (digit b) (leb (length w) 31 && not (any (same w) reserved))
-  where
-    go : (x y z : Bool) → bytesOf (cond x (cond z (name w) (other-word w)) (cond y (digits w) (sign w))) ≡ w
-    go true y true = refl
-    go true y false = refl
-    go false true z = refl
-    go false false z = refl
-
 module _ (p : ℕ → Bool) where
   pub tokens-bytes : (k : ℕ) (s : List ℕ) → all p s ≡ true → Each (λ t. all p (bytesOf t) ≡ true) (tokens-after k s)
   unfolding tokens-after
@@ -111,5 +103,5 @@ module _ (p : ℕ → Bool) where
       let n = token-size b s in
       choose-each (Each (λ t. all p (bytesOf t) ≡ true)) (eqb b 32) _ _
       (λ _. tokens-bytes zero s k)
-      (λ _. (ap (all p) (made-bytes b (take n (b ∷ s))) ∙ all-take p n (b ∷ s) h, tokens-bytes (n - 1) s k))
+      (λ _. (ap (all p) (token-bytes b (take n (b ∷ s))) ∙ all-take p n (b ∷ s) h, tokens-bytes (n - 1) s k))
   tokens-bytes (suc k) (b ∷ s) h = tokens-bytes k s (both-true (p b) (all p s) h .1)

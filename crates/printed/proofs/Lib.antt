@@ -20,6 +20,8 @@ pub mod ShortOrder
 pub mod PrintedAgain
 -- Doing the same; a printed line by its tokens; the length.
 pub mod SameLoops
+pub mod SameEndings
+pub mod SaidAlike
 pub mod FormedLaws
 pub mod PrintedLength
 pub mod TextWeight

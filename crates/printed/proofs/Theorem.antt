@@ -1,11 +1,12 @@
 -- RULES 1.15 (document 02, Point 8): what is proved of the printed form, `form`, of accepted texts.
-use mathlib.Core.Path.{_≡_, _∙_, ap, subst}
+use mathlib.Core.Path.{_≡_, sym, _∙_, ap, subst}
 use mathlib.Core.Logic.{_↔_}
 use mathlib.Core.List.{List}
 use Prim.Native.Nat.{ℕ, _≤_}
 use lib.ListN.{length}
 use lib.IntN.{ℤ}
 use Rattle.rules.specs.Serial.{serial}
+use Rattle.rules.specs.Answer.{settled}
 use Rattle.syntax.specs.Bytes.{Token, tokens}
 use Rattle.syntax.specs.Known.{State, nothing}
 use Rattle.syntax.specs.Conditions.{concat}
@@ -16,11 +17,13 @@ use Rattle.syntax.specs.Sane.{Each}
 use Rattle.syntax.proofs.Theorem.{accepted-complete}
 use Rattle.printed.specs.Form.{spaced, ended, printed, program, form}
 use Rattle.printed.specs.Differ.{DifferOnly}
-use Rattle.printed.specs.Restated.{restated, SameKnown, SameLoop, SameResult}
+use Rattle.printed.specs.Restated.{restated, SameKnown, SameLoop, SameResult, SameEnding}
 use Rattle.printed.proofs.RoundTrip.{Proper, spaced-tokens}
 use Rattle.printed.proofs.PrintedAlike.{formed-differ, differ-formed}
 use Rattle.printed.proofs.PrintedAgain.{printed-follows, printed-known, formed-once, printed-again}
 use Rattle.printed.proofs.SameLoops.{known-loop, loop-serial}
+use Rattle.printed.proofs.SameEndings.{loop-settled}
+use Rattle.printed.proofs.SaidAlike.{said-alike, ending-both}
 use Rattle.printed.proofs.PrintedBound.{printed-bound}
 use Rattle.printed.proofs.Programs.{program-follows, accepted}
 
@@ -67,6 +70,39 @@ printed-serial s t h m = loop-serial (loopOf s m) (loopOf t m) (known-loop s t h
 pub printed-partition : (s t : State) → SameKnown s t → partitionOf t ≡ partitionOf s
 unfolding partitionOf
 printed-partition s t h = rw (h .grouping, h .count, h .processors)
+
+-- So Run, which answers what the serial run settles, answers the same of both under every schedule, but for the line of a fault, and leaves the same cells.
+pub printed-run : (s t : State) → SameKnown s t → (m : List ℤ)
+    → SameEnding (settled (loopOf s m) (partitionOf s .group)) (settled (loopOf t m) (partitionOf t .group))
+printed-run s t h m = rw (printed-partition s t h) (loop-settled (loopOf s m) (loopOf t m) (known-loop s t h m) (partitionOf s .group))
+
+-- "Sites exchange loops and can't tell whether two are alike": of two accepted texts that print alike, however long their form is, the names with their
+-- cells, classes and data are the same, P, the grouping and the bounds;
+pub record AlikeKnown (u v : State) : Type 0 where
+  pub table : u .table ≡ v .table
+  pub processors : u .processors ≡ v .processors
+  pub grouping : u .grouping ≡ v .grouping
+  pub variable : u .variable ≡ v .variable
+  pub from : u .from ≡ v .from
+  pub count : u .count ≡ v .count
+
+pub alike-known : (s t : List ℕ) (u v : State) → read s ≡ good u → read t ≡ good v → form s ≡ form t → AlikeKnown u v
+alike-known s t u v h k e =
+    let a = said-alike s t u v h k e in
+    record {
+      table = sym (a .first .table) ∙ a .second .table;
+      processors = sym (a .first .processors) ∙ a .second .processors;
+      grouping = sym (a .first .grouping) ∙ a .second .grouping;
+      variable = sym (a .first .variable) ∙ a .second .variable;
+      from = sym (a .first .from) ∙ a .second .from;
+      count = sym (a .first .count) ∙ a .second .count;
+    }
+
+-- and Run answers and leaves the same of both, but for the line of a fault.
+pub alike-run : (s t : List ℕ) (u v : State) → read s ≡ good u → read t ≡ good v → form s ≡ form t → (m : List ℤ)
+    → SameEnding (settled (loopOf u m) (partitionOf u .group)) (settled (loopOf v m) (partitionOf v .group))
+alike-run s t u v h k e m =
+    let a = said-alike s t u v h k e in ending-both (printed-run u (a .state) (a .first) m) (printed-run v (a .state) (a .second) m)
 
 -- "The answer is the length": it is below 65,536, so 16 bits hold it.
 pub form-bound : (text : List ℕ) (s : State) → read text ≡ good s → length (form text) ≤ 65530

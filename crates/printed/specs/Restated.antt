@@ -8,6 +8,7 @@ use lib.IntN.{ℤ}
 use Rattle.int32.specs.declared.Relation.{Relation}
 use Rattle.rules.specs.Loop.{Loop, Act, read, write, update, fault, done}
 use Rattle.rules.specs.Serial.{Outcome, finished, failed, Result}
+use Rattle.rules.specs.Answer.{Answer, passed, rerun, faulted, Ending}
 use Rattle.syntax.specs.Grammar.{Expr, expr, Terms, no-terms, terms, Term, term, Factors, no-factors, factors, Factor, literal, cell, call, brackets, Ref, single, element, Declared, one, array, Item, item, Clause, clause, threads, static, Statement, assign, when, otherwise, end-if, Line, declare, give, direct, loop, inside, end-do, close}
 use Rattle.syntax.specs.Known.{State, Stmts, stop, set, if-then, if-else}
 use Rattle.syntax.specs.Follows.{Program}
@@ -126,3 +127,13 @@ pub record SameResult (r u : Result) : Type 0 where
   pub cells : u .cells ≡ r .cells
   pub log : u .log ≡ r .log
   pub outcome : SameOutcome (r .outcome) (u .outcome)
+
+-- what Run answers of two texts and leaves in the cells (`settled`): the same answer but for the line of a fault, and the same cells
+pub data SameAnswer : Answer → Answer → Type 0 where
+  both-passed : {a b : ℕ} → SameAnswer (passed a b) (passed a b)
+  both-rerun : {a b : ℕ} → SameAnswer (rerun a b) (rerun a b)
+  both-faulted : {n i j v : ℕ} → SameAnswer (faulted n i v) (faulted n j v)
+
+pub record SameEnding (e f : Ending) : Type 0 where
+  pub answer : SameAnswer (e .answer) (f .answer)
+  pub cells : f .cells ≡ e .cells

@@ -16,8 +16,10 @@ use Rattle.answers.specs.declared.Ran.{Ran}
 use Rattle.answers.specs.declared.Ran.the-variants.{Passed, Rerun, Faulted, Refused}
 use Rattle.names.proofs.Rows.{name-length}
 use Rattle.printing.specs.Printed.{newline, comment, values, data-line, data-lines, report}
-use Rattle.printing.specs.Written.{Writes, Named, Holds, lineAt, Completes, Reports}
-use Rattle.printing.proofs.Writing.{writes-none, writes-one, writes-then, writes-as, writes-up-to, values-few, comment-few}
+use Rattle.writing.specs.Written.{Writes}
+use Rattle.printing.specs.Written.{Named, Holds, lineAt, Completes, Reports}
+use Rattle.writing.proofs.Writing.{writes-none, writes-one, writes-then, writes-as, writes-up-to}
+use Rattle.printing.proofs.Writing.{values-few, comment-few}
 
 -- ---- names
 

@@ -4,12 +4,11 @@ use mathlib.Core.Bool.{Bool, true, false, cond}
 use mathlib.Core.List.{List, [], _∷_, _++_, append-nil, append-assoc}
 use Prim.Native.Nat.{ℕ, zero, suc, _+_, _-_, _*_, _/_, _%_, _≤_, _<_}
 use native.Mathlib.Numerals.{add-one}
-use native.Mathlib.Nat.{add-zero, add-suc, suc-add}
 use native.Mathlib.Omega.{arith}
 use lib.Dec.{ltb}
 use lib.ListN.{length, getD, set, take, length-append}
 use borrow.Author.Tests.{lt-ltb, le-ltb}
-use lib.Seq.{sets, take-suc, take-all, length-take-le}
+use lib.Seq.{take-suc, take-all, length-take-le}
 use lib.IntN.{ℤ, pos, negsuc}
 use mir.Syntax.{w32}
 use mir.Val.{SFits, toZ, ofZ}
@@ -19,36 +18,9 @@ use Rattle.syntax.specs.Bytes.{bytes}
 use Rattle.answers.specs.declared.Ran.{Ran}
 use Rattle.answers.specs.declared.Ran.the-variants.{Passed, Rerun, Faulted, Refused}
 use Rattle.printing.specs.Printed.{digits, decimal, signed, counted, refusal, comment, values, later}
-use Rattle.printing.specs.Written.{Writes, valueAt}
-
--- ---- stores one after another
-
-sets-append : (l : List ℕ) (i : ℕ) (vs ws : List ℕ) → sets (sets l i vs) (i + length vs) ws ≡ sets l i (vs ++ ws)
-sets-append l i [] ws = rw add-zero
-sets-append l i (v ∷ vs) ws = rw (add-suc, ← suc-add) (sets-append (set l i v) (suc i) vs ws)
-
--- nothing
-pub writes-none : (b : List ℕ) (at : ℕ) → Writes b at [] b at
-writes-none b at = record { place = omega arith; bytes = refl }
-
--- one byte
-pub writes-one : (b : List ℕ) (at x : ℕ) → Writes b at (x ∷ []) (set b at x) (at + 1)
-writes-one b at x = record { place = omega arith; bytes = refl }
-
--- some bytes, and then others
-pub writes-then : {b m a xs ys : List ℕ} {at p r : ℕ} → Writes b at xs m p → Writes m p ys a r → Writes b at (xs ++ ys) a r
-writes-then {b} {m} {a} {xs} {ys} {at} {p} {r} u v = record {
-  place = omega (arith, u .place, v .place, length-append xs ys);
-  bytes = v .bytes ∙ (λ i. sets (u .bytes i) (u .place i) ys) ∙ sets-append b at xs ys;
-}
-
--- the same bytes
-pub writes-as : {b a xs ys : List ℕ} {at r : ℕ} → xs ≡ ys → Writes b at xs a r → Writes b at ys a r
-writes-as {b} {a} {xs} {ys} {at} {r} e u = record { place = u .place ∙ ap (λ (l : List ℕ). at + length l) e; bytes = u .bytes ∙ ap (sets b at) e }
-
--- the place after them
-pub writes-up-to : {b a xs : List ℕ} {at r q : ℕ} → r ≡ q → Writes b at xs a r → Writes b at xs a q
-writes-up-to {b} {a} {xs} {at} {r} {q} e u = record { place = sym e ∙ u .place; bytes = u .bytes }
+use Rattle.writing.specs.Written.{Writes}
+use Rattle.writing.proofs.Writing.{writes-none, writes-one, writes-then, writes-as, writes-up-to}
+use Rattle.printing.specs.Written.{valueAt}
 
 -- ---- numbers
 

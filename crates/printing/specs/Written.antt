@@ -3,7 +3,6 @@ use mathlib.Core.Path.{_≡_}
 use mathlib.Core.List.{List, _++_}
 use Prim.Native.Nat.{ℕ, zero, suc, _+_, _≤_, _<_}
 use lib.ListN.{length, getD, take, drop}
-use lib.Seq.{sets}
 use lib.IntN.{ℤ}
 use Rattle.syntax.specs.Known.{Entry, nowhere, cells}
 use Rattle.names.specs.Table.{wordAt, nameAt, Tabled, firstAt, lengthAt, sizeAt, nameWords, mostNames}
@@ -11,11 +10,6 @@ use Rattle.answers.specs.declared.Ran.{Ran}
 use Rattle.answers.specs.declared.Ran.the-variants.{Passed, Rerun, Faulted, Refused}
 use Rattle.syntax.specs.Bytes.{bytes}
 use Rattle.printing.specs.Printed.{signed, data-line, report}
-
--- the bytes xs stand in the buffer from a place on, and r is the place after them; all else is as it was
-pub record Writes (before : List ℕ) (at : ℕ) (xs after : List ℕ) (r : ℕ) : Type 0 where
-  pub place : r ≡ at + length xs
-  pub bytes : after ≡ sets before at xs
 
 -- entry i has a name of at most 32 bytes
 pub record Named (T : List ℕ) (i : ℕ) : Type 0 where

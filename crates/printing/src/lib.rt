@@ -7,7 +7,8 @@ ghost use lib.ListN.{length};
 ghost use Rattle.names.specs.Table.{nameAt, Tabled, firstAt, sizeAt, nameWords};
 ghost use Rattle.syntax.specs.Known.{Entry};
 ghost use Rattle.printing.specs.Printed.{digits, signed, counted, refusal, comment, values, data-lines};
-ghost use Rattle.printing.specs.Written.{Writes, Named, Holds, valueAt, lineAt, Completes, Reports};
+ghost use Rattle.writing.specs.Written.{Writes};
+ghost use Rattle.printing.specs.Written.{Named, Holds, valueAt, lineAt, Completes, Reports};
 use answers::Ran;
 use names::Table;
 

@@ -1,14 +1,14 @@
 -- One law for every kind of place: a reader over places whose tokens are those of a list reads a line exactly where the list is the line's tokens.
 -- Then what is left of a line's bytes as such a place.
 use mathlib.Core.Path.{_≡_, refl, sym, _∙_, ap, subst}
-use mathlib.Core.Bool.{Bool, true, false, cond, _||_}
+use mathlib.Core.Bool.{Bool, true, false, cond, _&&_, _||_, not}
 use mathlib.Core.List.{List, [], _∷_, _++_, append-nil}
 use mathlib.Core.Option.{Option}
 use Prim.Native.Nat.{ℕ, zero, suc, _+_, _-_, _*_, _≤_}
 use native.Mathlib.Omega.{arith}
-use lib.Dec.{eqb}
+use lib.Dec.{eqb, leb}
 use lib.ListN.{length, take, drop}
-use Rattle.syntax.specs.Bytes.{choose, letter, digit, in-word, run, token-size, token-of, tokens-after, tokens, trimmed, Token, starts, bytes}
+use Rattle.syntax.specs.Bytes.{choose, any, same, reserved, name, other-word, digits, sign, bytesOf, letter, digit, in-word, run, token-size, token-of, tokens-after, tokens, trimmed, Token, starts, bytes}
 use Rattle.syntax.specs.Grammar.{Line, showLine}
 use Rattle.syntax.specs.Reader.{done, readLine, first, rest, token-in, after-in, peek-in, skip-in}
 use Rattle.syntax.specs.Spelled.{Spells, here, token}
@@ -55,6 +55,16 @@ size-one b s =
     go false false true w = omega arith
     go false false false true = omega arith
     go false false false false = omega arith
+
+-- a token has the bytes that it is made of
+pub token-bytes : (b : ℕ) (w : List ℕ) → bytesOf (token-of b w) ≡ w
+token-bytes b w = go (letter b) (digit b) (leb (length w) 31 && not (any (same w) reserved))
+  where
+    go : (l d c : Bool) → bytesOf (cond l (cond c (name w) (other-word w)) (cond d (digits w) (sign w))) ≡ w
+    go true d true = refl
+    go true d false = refl
+    go false true c = refl
+    go false false c = refl
 
 after-drop : (k : ℕ) (s : List ℕ) → tokens-after k s ≡ tokens-after 0 (drop k s)
 unfolding tokens-after

@@ -1,13 +1,14 @@
--- Laws of the tests over lists that the definitions are written with (`all`, `any`, `same`), and of `Each`, the like of `all` for what is no test.
+-- Laws of the tests over lists that the definitions are written with (`all`, `any`, `same`, `starts`), and of `Each`, the like of `all` for what is no test.
 use mathlib.Core.Path.{_≡_, refl, sym, _∙_, ap}
 use mathlib.Core.Logic.{_⊎_, inl, inr}
 use mathlib.Core.Bool.{Bool, true, false, cond, _&&_, _||_, and-assoc, or-assoc}
 use mathlib.Core.List.{List, [], _∷_, _++_, map}
 use Prim.Native.Nat.{ℕ, zero, suc, _+_, _≤_, _<_}
 use native.Mathlib.Omega.{arith}
+use lib.Dec.{eqb}
 use lib.ListN.{length, getD, replicate, drop}
 use borrow.Author.Tests.{eq-eqb}
-use Rattle.syntax.specs.Bytes.{choose, all, any, same}
+use Rattle.syntax.specs.Bytes.{choose, all, any, same, starts}
 use Rattle.syntax.specs.Sane.{Each}
 use Rattle.syntax.proofs.Spelling.{both-true, same-true}
 
@@ -47,6 +48,11 @@ same-apart a b n = go (same a b) refl
 
 pub same-comm-false : (a b : List ℕ) → same a b ≡ false → same b a ≡ false
 same-comm-false a b h = same-apart b a (λ e. let r : same a b ≡ true = rw e (same-refl a) in let z : _≡_ {A = ℕ} 0 1 = cc in omega arith)
+
+pub starts-length : (x s : List ℕ) → starts x s ≡ true → length x ≤ length s
+starts-length [] s h = omega arith
+starts-length (b ∷ x) [] h = let z : _≡_ {A = ℕ} 0 1 = cc in absurd (omega arith)
+starts-length (b ∷ x) (c ∷ s) h = omega (arith, starts-length x s (both-true (eqb b c) (starts x s) h .1))
 
 -- ---- lists
 

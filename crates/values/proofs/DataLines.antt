@@ -30,7 +30,7 @@ use Rattle.lexer.proofs.Chains.{goes-onward, onward-both, goes-then, goes-past,
 use Rattle.lexer.proofs.PlaceLaws.{goes-next, goes-end, goes-some, lands-yield, pass-there, pass-not, pass-onward}
 use Rattle.lexer.proofs.Said.{sign-text}
 use Rattle.values.specs.declared.Datum.{Datum}
-use Rattle.lexer.proofs.Laws.{sets-snoc}
+use Rattle.lexer.proofs.Laws.{sets-append, sets-snoc}
 use Rattle.values.specs.Data.{Itemized, counted, readCounted, Placed, Put, Puts, Items, Given, readValues, may-give, Gives}
 use Rattle.values.specs.declared.Filled.{Filled}
 use Rattle.heading.specs.Lists.{readSome, order, Keeps}
@@ -199,11 +199,7 @@ module _ (C : List ℤ) (first size v most : ℕ) (C′ : List ℤ) (low : size 
 
 -- ---- items one after the other
 
--- values in two parts
-sets-append : (C : List ℤ) (p : ℕ) (xs ys : List ℤ) → sets C p (xs ++ ys) ≡ sets (sets C p xs) (p + length xs) ys
-sets-append C p [] ys = ap (λ (k : ℕ). sets C k ys) (omega arith)
-sets-append C p (x ∷ xs) ys = sets-append (set C p x) (suc p) xs ys ∙ ap (λ (k : ℕ). sets (sets (set C p x) (suc p) xs) k ys) (omega arith)
-
+-- values in two parts: of the first item, and of the others
 values-more : (i : Item) (is : List Item) → (values (i ∷ is) ≡ values (i ∷ []) ++ values is) × (length (values (i ∷ [])) ≡ copies i)
 unfolding values
 values-more (item o l d) is =
@@ -226,7 +222,7 @@ module _ (C : List ℤ) (first size v most : ℕ) (C₁ : List ℤ) (r₁ : Fill
             q .cells c (omega (arith, n))
             ∙ (λ j. sets (p .cells a (omega arith) j) (first + n j) (values is))
             ∙ ap (λ (k : ℕ). sets (sets C (first + v) (values (i ∷ []))) k (values is)) (omega (arith, y))
-            ∙ sym (ap (sets C (first + v)) x ∙ sets-append C (first + v) (values (i ∷ [])) (values is));
+            ∙ sym (ap (sets C (first + v)) x ∙ sym (sets-append C (first + v) (values (i ∷ [])) (values is)));
       }
     where
       both : (a b : Bool) → max (max most (order true a)) (order true b) ≡ max most (order true (a && b))

@@ -2,32 +2,24 @@
 use mathlib.Core.Path.{_≡_, refl, sym, _∙_, ap}
 use mathlib.Core.Bool.{Bool, true, false, cond}
 use mathlib.Core.List.{List, [], _∷_, _++_, append-nil, append-assoc}
-use mathlib.Core.Option.{Option, none, some}
+use mathlib.Core.Option.{some}
 use Prim.Native.Nat.{ℕ, zero, suc, _+_, _-_, _≤_, _<_}
-use native.Mathlib.Numerals.{add-one}
 use native.Mathlib.Omega.{arith}
 use borrow.Author.Tests.{ne-eqb}
 use lib.Dec.{eqb}
 use lib.ListN.{length, getD, take, drop, length-drop}
-use lib.Seq.{drop-cons}
 use Rattle.syntax.specs.Bytes.{choose, Token, name, other-word, digits, sign, bytesOf, kindOf, token-of, token-size, tokens, trimmed}
 use Rattle.syntax.specs.Reader.{kind, text, first, rest, peek-in, skip-in, token-in, after-in}
 use Rattle.syntax.proofs.Places.{peek-tokens, skip-tokens}
 use Rattle.lexer.specs.declared.Tok.{Tok}
-use Rattle.lexer.specs.declared.Kind.the-variants.{End}
 use Rattle.lexer.specs.Lex.{part, kind-number, Lexed}
+use Rattle.lexer.proofs.Laws.{part-cons}
 use Rattle.printed.specs.Form.{shortest, zeros-gone, after-blanks}
 use Rattle.writing.specs.declared.Moved.{Moved}
 use Rattle.writing.specs.Written.{Writes, told, blanked, Moves}
 use Rattle.writing.proofs.Writing.{writes-as, writes-then}
 
 -- ---- digits without leading zeros
-
-pub part-cons : (s : List ℕ) (a e : ℕ) → a < e → e ≤ length s → part s a e ≡ getD s a 0 ∷ part s (a + 1) e
-part-cons s a e h b =
-    let z : e - a ≡ suc (e - (a + 1)) = omega arith in
-    let y : suc a ≡ a + 1 = omega arith in
-    (λ i. take (z i) (drop-cons s a 0 (omega arith) i)) ∙ ap (λ (n : ℕ). getD s a 0 ∷ take (e - (a + 1)) (drop n s)) y
 
 -- a zero and more digits
 pub zero-gone : (s : List ℕ) (i e : ℕ) → i + 1 < e → e ≤ length s → getD s i 0 ≡ 48 → shortest (part s i e) ≡ shortest (part s (i + 1) e)
@@ -44,8 +36,8 @@ zero-not s i e h b n =
     let p = part-cons s i e (omega arith) b in
     let q = part-cons s (i + 1) e h b in
     let r = p ∙ ap (λ (ds : List ℕ). getD s i 0 ∷ ds) q in
-    r ∙ ap (λ (c : Bool). choose c (λ _. shortest (getD s (i + 1) 0 ∷ part s (i + 1 + 1) e)) (λ _. getD s i 0 ∷ getD s (i + 1) 0 ∷ part s (i + 1 + 1) e)) (sym (ne-eqb (getD s i 0) 48 n))
-    ∙ ap shortest (sym r)
+    let ds = getD s (i + 1) 0 ∷ part s (i + 1 + 1) e in
+    r ∙ ap (λ (c : Bool). choose c (λ _. shortest ds) (λ _. getD s i 0 ∷ ds)) (sym (ne-eqb (getD s i 0) 48 n)) ∙ ap shortest (sym r)
 
 -- the last digit, or none
 pub digit-last : (s : List ℕ) (i e : ℕ) → e ≤ i + 1 → part s i e ≡ shortest (part s i e)
@@ -85,13 +77,13 @@ blanked-append (t ∷ ts) us =
     ap (λ (b : List ℕ). 32 ∷ (bytesOf (zeros-gone t) ++ b)) (blanked-append ts us)
     ∙ ap (λ (b : List ℕ). 32 ∷ b) (sym (append-assoc (bytesOf (zeros-gone t)) (blanked ts) (blanked us)))
 
+pub rest-drop : (ts : List Token) → rest ts ≡ drop 1 ts
+rest-drop [] = refl
+rest-drop (t ∷ ts) = refl
+
 module _ (s : List ℕ) (at : ℕ) (t : Tok) (l : Lexed s at t) where
   pub tokens-left : tokens (drop (t .stop) s) ≡ drop 1 (tokens (drop at s))
-  tokens-left = ap tokens (sym (l .next)) ∙ skip-tokens (drop at s) ∙ go (tokens (drop at s))
-    where
-      go : (ts : List Token) → rest ts ≡ drop 1 ts
-      go [] = refl
-      go (t ∷ ts) = refl
+  tokens-left = ap tokens (sym (l .next)) ∙ skip-tokens (drop at s) ∙ rest-drop (tokens (drop at s))
 
   pub token-told : told (kind-number (t .kind)) (part s (t .start) (t .stop)) ≡ told (kind (first (tokens (drop at s)))) (text (first (tokens (drop at s))))
   token-told =
@@ -101,7 +93,9 @@ module _ (s : List ℕ) (at : ℕ) (t : Tok) (l : Lexed s at t) where
   -- it is no end: its bytes after a blank are those of the first token
   module _ (n : kind-number (t .kind) ≡ 0 → ⊥) where
     pub told-next : 32 ∷ told (kind-number (t .kind)) (part s (t .start) (t .stop)) ≡ blanked (take 1 (tokens (drop at s)))
-    told-next = ap (λ (b : List ℕ). 32 ∷ b) token-told ∙ blanked-first (tokens (drop at s)) (λ z. n (sym (l .kinds) ∙ ap kind (peek-tokens (drop at s)) ∙ z))
+    told-next =
+        ap (λ (b : List ℕ). 32 ∷ b) token-told
+        ∙ blanked-first (tokens (drop at s)) (λ z. n (sym (l .kinds) ∙ ap kind (peek-tokens (drop at s)) ∙ z))
 
     pub token-onward : at < t .stop
     token-onward = omega (arith, l .from, l .some (λ e. n (ap kind-number e)))
@@ -165,7 +159,8 @@ pub moves-then : {b m a s : List ℕ} {to at : ℕ} {f g h k : List Token → Li
     → Moves b to s at (λ ts. f ts ++ h (g ts)) (λ ts. k (g ts)) a r
 moves-then {s = s} {at = at} {f = f} {g = g} {h = h} {k = k} u v = record {
   writes =
-      writes-as (ap (λ (ts : List Token). blanked (f (tokens (drop at s))) ++ blanked (h ts)) (u .left) ∙ sym (blanked-append (f (tokens (drop at s))) (h (g (tokens (drop at s))))))
+      let xs = f (tokens (drop at s)) in
+      writes-as (ap (λ (ts : List Token). blanked xs ++ blanked (h ts)) (u .left) ∙ sym (blanked-append xs (h (g (tokens (drop at s))))))
       (writes-then (u .writes) (v .writes));
   left = v .left ∙ ap k (u .left);
   from = omega (arith, u .from, v .from);
@@ -174,7 +169,8 @@ moves-then {s = s} {at = at} {f = f} {g = g} {h = h} {k = k} u v = record {
 }
 
 -- some tokens, and then others that don't stand there
-pub moves-more : {b m a s : List ℕ} {to at p : ℕ} {f g : List Token → List Token} {x : Moved} (us : List Token) → Moves b to s at f g m x → Writes m (x .to) (blanked us) a p
+pub moves-more : {b m a s : List ℕ} {to at p : ℕ} {f g : List Token → List Token} {x : Moved} (us : List Token) → Moves b to s at f g m x
+    → Writes m (x .to) (blanked us) a p
     → Moves b to s at (λ ts. f ts ++ us) g a (record { to = p; at = x .at })
 moves-more {s = s} {at = at} {f = f} us u v = record {
   writes = writes-as (sym (blanked-append (f (tokens (drop at s))) us)) (writes-then (u .writes) v);
@@ -185,6 +181,7 @@ moves-more {s = s} {at = at} {f = f} us u v = record {
 }
 
 -- the same tokens
-pub moves-as : {b a s : List ℕ} {to at : ℕ} {f g h k : List Token → List Token} {r : Moved} → f (tokens (drop at s)) ≡ h (tokens (drop at s)) → g (tokens (drop at s)) ≡ k (tokens (drop at s))
+pub moves-as : {b a s : List ℕ} {to at : ℕ} {f g h k : List Token → List Token} {r : Moved} → f (tokens (drop at s)) ≡ h (tokens (drop at s))
+    → g (tokens (drop at s)) ≡ k (tokens (drop at s))
     → Moves b to s at f g a r → Moves b to s at h k a r
 moves-as p q u = record { writes = writes-as (ap blanked p) (u .writes); left = u .left ∙ q; from = u .from; onward = u .onward; within = u .within }

@@ -1,16 +1,12 @@
 -- Laws of bytes written one after another.
 use mathlib.Core.Path.{_≡_, refl, sym, _∙_, ap}
 use mathlib.Core.List.{List, [], _∷_, _++_, append-assoc, append-nil}
-use Prim.Native.Nat.{ℕ, suc, _+_, _≤_}
-use native.Mathlib.Nat.{add-zero, add-suc, suc-add}
+use Prim.Native.Nat.{ℕ, _+_, _≤_}
 use native.Mathlib.Omega.{arith}
 use lib.ListN.{length, set, length-append}
 use lib.Seq.{sets, set-out, length-sets}
+use Rattle.lexer.proofs.Laws.{sets-append}
 use Rattle.writing.specs.Written.{Writes, Fits}
-
-sets-append : (l : List ℕ) (i : ℕ) (vs ws : List ℕ) → sets (sets l i vs) (i + length vs) ws ≡ sets l i (vs ++ ws)
-sets-append l i [] ws = rw add-zero
-sets-append l i (v ∷ vs) ws = rw (add-suc, ← suc-add) (sets-append (set l i v) (suc i) vs ws)
 
 -- nothing
 pub writes-none : (b : List ℕ) (at : ℕ) → Writes b at [] b at
@@ -60,7 +56,8 @@ pub record Along (whole rest b : List ℕ) (at : ℕ) (a : List ℕ) (r : ℕ) :
 pub along-none : (whole b : List ℕ) (at : ℕ) → Along whole whole b at b at
 along-none whole b at = record { part = []; writes = writes-none b at; joins = refl }
 
-pub along-more : {whole rest b m a : List ℕ} {at p r : ℕ} (xs ys : List ℕ) → rest ≡ xs ++ ys → Along whole rest b at m p → Writes m p xs a r → Along whole ys b at a r
+pub along-more : {whole rest b m a : List ℕ} {at p r : ℕ} (xs ys : List ℕ) → rest ≡ xs ++ ys → Along whole rest b at m p → Writes m p xs a r
+    → Along whole ys b at a r
 along-more xs ys e h u = record {
   part = h .part ++ xs;
   writes = writes-then (h .writes) u;

@@ -7,7 +7,7 @@ ghost use lib.ListN.{length, take, drop};
 ghost use Rattle.syntax.specs.Bytes.{tokens};
 ghost use Rattle.lexer.specs.Lex.{part, kind-number};
 ghost use Rattle.printed.specs.Form.{shortest};
-ghost use Rattle.writing.specs.Written.{mostBytes, Fits, Writes, told, blanked, Moves};
+ghost use Rattle.writing.specs.Written.{Fits, Writes, told, blanked, Moves};
 use lexer::Kind;
 use lexer::Tok;
 use lexer::same_kind;

@@ -8,6 +8,7 @@ use crate::division;
 use crate::fortran;
 use crate::names;
 use crate::plans;
+use crate::prints;
 use crate::runs;
 use crate::services::{check, check_and_load, load, look, run, Lent};
 use crate::tally::Tally;
@@ -16,17 +17,19 @@ use crate::tally::Tally;
 pub type Group = (&'static str, fn() -> bool);
 
 /// All groups.
-pub const GROUPS: [Group; 17] = [
+pub const GROUPS: [Group; 19] = [
     ("tables", tables),
     ("lent", lent),
     ("run-table", runs::table),
     ("look-table", runs::views),
     ("plan-table", plans::table),
     ("name-table", names::table),
+    ("print-table", prints::table),
     ("runs", runs::random_runs),
     ("looks", runs::random_looks),
     ("plans", plans::random_plans),
     ("names", names::random_names),
+    ("prints", prints::random_prints),
     ("refusals", runs::random_refusals),
     ("quotient", division::quotients),
     ("rdiv", division::rounded_quotients),

@@ -2,12 +2,14 @@
 //!
 //!     compare              every group of texts
 //!     compare GROUP..      some of them: tables, lent, run-table, look-table, plan-table,
-//!                          name-table, runs, looks, plans, names, refusals, quotient, rdiv,
-//!                          fortran, loops, damaged, noise
+//!                          name-table, print-table, runs, looks, plans, names, prints, refusals,
+//!                          quotient, rdiv, fortran, loops, damaged, noise
 //!     compare stack KIB    how much stack the services need; whether it is at most so much
 //!     compare text FILE    what both answer for one text, on its own data
 //!     compare explain PROGRAM [FILE..]
 //!                          what the example explain says of these texts and of drawn loops
+//!     compare read-back PROGRAM [FILE..]
+//!                          what the program lrpd prints of these texts and of drawn ones, read back
 //!
 //! The exit status is 0 only if nothing differs.
 
@@ -18,7 +20,9 @@ mod groups;
 mod names;
 mod one;
 mod plans;
+mod prints;
 mod product;
+mod read_back;
 mod runs;
 mod services;
 mod stack;
@@ -41,6 +45,11 @@ fn main() -> ExitCode {
             let program = program.to_string();
             let files: Vec<String> = files.iter().map(|file| file.to_string()).collect();
             move || explain::explained(&program, &files)
+        }),
+        ["read-back", program, ref files @ ..] => on_a_big_stack({
+            let program = program.to_string();
+            let files: Vec<String> = files.iter().map(|file| file.to_string()).collect();
+            move || read_back::compared(&program, &files)
         }),
         ["text", file] => on_a_big_stack({
             let file = file.to_string();

@@ -9,6 +9,8 @@ use crate::tally::short;
 
 /// The reference's Plan looks at every pair of iterations; of more than these it is not asked.
 const PAIRED: u32 = 10_000;
+/// Bytes that are enough for every printed form.
+const ROOM: usize = 65_535;
 
 /// Prints both answers of each service; whether they are the same.
 pub fn show(file: &str) -> bool {
@@ -20,6 +22,7 @@ pub fn show(file: &str) -> bool {
     let bounded = reference::bounds(&text);
     let mut same = beside("Check", &product::check(&text), &checked);
     same &= beside("Bounds", &product::bounds(&text), &bounded);
+    same &= show_form(&text);
     if let (Ok((cells, processors)), Ok(bounds)) = (checked, bounded) {
         let words = workspace_needed(cells, processors);
         same &= show_on_data(&text, cells, words, bounds.iterations);
@@ -33,6 +36,17 @@ pub fn show(file: &str) -> bool {
         }
     );
     same
+}
+
+/// Print, with enough bytes lent.
+fn show_form(text: &[u8]) -> bool {
+    let print = |print: fn(&[u8], &mut [u8]) -> Result<u32, Refusal>| {
+        let mut bytes = vec![0; ROOM];
+        let answer = print(text, &mut bytes);
+        bytes.truncate(answer.unwrap_or(0) as usize);
+        (answer, String::from_utf8_lossy(&bytes).into_owned())
+    };
+    beside("Print", &print(product::print), &print(reference::print))
 }
 
 /// Load, and on the cells that the reference loads Run under the empty schedule and Plan.

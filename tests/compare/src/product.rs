@@ -38,6 +38,14 @@ struct PlanAnswer {
 }
 
 #[repr(C)]
+struct PrintAnswer {
+    number: u32,
+    line: u32,
+    v: i32,
+    length: u32,
+}
+
+#[repr(C)]
 struct BoundsAnswer {
     number: u32,
     line: u32,
@@ -96,6 +104,7 @@ extern "C" {
         list: *mut u16,
         room: usize,
     ) -> PlanAnswer;
+    fn lrpd_print(text: *const u8, length: usize, bytes: *mut u8, room: usize) -> PrintAnswer;
 }
 
 /// Check: N and P.
@@ -237,6 +246,17 @@ pub fn plan(
         assert_eq!(answer.stages, 0, "stages beside a refusal");
     }
     refused.map(|()| answer.stages)
+}
+
+/// Print: the length of the printed form, which goes to the bytes.
+pub fn print(text: &[u8], bytes: &mut [u8]) -> Result<u32, Refusal> {
+    // SAFETY: each pointer and length are one slice's; the bytes are lent alone.
+    let answer = unsafe { lrpd_print(text.as_ptr(), text.len(), bytes.as_mut_ptr(), bytes.len()) };
+    let refused = refusal(answer.number, answer.line, answer.v);
+    if refused.is_err() {
+        assert_eq!(answer.length, 0, "a length beside a refusal");
+    }
+    refused.map(|()| answer.length)
 }
 
 /// Number 0 is no refusal, and then line and v are 0.

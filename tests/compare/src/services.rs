@@ -1,6 +1,8 @@
 //! The services of the product on one text, each compared with an answer and with what it must leave
 //! in the slices lent.
 
+use std::fmt::{self, Debug, Formatter};
+
 use generate::{lend, Rng};
 use reference::{Answer, Bounds, NameCells, Refusal};
 
@@ -98,6 +100,42 @@ pub fn check_and_load(text: &mut Text, rng: &mut Rng) {
         let expected = reference::load(text.text, &mut after);
         load(text, &before, expected, &after);
     }
+}
+
+/// Bytes that are shown as a text is.
+#[derive(PartialEq)]
+struct Shown(Vec<u8>);
+
+impl Debug for Shown {
+    fn fmt(&self, to: &mut Formatter) -> fmt::Result {
+        write!(to, "\"{}\"", self.0.escape_ascii())
+    }
+}
+
+/// A word for a printed form of so many bytes.
+fn form_word(length: u32) -> &'static str {
+    match length {
+        0..2048 => "under 2,048 bytes",
+        2048 => "2,048 bytes",
+        2049 => "2,049 bytes",
+        _ => "over 2,049 bytes",
+    }
+}
+
+/// Print into these bytes, which begin with the printed form in the end if it is done.
+pub fn print(text: &mut Text, lent: &[u8], expected: Result<&[u8], Refusal>) {
+    let lent_text = guarded(text.text, GUARD_BYTE);
+    let mut bytes = guarded(lent, GUARD_BYTE);
+    let answer = product::print(&lent_text[1..=text.text.len()], &mut bytes[1..=lent.len()]);
+    text.count("Print", answer.map(form_word));
+    let mut after = guarded(lent, GUARD_BYTE);
+    if let Ok(form) = expected {
+        after[1..=form.len()].copy_from_slice(form);
+    }
+    let length = expected.map(|form| form.len() as u32);
+    let service = format!("Print into {} bytes", lent.len());
+    text.compare(&service, &(answer, Shown(bytes)), &(length, Shown(after)));
+    text.compare("Print's text", &lent_text, &guarded(text.text, GUARD_BYTE));
 }
 
 /// What Look and Run are lent: cells, words of workspace with anything in them, and a schedule.

@@ -1,6 +1,7 @@
 //! How much stack the services need: the deepest texts are read in processes of their own with less
 //! and less stack.
 
+use generate::tables::forms::longest;
 use generate::tables::limits::deep_rows;
 use generate::tables::{text_rows, TextRow};
 use reference::{read, workspace_needed, Refusal};
@@ -14,10 +15,13 @@ const MOST: u64 = 1 << 16;
 /// A stack in which no process starts, in KiB.
 const LEAST: u64 = 8;
 
-/// The texts to measure: an ordinary one, then those with brackets as deep as the bytes allow.
+/// The texts to measure: an ordinary one, the one with the longest printed form, then those with brackets as deep as
+/// the bytes allow.
 fn rows() -> Vec<TextRow> {
     let mut rows = text_rows();
     rows.truncate(1);
+    let [text, _] = longest();
+    rows.push(TextRow::good("the longest printed form", text, 4096, 1));
     rows.extend(deep_rows());
     rows
 }
@@ -93,12 +97,14 @@ pub fn child(index: usize) -> bool {
     let mut list = vec![0; row.expected.map_or(0, iterations) as usize];
     let checked = product::check(&row.text).map_err(numbers);
     let bounded = product::bounds(&row.text).map_err(numbers);
-    // The one text that is accepted declares it.
+    // The texts that are accepted declare it.
     let named = product::name(&row.text, b"a").map_err(numbers);
     let loaded = product::load(&row.text, &mut cells).map_err(numbers);
     let looked = product::look(&row.text, &cells, &mut workspace, &[], &mut view).map_err(numbers);
     let ran = product::run(&row.text, &mut cells, &mut workspace, &[]).map_err(numbers);
     let planned = product::plan(&row.text, &cells, &mut workspace, &mut list).map_err(numbers);
+    let mut bytes = vec![0; 65_535];
+    let printed = product::print(&row.text, &mut bytes).map_err(numbers);
     let answers = [
         bounded.map(|_| ()),
         named.map(|_| ()),
@@ -106,6 +112,7 @@ pub fn child(index: usize) -> bool {
         looked,
         ran.map(|_| ()),
         planned.map(|_| ()),
+        printed.map(|_| ()),
     ];
-    checked == row.expected && answers == [done; 6]
+    checked == row.expected && answers == [done; 7]
 }

@@ -33,6 +33,77 @@ fn break_up(text: &[u8], rng: &mut Rng) -> Vec<u8> {
     text
 }
 
+/// The text with something changed that its printed form (document 02, Point 8) writes otherwise: an item of data,
+/// an ending, the closing directive or a skipped line. It may happen to be good still.
+pub fn damage_written(text: &[u8], rng: &mut Rng) -> Vec<u8> {
+    let Ok(whole) = std::str::from_utf8(text) else {
+        return break_up(text, rng);
+    };
+    let mut lines: Vec<String> = whole.split('\n').map(str::to_string).collect();
+    let places_of = |words: &[&str]| -> Vec<usize> {
+        let begins = |line: &str| {
+            let first = split_tokens(line).first().map(|word| word.to_lowercase());
+            first.is_some_and(|first| words.contains(&first.as_str()))
+        };
+        (0..lines.len())
+            .filter(|&place| begins(&lines[place]))
+            .collect()
+    };
+    let data = places_of(&["data"]);
+    let ends = places_of(&["end", "enddo", "endif", "!$omp", "!"]);
+    if !data.is_empty() && rng.chance(60) {
+        damage_item(&mut lines[rng.pick(&data)], rng);
+    } else if !ends.is_empty() {
+        let place = rng.pick(&ends);
+        damage_ending(&mut lines, place, rng);
+    }
+    lines.join("\n").into_bytes()
+}
+
+/// Changes how a value, or a number of copies, of a data line is written.
+fn damage_item(line: &mut String, rng: &mut Rng) {
+    const ITEMS: [&str; 16] = [
+        "1*#", "01*+#", "0*#", "#*#", "2*#", "1**#", "1*1*#", "*#", "+1*#", "-#", "--#", "+-#",
+        "1*-#", "#,", "# 0", "00#",
+    ];
+    let mut tokens: Vec<String> = split_tokens(line).iter().map(|t| t.to_string()).collect();
+    let literals: Vec<usize> = (0..tokens.len())
+        .filter(|&place| is_literal(&tokens[place]))
+        .collect();
+    if !literals.is_empty() {
+        let literal = &mut tokens[rng.pick(&literals)];
+        *literal = rng.pick(&ITEMS).replace('#', literal);
+    }
+    *line = tokens.join(" ");
+}
+
+/// Puts another ending, closing directive or skipped line in the place of a line, or after it.
+fn damage_ending(lines: &mut Vec<String>, place: usize, rng: &mut Rng) {
+    const LINES: [&str; 16] = [
+        "end do",
+        "enddo",
+        "END  DO",
+        "end do do",
+        "enddo ! x",
+        "end",
+        "endif",
+        "end if",
+        "end else",
+        "!$omp end parallel do",
+        "!$OMP  END PARALLEL DO ",
+        "!$ompend parallel do",
+        "!$omp end parallel",
+        "!$omp endparallel do",
+        "! x",
+        "",
+    ];
+    let line = rng.pick(&LINES).to_string();
+    match rng.below(3) {
+        0 => lines[place] = line,
+        _ => lines.insert(place + 1, line),
+    }
+}
+
 /// Makes the text about as long as a text may be, by a comment.
 fn pad(text: &[u8], rng: &mut Rng) -> Vec<u8> {
     let mut text = text.to_vec();

@@ -1,4 +1,5 @@
-//! What a caller lends: cells, schedules, workspaces, lists and names to ask for; and orders for what a plan says.
+//! What a caller lends: cells, schedules, workspaces, lists, bytes and names to ask for; and orders for what a plan
+//! says.
 
 use crate::rng::Rng;
 
@@ -67,6 +68,24 @@ pub fn workspace(rng: &mut Rng, length: usize) -> Vec<u32> {
 /// A list with anything in it.
 pub fn list(rng: &mut Rng, length: usize) -> Vec<u16> {
     (0..length).map(|_| rng.bits() as u16).collect()
+}
+
+/// Bytes with anything in them.
+pub fn bytes(rng: &mut Rng, length: usize) -> Vec<u8> {
+    (0..length).map(|_| rng.bits() as u8).collect()
+}
+
+/// How many bytes are lent where so many are needed: often as many, or one less or more.
+pub fn room(rng: &mut Rng, needed: usize) -> usize {
+    match rng.below(8) {
+        0 => needed.saturating_sub(1),
+        1 => rng.below(needed + 1),
+        2 => 0,
+        3 => needed + 1,
+        4 => needed + rng.below(300),
+        5 => needed.max(65_535),
+        _ => needed,
+    }
 }
 
 /// An order of iterations that have these stages: the stages in turn, the iterations of each in any order.

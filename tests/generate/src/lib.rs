@@ -6,6 +6,7 @@ mod body;
 mod builder;
 pub mod copies;
 pub mod damage;
+pub mod edits;
 pub mod hostile;
 pub mod layout;
 pub mod lend;
@@ -15,8 +16,10 @@ pub mod neighbours;
 pub mod noise;
 pub mod ranges;
 pub mod reductions;
+pub mod repeats;
 pub mod rng;
 pub mod tables;
+pub mod variants;
 pub mod wavefronts;
 
 pub use lines::Operation;

@@ -2,12 +2,12 @@
 
 use generate::layout::split_tokens;
 use generate::{
-    copies, damage, hostile, lend, neighbours, noise, ranges, reductions, wavefronts, Copied,
-    Knobs, Loop, Operation, Rng, Turned,
+    copies, damage, edits, hostile, lend, neighbours, noise, ranges, reductions, repeats, variants,
+    wavefronts, Copied, Knobs, Loop, Operation, Rng, Turned,
 };
 
 /// Texts of all kinds, a schedule and names to ask for, and cells.
-fn draw(seed: u64) -> ([Vec<u8>; 11], Vec<i32>) {
+fn draw(seed: u64) -> ([Vec<u8>; 16], Vec<i32>) {
     let mut rng = Rng::new(seed);
     let knobs = Knobs::mixed(&mut rng);
     let good = Loop::random(&mut rng, &knobs).text();
@@ -23,6 +23,11 @@ fn draw(seed: u64) -> ([Vec<u8>; 11], Vec<i32>) {
         ranges::range(&mut rng),
         lend::schedule(&mut rng, 3),
         asked(&mut rng, &good),
+        repeats::repeats(&mut rng),
+        variants::vary_all(&good, &mut rng),
+        edited(&mut rng, &good),
+        damage::damage_written(&good, &mut rng),
+        lend::bytes(&mut rng, 9),
     ];
     (drawn, lend::cells(&mut rng, 9))
 }
@@ -33,6 +38,12 @@ fn asked(rng: &mut Rng, text: &[u8]) -> Vec<u8> {
     asked
         .flat_map(|(name, after)| [name, after].concat())
         .collect()
+}
+
+/// All edits of a text, in a row.
+fn edited(rng: &mut Rng, text: &[u8]) -> Vec<u8> {
+    let edited = edits::EDITS.map(|(_, change)| edits::edit(text, change, rng).unwrap_or_default());
+    edited.concat()
 }
 
 #[test]
@@ -264,6 +275,19 @@ fn operations_are_frequent() {
     println!("sums, products, maxima, all three, max in the body, max2 as a name: {counts:?}");
     assert!(counts[..3].iter().all(|&loops| loops > 200) && counts[3] > 30);
     assert!(counts[4] > 300 && counts[5] > 20);
+}
+
+/// Forms about as long as a text may be are frequent, and so are those of all cells.
+#[test]
+fn copies_of_data_are_frequent() {
+    let texts = (0..1000).map(|seed| repeats::repeats(&mut Rng::new(seed)));
+    let texts: Vec<String> = texts
+        .map(|text| String::from_utf8(text).unwrap().replace(' ', ""))
+        .collect();
+    let with = |word: &str| texts.iter().filter(|text| text.contains(word)).count();
+    let counts = (with("485*"), with("486*"), with("487*"), with("(4096)"));
+    println!("of 485, 486 and 487 copies, of 4,096 cells in one name: {counts:?}");
+    assert!(counts.0 > 60 && counts.1 > 60 && counts.2 > 60 && counts.3 > 40);
 }
 
 #[test]

@@ -1,5 +1,5 @@
 //! An interpreter of the rules that docs/RULES.md tells: of document 01, the client's specification, and of its
-//! change requests, document 02, Points 1 to 7. It is written apart from the product and for obviousness: bytes,
+//! change requests, document 02, Points 1 to 8. It is written apart from the product and for obviousness: bytes,
 //! lines, tokens, a tree, names and limits, then evaluation with the whole list of accesses kept. Marks, obstacles, private values, partial results, counts and stages are taken from that
 //! list as the documents word them.
 //!
@@ -8,6 +8,7 @@
 //! tests/README.md says which section of RULES has each.
 
 mod accesses;
+mod alike;
 mod describe;
 mod draft;
 mod evaluate;
@@ -22,6 +23,7 @@ mod order;
 mod parser;
 mod plan;
 mod print;
+mod printed;
 pub mod program;
 mod reader;
 mod serial;
@@ -32,15 +34,17 @@ mod tokens;
 mod trial;
 
 pub use accesses::{Access, Kind};
+pub use alike::alike;
 pub use describe::{bounds, name, Bounds, NameCells};
 pub use fortran::{fortran, fortran_of_all, Threads};
 pub use integers::{divide_rounded, divide_truncated};
 pub use obstacles::obstacles;
 pub use plan::{depend, touches, Touched};
 pub use print::lrpd;
+pub use printed::printed;
 pub use reader::read;
 pub use serial::{run_in_order, run_serially, Serial};
-pub use services::{check, load, look, plan, run, serial, stepped, trial, workspace_needed};
+pub use services::{check, load, look, plan, print, run, serial, stepped, trial, workspace_needed};
 pub use steps::{share, Processor, Speculation};
 pub use trial::Trial;
 
@@ -53,7 +57,7 @@ pub struct Refusal {
 }
 
 impl Refusal {
-    /// A refusal before any iteration, for which v is 0; 1, 5 to 8 and 11 have line 0.
+    /// A refusal before any iteration, for which v is 0; 1, 5 to 8, 11 and 12 have line 0.
     pub(crate) fn of_text(number: u32, line: u32) -> Self {
         Refusal { number, line, v: 0 }
     }

@@ -1,7 +1,8 @@
 //! Document 01, "Services and answers": Check, Load, Look and Run, with the trial and the serial run
-//! that Run is made of. Document 02, Point 7: Plan.
+//! that Run is made of. Document 02, Point 7: Plan; Point 8: Print.
 
 use crate::plan::stages;
+use crate::printed::printed;
 use crate::program::Program;
 use crate::reader::read;
 use crate::serial::{run_serially, Serial};
@@ -104,6 +105,16 @@ pub fn plan(
     list.copy_from_slice(&stages);
     // "The number of stages is the highest stage", 0 without iterations (7.5).
     Ok(stages.into_iter().max().map_or(0, u32::from))
+}
+
+/// Print writes a text in its printed form into the bytes lent. "The answer is the length; the rest of the lent
+/// bytes is unchanged." (8.8)
+pub fn print(text: &[u8], bytes: &mut [u8]) -> Result<u32, Refusal> {
+    let form = printed(text)?;
+    // "New: 12, bytes lent fewer than the printed form, after 4; a refusal writes nothing."
+    let lent = bytes.get_mut(..form.len());
+    lent.ok_or(Refusal::of_text(12, 0))?.copy_from_slice(&form);
+    Ok(form.len() as u32)
 }
 
 /// The trial: the schedule's bytes, then on to the end. It refuses as Run does (READING 93).

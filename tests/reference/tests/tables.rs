@@ -1,11 +1,11 @@
 //! The tables written by hand, row by row.
 
 use generate::tables::plans::{self, Planned};
-use generate::tables::{arguments, data, looks, names, prints, runs, text_rows};
+use generate::tables::{arguments, data, forms, looks, names, pairs, prints, runs, text_rows};
 use generate::{lend, Rng};
 use reference::{
-    bounds, check, load, look, lrpd, name, plan, run, serial, stepped, trial, workspace_needed,
-    Answer, Refusal,
+    alike, bounds, check, load, look, lrpd, name, plan, print, printed, run, serial, stepped,
+    trial, workspace_needed, Answer, Refusal,
 };
 
 /// Reports all rows that differ, not just the first.
@@ -49,6 +49,7 @@ fn refused_texts_leave_everything_as_found() {
         let mut workspace = vec![5; 10];
         let mut view = vec![9; 6];
         let mut list = vec![8; 4];
+        let mut bytes = vec![7; 3000];
         let expected = check(&row.text).unwrap_err();
         assert_eq!(bounds(&row.text), Err(expected));
         assert_eq!(name(&row.text, b"a"), Err(expected));
@@ -65,9 +66,16 @@ fn refused_texts_leave_everything_as_found() {
             plan(&row.text, &cells, &mut workspace, &mut list).unwrap_err(),
             expected
         );
+        assert_eq!(print(&row.text, &mut bytes), Err(expected));
         assert_eq!(
-            (cells, workspace, view, list),
-            (vec![77; 3], vec![5; 10], vec![9; 6], vec![8; 4])
+            (cells, workspace, view, list, bytes),
+            (
+                vec![77; 3],
+                vec![5; 10],
+                vec![9; 6],
+                vec![8; 4],
+                vec![7; 3000]
+            )
         );
     }
 }
@@ -230,6 +238,40 @@ fn name_answers_as_the_table_says() {
 }
 
 #[test]
+fn print_answers_as_the_table_says() {
+    let mut wrong = Vec::new();
+    for row in forms::rows() {
+        let mut bytes = vec![7; row.room];
+        let answer = print(&row.text, &mut bytes);
+        let mut left = vec![7; row.room];
+        let expected = match row.expected {
+            Ok(form) => {
+                left[..form.len()].copy_from_slice(&form);
+                Ok(form.len() as u32)
+            }
+            Err((number, line)) => Err(Refusal { number, line, v: 0 }),
+        };
+        if answer != expected || bytes != left {
+            let bytes = bytes.escape_ascii();
+            wrong.push(format!("{}: {answer:?}, {bytes}", row.name));
+        }
+    }
+    assert_none(wrong);
+}
+
+/// By their forms and by walking their bytes.
+#[test]
+fn pairs_print_alike_as_the_table_says() {
+    for row in pairs::rows() {
+        let [one, other] = row.texts.each_ref().map(|text| printed(text).unwrap());
+        assert_eq!(one == other, row.alike, "{}", row.name);
+        let [one, other] = &row.texts;
+        assert_eq!(alike(one, other), row.alike, "{}", row.name);
+        assert_eq!(alike(other, one), row.alike, "{}", row.name);
+    }
+}
+
+#[test]
 fn lrpd_prints_what_the_table_says() {
     for (name, input, output) in prints::ROWS {
         let printed = String::from_utf8(lrpd(input.as_bytes())).expect("text");
@@ -295,8 +337,13 @@ fn the_tables_have_many_rows() {
         plans::rows().len(),
         names::name_rows().len(),
         names::bounds_rows().len(),
+        forms::rows().len(),
+        pairs::rows().len(),
     );
-    println!("texts, loads, runs, looks, prints, arguments, plans, names, bounds: {counts:?}");
+    println!(
+        "texts, loads, runs, looks, prints, arguments, plans, names, bounds, forms, pairs: {counts:?}"
+    );
     assert!(counts.0 > 2600 && counts.2 > 1100 && counts.3 > 480 && counts.5 > 40);
     assert!(counts.6 > 130 && counts.7 > 200 && counts.8 > 80);
+    assert!(counts.9 > 800 && counts.10 > 50);
 }

@@ -19,14 +19,18 @@ same-length c = search needs
 
 returns : tie.Need-returns
 unfolding printNumbers
-returns c = (ap printNumbers (sym (c .before .r .given .1) ∙ c .before .before .before .before .before .print .ensures .0), c .before .before .before .before .before .print .ensures .1)
+returns c =
+    let c5 = c .before .before .before .before .before in
+    (ap printNumbers (sym (c .before .r .given .1) ∙ c5 .print .ensures .0), c5 .print .ensures .1)
 
 same-length-2 : tie.Need-same-length-2
 same-length-2 c = search needs
 
 returns-2 : tie.Need-returns-2
 unfolding printNumbers
-returns-2 c = (ap printNumbers (sym (c .before .r2 .given .1) ∙ c .before .before .before .before .before .print .ensures .0), c .before .before .before .before .before .print .ensures .1)
+returns-2 c =
+    let c5 = c .before .before .before .before .before in
+    (ap printNumbers (sym (c .before .r2 .given .1) ∙ c5 .print .ensures .0), c5 .print .ensures .1)
 
 pub lrpd-print-spec : {M : Type 1} → statement M
 lrpd-print-spec =

@@ -25,9 +25,11 @@ same-length c = search needs
 
 returns : tie.Need-returns
 returns c =
-    let b = c .before .before .before .before .before .before .before .args .bytes .now in
-    let e = none-lent (c .before .before .before .put-lines .last .0) b (c .before .before .before .put-lines .kept .0) in
-    let q = form-refused (linesForm (c .before .before .before .before .before .before .before .args .s .now)) b (omega (arith, c .if1 .taken, c .before .before .before .put-lines .ensures .place, ap length e)) in
+    let c3 = c .before .before .before in
+    let c7 = c3 .before .before .before .before in
+    let b = c7 .args .bytes .now in
+    let e = none-lent (c3 .put-lines .last .0) b (c3 .put-lines .kept .0) in
+    let q = form-refused (linesForm (c7 .args .s .now)) b (omega (arith, c .if1 .taken, c3 .put-lines .ensures .place, ap length e)) in
     (q .0, e ∙ q .1)
 
 put-lines-requires-2 : tie.Need-put-lines-requires-2
@@ -41,10 +43,13 @@ same-length-2 c = search needs
 
 returns-2 : tie.Need-returns-2
 returns-2 c =
-    let b = c .before .before .before .before .before .before .before .before .before .before .before .args .bytes .now in
-    let e = none-lent (c .before .before .before .before .before .before .before .put-lines .last .0) b (c .before .before .before .before .before .before .before .put-lines .kept .0) in
-    let f = linesForm (c .before .before .before .before .before .before .before .before .before .before .before .args .s .now) in
-    form-given f b (omega (arith, c .before .before .before .before .if1 .left, c .before .before .before .before .before .before .before .put-lines .ensures .place, ap length e))
+    let c4 = c .before .before .before .before in
+    let c7 = c4 .before .before .before in
+    let c11 = c7 .before .before .before .before in
+    let b = c11 .args .bytes .now in
+    let e = none-lent (c7 .put-lines .last .0) b (c7 .put-lines .kept .0) in
+    let f = linesForm (c11 .args .s .now) in
+    form-given f b (omega (arith, c4 .if1 .left, c7 .put-lines .ensures .place, ap length e))
     (subst (λ (x : List ℕ). Writes x 0 f (c .before .before .put-lines2 .last .0) (c .before .before .put-lines2 .result)) e (c .before .before .put-lines2 .ensures))
 
 pub put-form-spec : {M : Type 1} → statement M

@@ -25,34 +25,76 @@ sub-put-line-of : tie.Need-sub-put-line-of Inv-loop μ-loop
 sub-put-line-of c = end-after _ _ _ (c .before .line-end .ensures) (c .before .before .before .loop .inv .1 .within)
 
 part-put-line-of-start : tie.Need-part-put-line-of-start Inv-loop μ-loop
-part-put-line-of-start c = omega (arith, end-within _ _ _ (c .before .line-end .ensures) (c .before .before .before .loop .inv .1 .within), end-after _ _ _ (c .before .line-end .ensures) (c .before .before .before .loop .inv .1 .within))
+part-put-line-of-start c =
+    omega (
+      arith,
+      end-within _ _ _ (c .before .line-end .ensures) (c .before .before .before .loop .inv .1 .within),
+      end-after _ _ _ (c .before .line-end .ensures) (c .before .before .before .loop .inv .1 .within),
+    )
 
 part-put-line-of-end : tie.Need-part-put-line-of-end Inv-loop μ-loop
-part-put-line-of-end c = omega (arith, end-within _ _ _ (c .before .line-end .ensures) (c .before .before .before .loop .inv .1 .within), end-after _ _ _ (c .before .line-end .ensures) (c .before .before .before .loop .inv .1 .within))
+part-put-line-of-end c =
+    omega (
+      arith,
+      end-within _ _ _ (c .before .line-end .ensures) (c .before .before .before .loop .inv .1 .within),
+      end-after _ _ _ (c .before .line-end .ensures) (c .before .before .before .loop .inv .1 .within),
+    )
 
 put-line-of-requires : tie.Need-put-line-of-requires Inv-loop μ-loop
 put-line-of-requires c κs =
-    let h = c .before .before .before .before .loop .inv .1 in
+    let c4 = c .before .before .before .before in
+    let c7 = c4 .before .before .before in
+    let h = c4 .loop .inv .1 in
     let en = c .before .before .line-end .ensures in
-    (this-short _ _ _ _ _ h (c .before .before .before .before .before .before .before .pre .2) _ en (c .before .before .before .before .before .before .before .pre .0), this-good _ _ _ _ _ h (c .before .before .before .before .before .before .before .pre .2) _ en, this-fits _ _ _ _ _ h (c .before .before .before .before .before .before .before .pre .2) _ en)
+    (this-short _ _ _ _ _ h (c7 .pre .2) _ en (c7 .pre .0), this-good _ _ _ _ _ h (c7 .pre .2) _ en, this-fits _ _ _ _ _ h (c7 .pre .2) _ en)
 
 add-if1 : tie.Need-add-if1 Inv-loop μ-loop
-add-if1 c = omega (arith, end-within _ _ _ (c .before .before .before .before .before .line-end .ensures) (c .before .before .before .before .before .before .before .loop .inv .1 .within), c .before .before .before .before .before .before .before .before .before .before .pre .0)
+add-if1 c =
+    let c5 = c .before .before .before .before .before in
+    let c7 = c5 .before .before in
+    let c10 = c7 .before .before .before in
+    omega (arith, end-within _ _ _ (c5 .line-end .ensures) (c7 .loop .inv .1 .within), c10 .pre .0)
 
 same-length : tie.Need-same-length Inv-loop μ-loop
-same-length c = writes-length (all-written _ _ _ _ _ (c .before .before .before .before .before .before .before .before .loop .inv .1) (c .before .before .before .before .before .before .before .before .before .before .before .pre .2) _ (c .before .before .before .before .before .before .line-end .ensures) (c .before .before .before .put-line-of .ensures) (omega (arith, c .if1 .taken, c .before .before .before .before .before .before .before .before .loop .inv .0)))
+same-length c =
+    let c3 = c .before .before .before in
+    let c6 = c3 .before .before .before in
+    let c8 = c6 .before .before in
+    let c11 = c8 .before .before .before in
+    writes-length
+    (all-written _ _ _ _ _ (c8 .loop .inv .1) (c11 .pre .2) _ (c6 .line-end .ensures) (c3 .put-line-of .ensures) (omega (arith, c .if1 .taken, c8 .loop .inv .0)))
 
 returns : tie.Need-returns Inv-loop μ-loop
-returns c = all-written _ _ _ _ _ (c .before .before .before .before .before .before .before .before .loop .inv .1) (c .before .before .before .before .before .before .before .before .before .before .before .pre .2) _ (c .before .before .before .before .before .before .line-end .ensures) (c .before .before .before .put-line-of .ensures) (omega (arith, c .if1 .taken, c .before .before .before .before .before .before .before .before .loop .inv .0))
+returns c =
+    let c3 = c .before .before .before in
+    let c6 = c3 .before .before .before in
+    let c8 = c6 .before .before in
+    let c11 = c8 .before .before .before in
+    all-written _ _ _ _ _ (c8 .loop .inv .1) (c11 .pre .2) _ (c6 .line-end .ensures) (c3 .put-line-of .ensures) (omega (arith, c .if1 .taken, c8 .loop .inv .0))
 
 add-at : tie.Need-add-at Inv-loop μ-loop
-add-at c = omega (arith, end-within _ _ _ (c .before .before .before .before .before .before .line-end .ensures) (c .before .before .before .before .before .before .before .before .loop .inv .1 .within), c .before .before .before .before .before .before .before .before .before .before .before .pre .0)
+add-at c =
+    let c6 = c .before .before .before .before .before .before in
+    let c8 = c6 .before .before in
+    let c11 = c8 .before .before .before in
+    omega (arith, end-within _ _ _ (c6 .line-end .ensures) (c8 .loop .inv .1 .within), c11 .pre .0)
 
 loop-less : tie.Need-loop-less Inv-loop μ-loop
-loop-less c = omega (arith, end-after _ _ _ (c .before .before .before .before .before .before .line-end .ensures) (c .before .before .before .before .before .before .before .before .loop .inv .1 .within), c .before .before .before .before .before .before .before .before .loop .inv .1 .within)
+loop-less c =
+    let c6 = c .before .before .before .before .before .before in
+    let c8 = c6 .before .before in
+    omega (arith, end-after _ _ _ (c6 .line-end .ensures) (c8 .loop .inv .1 .within), c8 .loop .inv .1 .within)
 
 loop-again : tie.Need-loop-again Inv-loop μ-loop
-loop-again c = (c .before .before .before .before .before .before .before .before .loop .inv .0, reached-more _ _ _ _ _ (c .before .before .before .before .before .before .before .before .loop .inv .1) (c .before .before .before .before .before .before .before .before .before .before .before .pre .2) _ (c .before .before .before .before .before .before .line-end .ensures) (c .before .before .before .put-line-of .ensures) (omega (arith, c .if1 .left, c .before .before .before .before .before .before .before .before .loop .inv .0)))
+loop-again c =
+    let c3 = c .before .before .before in
+    let c6 = c3 .before .before .before in
+    let c8 = c6 .before .before in
+    let c11 = c8 .before .before .before in (
+      c8 .loop .inv .0,
+      reached-more _ _ _ _ _ (c8 .loop .inv .1) (c11 .pre .2) _ (c6 .line-end .ensures) (c3 .put-line-of .ensures)
+          (omega (arith, c .if1 .left, c8 .loop .inv .0)),
+    )
 
 same-length-2 : tie.Need-same-length-2 Inv-loop μ-loop
 same-length-2 c = writes-length (c .before .loop .inv .1 .along .writes)

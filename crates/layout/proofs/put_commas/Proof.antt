@@ -1,11 +1,10 @@
 -- `layout::put_commas` meets its contract: k copies are written, the first of them before.
-use mathlib.Core.Path.{sym}
-use Prim.Native.Nat.{_+_, _-_, _≤_}
+use Prim.Native.Nat.{_-_, _≤_}
 use native.Mathlib.Omega.{arith}
 use lib.ListN.{drop}
 use Rattle.syntax.specs.Bytes.{tokens}
 use Rattle.writing.specs.Written.{blanked}
-use Rattle.writing.proofs.Writing.{writes-length, fits-first, Along, along-none, along-more, along-all, along-fits}
+use Rattle.writing.proofs.Writing.{writes-length, Along, along-none, along-more, along-all, along-fits}
 use Rattle.layout.specs.Copied.{signed, commas}
 use Rattle.layout.proofs.Copying.{blanked-commas, commas-room, no-commas}
 use borrow.Author.Needs.{needs}
@@ -24,7 +23,12 @@ loop-holds : tie.Need-loop-holds Inv-loop μ-loop
 loop-holds c = (omega arith, along-none _ _ _)
 
 put-after-comma-requires : tie.Need-put-after-comma-requires Inv-loop μ-loop
-put-after-comma-requires c κs = (c .before .before .before .before .before .pre .0, commas-room (c .before .before .loop .p) (c .before .before .loop .k) (c .before .before .before .before .before .args .copies) _ (omega arith) (along-fits (c .before .before .before .before .before .pre .1) (c .before .before .loop .inv .1)))
+put-after-comma-requires c κs =
+    let c5 = c .before .before .before .before .before in (
+      c5 .pre .0,
+      commas-room (c .before .before .loop .p) (c .before .before .loop .k) (c5 .args .copies) _ (omega arith)
+          (along-fits (c5 .pre .1) (c .before .before .loop .inv .1)),
+    )
 
 add-k : tie.Need-add-k Inv-loop μ-loop
 add-k c = search needs
@@ -33,13 +37,20 @@ loop-less : tie.Need-loop-less Inv-loop μ-loop
 loop-less c = search needs
 
 loop-again : tie.Need-loop-again Inv-loop μ-loop
-loop-again c = (omega arith, along-more _ _ (blanked-commas (c .before .before .before .before .before .loop .k) (c .before .before .before .before .before .before .before .before .args .copies) _ (omega arith)) (c .before .before .before .before .before .loop .inv .1) (c .before .before .put-after-comma .ensures))
+loop-again c =
+    let c5 = c .before .before .before .before .before in
+    let c8 = c5 .before .before .before in (
+      omega arith,
+      along-more _ _ (blanked-commas (c5 .loop .k) (c8 .args .copies) _ (omega arith)) (c5 .loop .inv .1) (c .before .before .put-after-comma .ensures),
+    )
 
 same-length : tie.Need-same-length Inv-loop μ-loop
 same-length c = writes-length (c .before .loop .inv .1 .writes)
 
 returns : tie.Need-returns Inv-loop μ-loop
-returns c = along-all (no-commas (c .before .loop .k) (c .before .before .before .before .args .copies) _ (omega arith)) (c .before .loop .inv .1)
+returns c =
+    let c4 = c .before .before .before .before in
+    along-all (no-commas (c .before .loop .k) (c4 .args .copies) _ (omega arith)) (c .before .loop .inv .1)
 
 pub put-commas-spec : {M : Type 1} → statement M
 put-commas-spec =

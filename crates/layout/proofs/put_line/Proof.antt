@@ -9,22 +9,37 @@ token-requires c κs = search needs
 
 put-token-requires : tie.Need-put-token-requires
 put-token-requires c κs =
+    let c4 = c .before .before .before .before in
     let l = c .before .token .ensures in
-    (l .order, l .within, line-first (c .before .before .before .before .args .s .now) _ l (c .before .before .before .before .args .copying) (c .before .before .before .before .args .to) (c .before .before .before .before .pre .1))
+    (l .order, l .within, line-first (c4 .args .s .now) _ l (c4 .args .copying) (c4 .args .to) (c4 .pre .1))
 
 put-rest-requires : tie.Need-put-rest-requires
 put-rest-requires c κs =
-    let l = c .before .before .before .before .before .token .ensures in
-    (c .before .before .before .before .before .before .before .before .pre .0, l .within, line-rest (c .before .before .before .before .before .before .before .before .args .s .now) _ l (c .before .before .before .before .before .before .before .before .args .copying) (c .before .before .before .before .before .before .before .before .pre .1) (c .before .before .before .put-token .ensures))
+    let c3 = c .before .before .before in
+    let c5 = c3 .before .before in
+    let c8 = c5 .before .before .before in
+    let l = c5 .token .ensures in
+    (c8 .pre .0, l .within, line-rest (c8 .args .s .now) _ l (c8 .args .copying) (c8 .pre .1) (c3 .put-token .ensures))
 
 put-requires : tie.Need-put-requires
-put-requires c κs = line-newline (c .before .before .before .before .before .before .before .before .before .before .before .before .args .s .now) _ (c .before .before .before .before .before .before .before .before .before .token .ensures) (c .before .before .before .before .before .before .before .before .before .before .before .before .args .copying) (c .before .before .before .before .before .before .before .before .before .before .before .before .pre .1) (c .before .before .before .before .before .before .before .put-token .ensures) (c .before .before .before .put-rest .ensures)
+put-requires c κs =
+    let c3 = c .before .before .before in
+    let c7 = c3 .before .before .before .before in
+    let c9 = c7 .before .before in
+    let c12 = c9 .before .before .before in
+    line-newline (c12 .args .s .now) _ (c9 .token .ensures) (c12 .args .copying) (c12 .pre .1) (c7 .put-token .ensures) (c3 .put-rest .ensures)
 
 same-length : tie.Need-same-length
 same-length c = search needs
 
 returns : tie.Need-returns
-returns c = line-written (c .before .before .before .before .before .before .before .before .before .before .before .before .before .before .before .args .s .now) _ (c .before .before .before .before .before .before .before .before .before .before .before .before .token .ensures) (c .before .before .before .before .before .before .before .before .before .before .before .before .before .before .before .args .copying) (c .before .before .before .before .before .before .before .before .before .before .before .before .before .before .before .pre .1) (c .before .before .before .before .before .before .before .before .before .before .put-token .ensures) (c .before .before .before .before .before .before .put-rest .ensures) (c .before .before .put .ensures)
+returns c =
+    let c6 = c .before .before .before .before .before .before in
+    let c10 = c6 .before .before .before .before in
+    let c12 = c10 .before .before in
+    let c15 = c12 .before .before .before in
+    line-written (c15 .args .s .now) _ (c12 .token .ensures) (c15 .args .copying) (c15 .pre .1) (c10 .put-token .ensures) (c6 .put-rest .ensures)
+    (c .before .before .put .ensures)
 
 pub put-line-spec : {M : Type 1} → statement M
 put-line-spec =

@@ -9,22 +9,38 @@ repeat-at-requires : tie.Need-repeat-at-requires
 repeat-at-requires c κs = search needs
 
 put-copies-requires : tie.Need-put-copies-requires
-put-copies-requires c κs = (c .before .if1 .taken, found-room (c .before .before .before .before .before .before .args .s .now) (c .before .before .before .before .before .before .args .at) _ (c .before .before .before .before .before .before .args .copying) (c .before .before .before .repeat-at .ensures) (c .before .if1 .taken) (c .before .before .before .before .before .before .args .to) (c .before .before .before .before .before .before .pre .2))
+put-copies-requires c κs =
+    let c3 = c .before .before .before in
+    let c6 = c3 .before .before .before in (
+      c .before .if1 .taken,
+      found-room (c6 .args .s .now) (c6 .args .at) _ (c6 .args .copying) (c3 .repeat-at .ensures) (c .before .if1 .taken) (c6 .args .to) (c6 .pre .2),
+    )
 
 same-length : tie.Need-same-length
 same-length c = search needs
 
 returns : tie.Need-returns
-returns c = found-moves (c .before .before .before .before .before .before .before .before .before .args .s .now) (c .before .before .before .before .before .before .before .before .before .args .at) _ (c .before .before .before .before .before .before .before .before .before .args .copying) (c .before .before .before .before .before .before .repeat-at .ensures) (c .before .before .before .before .if1 .taken) (c .before .before .before .before .before .before .before .before .before .pre .2) (c .before .before .put-copies .ensures)
+returns c =
+    let c4 = c .before .before .before .before in
+    let c6 = c4 .before .before in
+    let c9 = c6 .before .before .before in
+    found-moves (c9 .args .s .now) (c9 .args .at) _ (c9 .args .copying) (c6 .repeat-at .ensures) (c4 .if1 .taken) (c9 .pre .2)
+    (c .before .before .put-copies .ensures)
 
 put-next-requires : tie.Need-put-next-requires
-put-next-requires c κs = (c .before .before .before .before .before .before .pre .1, plain-room (c .before .before .before .before .before .before .args .s .now) (c .before .before .before .before .before .before .args .at) _ (c .before .before .before .before .before .before .args .copying) (c .before .before .before .repeat-at .ensures) (omega arith) (c .before .before .before .before .before .before .args .to) (c .before .before .before .before .before .before .pre .2))
+put-next-requires c κs =
+    let c3 = c .before .before .before in
+    let c6 = c3 .before .before .before in
+    (c6 .pre .1, plain-room (c6 .args .s .now) (c6 .args .at) _ (c6 .args .copying) (c3 .repeat-at .ensures) (omega arith) (c6 .args .to) (c6 .pre .2))
 
 same-length-2 : tie.Need-same-length-2
 same-length-2 c = search needs
 
 returns-2 : tie.Need-returns-2
-returns-2 c = plain-moves (c .before .before .before .before .before .before .before .before .before .args .s .now) (c .before .before .before .before .before .before .before .before .before .args .at) _ (c .before .before .before .before .before .before .before .before .before .args .copying) (c .before .before .before .before .before .before .repeat-at .ensures) (omega arith) (c .before .before .put-next .ensures)
+returns-2 c =
+    let c6 = c .before .before .before .before .before .before in
+    let c9 = c6 .before .before .before in
+    plain-moves (c9 .args .s .now) (c9 .args .at) _ (c9 .args .copying) (c6 .repeat-at .ensures) (omega arith) (c .before .before .put-next .ensures)
 
 pub put-part-spec : {M : Type 1} → statement M
 put-part-spec =

@@ -23,24 +23,35 @@ loop-holds : tie.Need-loop-holds Inv-loop μ-loop
 loop-holds c = (c .before .before .pre .1, along-none _ _ _)
 
 put-part-requires : tie.Need-put-part-requires Inv-loop μ-loop
-put-part-requires c κs = (c .before .before .before .before .before .pre .0, c .before .before .loop .inv .0, spread-room (c .before .before .loop .p) (c .before .before .before .before .before .args .copying) (tokens (drop (c .before .before .loop .i) (c .before .before .before .before .before .args .s .now))) (along-fits (c .before .before .before .before .before .pre .2) (c .before .before .loop .inv .1)))
+put-part-requires c κs =
+    let c5 = c .before .before .before .before .before in (
+      c5 .pre .0,
+      c .before .before .loop .inv .0,
+      spread-room (c .before .before .loop .p) (c5 .args .copying) (tokens (drop (c .before .before .loop .i) (c5 .args .s .now)))
+          (along-fits (c5 .pre .2) (c .before .before .loop .inv .1)),
+    )
 
 loop-less : tie.Need-loop-less Inv-loop μ-loop
 loop-less c = omega (arith, c .before .before .put-part .ensures .onward (omega arith), c .before .before .put-part .ensures .within)
 
 loop-again : tie.Need-loop-again Inv-loop μ-loop
 loop-again c =
-    let s = c .before .before .before .before .before .before .before .before .args .s .now in
-    let d = c .before .before .before .before .before .before .before .before .args .copying in
-    let ts = tokens (drop (c .before .before .before .before .before .loop .i) s) in
+    let c5 = c .before .before .before .before .before in
+    let c8 = c5 .before .before .before in
+    let s = c8 .args .s .now in
+    let d = c8 .args .copying in
+    let ts = tokens (drop (c5 .loop .i) s) in
     let m = c .before .before .put-part .ensures in
-    (m .within, along-more _ _ (blanked-spread d ts ∙ ap (λ (us : List Token). blanked (front d ts) ++ blanked (spread d us)) (sym (m .left))) (c .before .before .before .before .before .loop .inv .1) (m .writes))
+    let e = blanked-spread d ts ∙ ap (λ (us : List Token). blanked (front d ts) ++ blanked (spread d us)) (sym (m .left)) in
+    (m .within, along-more _ _ e (c5 .loop .inv .1) (m .writes))
 
 same-length : tie.Need-same-length Inv-loop μ-loop
 same-length c = writes-length (c .before .loop .inv .1 .writes)
 
 returns : tie.Need-returns Inv-loop μ-loop
-returns c = along-all (none-left (c .before .before .before .before .args .copying) (c .before .before .before .before .args .s .now) (c .before .loop .i) (omega arith)) (c .before .loop .inv .1)
+returns c =
+    let c4 = c .before .before .before .before in
+    along-all (none-left (c4 .args .copying) (c4 .args .s .now) (c .before .loop .i) (omega arith)) (c .before .loop .inv .1)
 
 pub put-rest-spec : {M : Type 1} → statement M
 put-rest-spec =

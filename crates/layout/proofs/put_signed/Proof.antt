@@ -11,7 +11,9 @@ token-requires : tie.Need-token-requires
 token-requires c κs = search needs
 
 put-next-requires : tie.Need-put-next-requires
-put-next-requires c κs = (c .before .before .before .before .pre .0, signed-first (c .before .before .before .before .args .to) (tokens (drop (c .before .before .before .before .args .at) (c .before .before .before .before .args .s .now))) (c .before .before .before .before .pre .1))
+put-next-requires c κs =
+    let c4 = c .before .before .before .before in
+    (c4 .pre .0, signed-first (c4 .args .to) (tokens (drop (c4 .args .at) (c4 .args .s .now))) (c4 .pre .1))
 
 same-kind-requires : tie.Need-same-kind-requires
 same-kind-requires c κs = search needs
@@ -20,16 +22,35 @@ same-length : tie.Need-same-length
 same-length c = search needs
 
 returns : tie.Need-returns
-returns c = signed-one (digits-first (c .before .before .before .before .before .before .before .before .before .args .s .now) (c .before .before .before .before .before .before .before .before .before .args .at) _ _ (c .before .before .before .before .before .before .token .ensures) (c .before .same-kind .ensures) ∙ c .if1 .taken) (c .before .before .before .before .put-next .ensures)
+returns c =
+    let c4 = c .before .before .before .before in
+    let c6 = c4 .before .before in
+    let c9 = c6 .before .before .before in
+    signed-one (digits-first (c9 .args .s .now) (c9 .args .at) _ _ (c6 .token .ensures) (c .before .same-kind .ensures) ∙ c .if1 .taken) (c4 .put-next .ensures)
 
 put-next-requires-2 : tie.Need-put-next-requires-2
-put-next-requires-2 c κs = (c .before .before .before .before .before .put-next .ensures .within, signed-second (digits-first (c .before .before .before .before .before .before .before .before .before .before .args .s .now) (c .before .before .before .before .before .before .before .before .before .before .args .at) _ _ (c .before .before .before .before .before .before .before .token .ensures) (c .before .before .same-kind .ensures) ∙ c .before .if1 .left) (c .before .before .before .before .before .before .before .before .before .before .pre .1) (c .before .before .before .before .before .put-next .ensures))
+put-next-requires-2 c κs =
+    let c5 = c .before .before .before .before .before in
+    let c7 = c5 .before .before in
+    let c10 = c7 .before .before .before in (
+      c5 .put-next .ensures .within,
+      signed-second
+          (digits-first (c10 .args .s .now) (c10 .args .at) _ _ (c7 .token .ensures) (c .before .before .same-kind .ensures) ∙ c .before .if1 .left)
+          (c10 .pre .1) (c5 .put-next .ensures),
+    )
 
 same-length-2 : tie.Need-same-length-2
 same-length-2 c = search needs
 
 returns-2 : tie.Need-returns-2
-returns-2 c = signed-two (digits-first (c .before .before .before .before .before .before .before .before .before .before .before .before .before .args .s .now) (c .before .before .before .before .before .before .before .before .before .before .before .before .before .args .at) _ _ (c .before .before .before .before .before .before .before .before .before .before .token .ensures) (c .before .before .before .before .before .same-kind .ensures) ∙ c .before .before .before .before .if1 .left) (c .before .before .before .before .before .before .before .before .put-next .ensures) (c .before .before .put-next2 .ensures)
+returns-2 c =
+    let c4 = c .before .before .before .before in
+    let c5 = c4 .before in
+    let c8 = c5 .before .before .before in
+    let c10 = c8 .before .before in
+    let c13 = c10 .before .before .before in
+    signed-two (digits-first (c13 .args .s .now) (c13 .args .at) _ _ (c10 .token .ensures) (c5 .same-kind .ensures) ∙ c4 .if1 .left)
+    (c8 .put-next .ensures) (c .before .before .put-next2 .ensures)
 
 pub put-signed-spec : {M : Type 1} → statement M
 put-signed-spec =

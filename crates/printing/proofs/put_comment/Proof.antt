@@ -3,7 +3,7 @@ use mathlib.Core.Path.{_≡_, sym, _∙_, ap}
 use mir.Syntax.{w32}
 use mir.Val.{toZ, ofZ}
 use Rattle.printing.specs.Printed.{refusal, comment}
-use Rattle.printing.proofs.Writing.{writes-as}
+use Rattle.writing.proofs.Writing.{writes-as}
 use borrow.Author.Needs.{needs}
 use Rattle.printing.proofs.put_comment.Statement.{statement}
 use Rattle.printing.proofs.put_comment.Tie as tie

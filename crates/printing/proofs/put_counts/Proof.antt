@@ -1,5 +1,6 @@
 -- `printing::put_counts` meets its contract.
-use Rattle.printing.proofs.Writing.{writes-then, digits-few}
+use Rattle.writing.proofs.Writing.{writes-then}
+use Rattle.printing.proofs.Writing.{digits-few}
 use native.Mathlib.Omega.{arith}
 use borrow.Author.Needs.{needs}
 use Rattle.printing.proofs.put_counts.Statement.{statement}

@@ -1,7 +1,7 @@
 -- `printing::put_data_lines` meets its contract: the lines of the first i names stand in the buffer.
 use Prim.Native.Nat.{_-_, _≤_, _<_}
 use lib.ListN.{length}
-use Rattle.printing.specs.Written.{Writes}
+use Rattle.writing.specs.Written.{Writes}
 use Rattle.printing.proofs.Lines.{linesAt, lines-none, lines-more, lines-all, named, cells-held, room}
 use native.Mathlib.Omega.{arith}
 use borrow.Author.Needs.{needs}

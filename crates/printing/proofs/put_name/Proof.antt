@@ -2,7 +2,7 @@
 use Prim.Native.Nat.{_+_, _-_, _≤_}
 use Rattle.rules.specs.Cells.{listed}
 use Rattle.names.specs.Table.{wordAt}
-use Rattle.printing.specs.Written.{Writes}
+use Rattle.writing.specs.Written.{Writes}
 use Rattle.printing.proofs.Lines.{name-none, name-more, name-all}
 use native.Mathlib.Omega.{arith}
 use borrow.Author.Needs.{needs}

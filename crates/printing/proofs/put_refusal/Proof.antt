@@ -1,5 +1,6 @@
 -- `printing::put_refusal` meets its contract.
-use Rattle.printing.proofs.Writing.{writes-then, digits-few, signed-few, signed-seen}
+use Rattle.writing.proofs.Writing.{writes-then}
+use Rattle.printing.proofs.Writing.{digits-few, signed-few, signed-seen}
 use native.Mathlib.Omega.{arith}
 use borrow.Author.Needs.{needs}
 use Rattle.printing.proofs.put_refusal.Statement.{statement}

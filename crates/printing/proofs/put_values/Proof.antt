@@ -6,7 +6,7 @@ use lib.IntN.{pos}
 use mir.Syntax.{w32}
 use mir.Val.{toZ, ofZ}
 use Rattle.printing.specs.Printed.{values}
-use Rattle.printing.specs.Written.{Writes}
+use Rattle.writing.specs.Written.{Writes}
 use Rattle.printing.proofs.Writing.{values-none, values-more, values-all, values-reach}
 use native.Mathlib.Omega.{arith}
 use borrow.Author.Needs.{needs}

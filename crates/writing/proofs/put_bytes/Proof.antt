@@ -24,8 +24,10 @@ shared-slice-read-put c = search needs
 
 put-requires : tie.Need-put-requires Inv-loop μ-loop
 put-requires c κs =
-    let l = c .before .before .before .loop in
-    omega (arith, along-fits (c .before .before .before .before .before .before .pre) (l .inv .1), length-drop (l .k) (c .before .before .before .before .before .before .args .s .now))
+    let c3 = c .before .before .before in
+    let c6 = c3 .before .before .before in
+    let l = c3 .loop in
+    omega (arith, along-fits (c6 .pre) (l .inv .1), length-drop (l .k) (c6 .args .s .now))
 
 add-k : tie.Need-add-k Inv-loop μ-loop
 add-k c = search needs
@@ -35,18 +37,22 @@ loop-less c = search needs
 
 loop-again : tie.Need-loop-again Inv-loop μ-loop
 loop-again c =
-    let l = c .before .before .before .before .before .before .loop in
-    let s = c .before .before .before .before .before .before .before .before .before .args .s .now in
+    let c6 = c .before .before .before .before .before .before in
+    let c9 = c6 .before .before .before in
+    let l = c6 .loop in
+    let s = c9 .args .s .now in
     let e : suc (l .k) ≡ l .k + 1 = omega arith in
-    (omega arith, along-more (getD s (l .k) 0 ∷ []) (drop (l .k + 1) s) (drop-cons s (l .k) 0 (omega arith) ∙ ap (λ (n : ℕ). getD s (l .k) 0 ∷ drop n s) e) (l .inv .1) (c .before .before .put .ensures))
+    let f = drop-cons s (l .k) 0 (omega arith) ∙ ap (λ (n : ℕ). getD s (l .k) 0 ∷ drop n s) e in
+    (omega arith, along-more (getD s (l .k) 0 ∷ []) (drop (l .k + 1) s) f (l .inv .1) (c .before .before .put .ensures))
 
 same-length : tie.Need-same-length Inv-loop μ-loop
 same-length c = writes-length (c .before .loop .inv .1 .writes)
 
 returns : tie.Need-returns Inv-loop μ-loop
 returns c =
+    let c4 = c .before .before .before .before in
     let l = c .before .loop in
-    along-all (drop-of-length-le (c .before .before .before .before .args .s .now) {i = l .k} (omega arith)) (l .inv .1)
+    along-all (drop-of-length-le (c4 .args .s .now) {i = l .k} (omega arith)) (l .inv .1)
 
 pub put-bytes-spec : {M : Type 1} → statement M
 put-bytes-spec =

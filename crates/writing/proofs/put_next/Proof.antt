@@ -16,22 +16,44 @@ same-kind-requires : tie.Need-same-kind-requires
 same-kind-requires c κs = search needs
 
 returns : tie.Need-returns
-returns c = next-none (c .before .before .before .before .before .args .out .now) (c .before .before .before .before .before .args .to) (c .before .before .before .before .before .args .s .now) (c .before .before .before .before .before .args .at) _ (c .before .before .token .ensures) (eqb-true _ _ (sym (c .before .same-kind .ensures) ∙ c .if1 .taken)) (writes-none _ _)
+returns c =
+    let c5 = c .before .before .before .before .before in
+    next-none (c5 .args .out .now) (c5 .args .to) (c5 .args .s .now) (c5 .args .at) _ (c .before .before .token .ensures)
+    (eqb-true _ _ (sym (c .before .same-kind .ensures) ∙ c .if1 .taken)) (writes-none _ _)
 
 put-requires : tie.Need-put-requires
-put-requires c κs = omega (arith, ap length (told-next (c .before .before .before .before .before .before .args .s .now) (c .before .before .before .before .before .before .args .at) _ (c .before .before .before .token .ensures) (eqb-false _ _ (sym (c .before .before .same-kind .ensures) ∙ c .before .if1 .left))), c .before .before .before .before .before .before .pre .1)
+put-requires c κs =
+    let c3 = c .before .before .before in
+    let c6 = c3 .before .before .before in
+    omega (
+      arith,
+      ap length (told-next (c6 .args .s .now) (c6 .args .at) _ (c3 .token .ensures) (eqb-false _ _ (sym (c .before .before .same-kind .ensures) ∙ c .before .if1 .left))),
+      c6 .pre .1,
+    )
 
 put-token-requires : tie.Need-put-token-requires
 put-token-requires c κs =
-    let l = c .before .before .before .before .before .before .before .token .ensures in
-    let e = told-next (c .before .before .before .before .before .before .before .before .before .before .args .s .now) (c .before .before .before .before .before .before .before .before .before .before .args .at) _ l (eqb-false _ _ (sym (c .before .before .before .before .before .before .same-kind .ensures) ∙ c .before .before .before .before .before .if1 .left)) in
-    (l .order, l .within, omega (arith, ap length e, c .before .before .before .put .ensures .place, c .before .before .before .before .before .before .before .before .before .before .pre .1))
+    let c3 = c .before .before .before in
+    let c5 = c3 .before .before in
+    let c6 = c5 .before in
+    let c7 = c6 .before in
+    let c10 = c7 .before .before .before in
+    let l = c7 .token .ensures in
+    let e = told-next (c10 .args .s .now) (c10 .args .at) _ l (eqb-false _ _ (sym (c6 .same-kind .ensures) ∙ c5 .if1 .left)) in
+    (l .order, l .within, omega (arith, ap length e, c3 .put .ensures .place, c10 .pre .1))
 
 same-length : tie.Need-same-length
 same-length c = search needs
 
 returns-2 : tie.Need-returns-2
-returns-2 c = next-some (c .before .before .before .before .before .before .before .before .before .before .before .before .before .args .out .now) (c .before .before .before .before .before .before .before .before .before .before .before .before .before .args .to) (c .before .before .before .before .before .before .before .before .before .before .before .before .before .args .s .now) (c .before .before .before .before .before .before .before .before .before .before .before .before .before .args .at) _ (c .before .before .before .before .before .before .before .before .before .before .token .ensures) (eqb-false _ _ (sym (c .before .before .before .before .before .before .before .before .before .same-kind .ensures) ∙ c .before .before .before .before .before .before .before .before .if1 .left)) _ _ (writes-then (c .before .before .before .before .before .before .put .ensures) (c .before .before .put-token .ensures))
+returns-2 c =
+    let c6 = c .before .before .before .before .before .before in
+    let c8 = c6 .before .before in
+    let c9 = c8 .before in
+    let c10 = c9 .before in
+    let c13 = c10 .before .before .before in
+    next-some (c13 .args .out .now) (c13 .args .to) (c13 .args .s .now) (c13 .args .at) _ (c10 .token .ensures)
+    (eqb-false _ _ (sym (c9 .same-kind .ensures) ∙ c8 .if1 .left)) _ _ (writes-then (c6 .put .ensures) (c .before .before .put-token .ensures))
 
 pub put-next-spec : {M : Type 1} → statement M
 put-next-spec =

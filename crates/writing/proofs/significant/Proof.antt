@@ -1,6 +1,6 @@
 -- `writing::significant` meets its contract: the digits from i on are the same without their leading zeros.
-use mathlib.Core.Path.{_≡_, refl, sym, _∙_, ap}
-use Prim.Native.Nat.{_+_, _-_, _≤_}
+use mathlib.Core.Path.{_≡_, refl, sym, _∙_}
+use Prim.Native.Nat.{_-_, _≤_}
 use native.Mathlib.Omega.{arith}
 use Rattle.lexer.specs.Lex.{part}
 use Rattle.printed.specs.Form.{shortest}
@@ -25,7 +25,10 @@ shared-slice-read-if1 : tie.Need-shared-slice-read-if1 Inv-loop μ-loop
 shared-slice-read-if1 c = search needs
 
 returns : tie.Need-returns Inv-loop μ-loop
-returns c = (omega arith, omega arith, zero-not (c .before .before .before .before .args .s .now) (c .before .before .before .loop .i) (c .before .before .before .before .args .e) (omega arith) (omega arith) (c .if1 .taken) ∙ c .before .before .before .loop .inv .2)
+returns c =
+    let c3 = c .before .before .before in
+    let c4 = c3 .before in
+    (omega arith, omega arith, zero-not (c4 .args .s .now) (c3 .loop .i) (c4 .args .e) (omega arith) (omega arith) (c .if1 .taken) ∙ c3 .loop .inv .2)
 
 add-i : tie.Need-add-i Inv-loop μ-loop
 add-i c = search needs
@@ -34,10 +37,17 @@ loop-less : tie.Need-loop-less Inv-loop μ-loop
 loop-less c = search needs
 
 loop-again : tie.Need-loop-again Inv-loop μ-loop
-loop-again c = (omega arith, omega arith, sym (zero-gone (c .before .before .before .before .args .s .now) (c .before .before .before .loop .i) (c .before .before .before .before .args .e) (omega arith) (omega arith) (c .if1 .left)) ∙ c .before .before .before .loop .inv .2)
+loop-again c =
+    let c3 = c .before .before .before in
+    let c4 = c3 .before in
+    (omega arith, omega arith, sym (zero-gone (c4 .args .s .now) (c3 .loop .i) (c4 .args .e) (omega arith) (omega arith) (c .if1 .left)) ∙ c3 .loop .inv .2)
 
 returns-2 : tie.Need-returns-2 Inv-loop μ-loop
-returns-2 c = (omega arith, omega arith, digit-last (c .before .before .args .s .now) (c .before .loop .i) (c .before .before .args .e) (omega arith) ∙ c .before .loop .inv .2)
+returns-2 c = (
+  omega arith,
+  omega arith,
+  digit-last (c .before .before .args .s .now) (c .before .loop .i) (c .before .before .args .e) (omega arith) ∙ c .before .loop .inv .2,
+)
 
 pub significant-spec : {M : Type 1} → statement M
 significant-spec =
