@@ -1,15 +1,15 @@
--- Laws of the tokens of a line as they are printed: what comes next, copies, and what the code finds of `r*`.
+-- Laws of the tokens of a line as they are printed: what comes next, what the code finds of `r*`, and the whole line.
 use mathlib.Core.Path.{_≡_, refl, sym, _∙_, ap, subst}
 use mathlib.Core.Bool.{Bool, true, false, cond, _&&_}
-use mathlib.Core.List.{List, [], _∷_, _++_, append-nil, append-assoc}
+use mathlib.Core.List.{List, [], _∷_, _++_, append-assoc}
 use Prim.Native.Nat.{ℕ, zero, suc, _+_, _-_, _≤_, _<_, min}
 use native.Mathlib.Omega.{arith}
 use lib.Dec.{eqb}
-use lib.ListN.{length, take, drop, length-append, drop-of-length-le}
+use lib.ListN.{length, take, drop, drop-of-length-le}
 use lib.Seq.{drop-drop}
 use mathlib.Core.Option.{Option}
 use Rattle.syntax.specs.Bytes.{choose, same, bytes, Token, tokens, tokens-after, bytesOf}
-use Rattle.syntax.specs.Grammar.{number, sg}
+use Rattle.syntax.specs.Grammar.{number}
 use Rattle.syntax.specs.Reader.{broken, done, kind, text, first, rest, readDigits, peek-in, skip-in}
 use Rattle.syntax.proofs.Places.{peek-tokens, skip-tokens}
 use Rattle.lexer.specs.declared.Tok.{Tok}
@@ -20,9 +20,10 @@ use Rattle.printed.specs.Form.{after-blanks}
 use Rattle.writing.specs.declared.Moved.{Moved}
 use Rattle.writing.specs.Written.{Writes, Fits, told, blanked, Moves}
 use Rattle.writing.proofs.Writing.{writes-then, writes-as, fits-first, fits-then}
-use Rattle.writing.proofs.TokenBytes.{blanked-append, rest-drop, tokens-left, token-told, moves-then, moves-as}
+use Rattle.writing.proofs.TokenBytes.{blanked-append, rest-drop, tokens-left, token-told, moves-as}
 use Rattle.layout.specs.declared.Repeat.{Repeat}
-use Rattle.layout.specs.Copied.{signed-size, signed, after-signed, commas, listed, repeats, front, back, spread-after, spread, line-bytes, Starred, Repeats}
+use Rattle.layout.specs.Copied.{signed-size, after-signed, listed, repeats, front, back, spread-after, spread, line-bytes, Starred, Repeats}
+use Rattle.layout.proofs.Literals.{listed-long}
 
 -- ---- what comes next
 
@@ -49,101 +50,6 @@ spread-front d (t ∷ ts) = go (repeats d (t ∷ ts))
         ap (λ (us : List Token). listed (number (bytesOf t)) (drop 1 ts) ++ us)
         (spread-drop d (suc k) ts ∙ ap (λ (n : ℕ). spread d (drop n ts)) e ∙ ap (spread d) (sym (drop-drop k 1 ts)))
     go false = refl
-
--- ---- copies
-
-commas-more : (n : ℕ) (xs : List Token) → commas (suc n) xs ≡ commas 1 xs ++ commas n xs
-unfolding commas
-commas-more n xs = ap (λ (ys : List Token). sg "," ++ ys) (ap (λ (ys : List Token). ys ++ commas n xs) (sym (append-nil xs)))
-
--- one copy more
-pub blanked-commas : (k n : ℕ) (xs : List Token) → k < n → blanked (commas (n - k) xs) ≡ blanked (commas 1 xs) ++ blanked (commas (n - (k + 1)) xs)
-blanked-commas k n xs h =
-    let e : n - k ≡ suc (n - (k + 1)) = omega arith in
-    ap (λ (m : ℕ). blanked (commas m xs)) e ∙ ap blanked (commas-more (n - (k + 1)) xs) ∙ blanked-append (commas 1 xs) (commas (n - (k + 1)) xs)
-
-pub commas-room : (to k n : ℕ) (xs : List Token) → k < n → Fits to (blanked (commas (n - k) xs)) → Fits to (blanked (commas 1 xs))
-commas-room to k n xs h f = fits-first to (blanked (commas 1 xs)) _ (blanked-commas k n xs h) f
-
-pub no-commas : (k n : ℕ) (xs : List Token) → n ≤ k → blanked (commas (n - k) xs) ≡ []
-unfolding commas blanked after-blanks
-no-commas k n xs h = let e : n - k ≡ 0 = omega arith in ap (λ (m : ℕ). blanked (commas m xs)) e
-
--- a comma and one copy
-pub comma-copy : (xs : List Token) → (32 ∷ []) ++ ((44 ∷ []) ++ blanked xs) ≡ blanked (commas 1 xs)
-unfolding commas blanked after-blanks
-comma-copy xs = ap (λ (ys : List Token). 32 ∷ 44 ∷ blanked ys) (sym (append-nil xs))
-
--- every copy but the first has its comma
-commas-long : (n : ℕ) (xs : List Token) → n ≤ length (blanked (commas n xs))
-unfolding commas blanked after-blanks
-commas-long zero xs = omega arith
-commas-long (suc n) xs =
-    omega (arith, commas-long n xs, ap length (blanked-append xs (commas n xs)), length-append (blanked xs) (blanked (commas n xs)))
-
-pub listed-long : (n : ℕ) (ts : List Token) → n ≤ length (blanked (listed n ts)) + 1
-listed-long n ts =
-    omega (
-      arith,
-      commas-long (n - 1) (signed ts),
-      ap length (blanked-append (signed ts) (commas (n - 1) (signed ts))),
-      length-append (blanked (signed ts)) (blanked (commas (n - 1) (signed ts))),
-    )
-
--- room for the first copy, and for the others after it
-pub listed-first : (to n : ℕ) (ts : List Token) → Fits to (blanked (listed n ts)) → Fits to (blanked (signed ts))
-listed-first to n ts f = fits-first to (blanked (signed ts)) _ (blanked-append (signed ts) (commas (n - 1) (signed ts))) f
-
-pub listed-others : {b m s : List ℕ} {to at : ℕ} {x : Moved} (n : ℕ) → Fits to (blanked (listed n (tokens (drop at s))))
-    → Moves b to s at signed after-signed m x
-    → Fits (x .to) (blanked (commas (n - 1) (signed (tokens (drop at s)))))
-listed-others {s = s} {at = at} n f u =
-    let xs = signed (tokens (drop at s)) in
-    fits-then (blanked xs) (blanked (commas (n - 1) xs)) (blanked-append xs (commas (n - 1) xs)) f (u .writes)
-
--- ---- a literal with an optional sign
-
--- the first token is digits, by the token that the code found
-pub digits-first : (s : List ℕ) (at : ℕ) (t : Tok) (b : Bool) → Lexed s at t → b ≡ eqb (kind-number (t .kind)) 3 → eqb (kind (first (tokens (drop at s)))) 3 ≡ b
-digits-first s at t b l e = ap (λ (o : Option Token). eqb (kind o) 3) (sym (peek-tokens (drop at s))) ∙ ap (λ (n : ℕ). eqb n 3) (l .kinds) ∙ sym e
-
-take-two : (ts : List Token) → take 1 ts ++ take 1 (drop 1 ts) ≡ take 2 ts
-take-two [] = refl
-take-two (t ∷ []) = refl
-take-two (t ∷ u ∷ ts) = refl
-
-pub signed-one : {b a s : List ℕ} {to at : ℕ} {r : Moved} → eqb (kind (first (tokens (drop at s)))) 3 ≡ true → Moves b to s at (take 1) (drop 1) a r
-    → Moves b to s at signed after-signed a r
-signed-one {s = s} {at = at} e u =
-    let ts = tokens (drop at s) in
-    moves-as (ap (λ (c : Bool). take (cond c 1 2) ts) (sym e)) (ap (λ (c : Bool). drop (cond c 1 2) ts) (sym e)) u
-
--- the tokens of a sign and digits
-pub signed-parts : (ts : List Token) → eqb (kind (first ts)) 3 ≡ false → blanked (signed ts) ≡ blanked (take 1 ts) ++ blanked (take 1 (drop 1 ts))
-signed-parts ts e = ap (λ (c : Bool). blanked (take (cond c 1 2) ts)) e ∙ ap blanked (sym (take-two ts)) ∙ blanked-append (take 1 ts) (take 1 (drop 1 ts))
-
--- room for the first of them, and for the second after it
-pub signed-first : (to : ℕ) (ts : List Token) → Fits to (blanked (signed ts)) → Fits to (blanked (take 1 ts))
-signed-first to ts f = go (eqb (kind (first ts)) 3) refl
-  where
-    go : (c : Bool) → eqb (kind (first ts)) 3 ≡ c → Fits to (blanked (take 1 ts))
-    go true e = omega (arith, ap (λ (c : Bool). length (blanked (take (cond c 1 2) ts))) e, f)
-    go false e = fits-first to (blanked (take 1 ts)) _ (signed-parts ts e) f
-
-pub signed-second : {b m s : List ℕ} {to at : ℕ} {x : Moved} → eqb (kind (first (tokens (drop at s)))) 3 ≡ false
-    → Fits to (blanked (signed (tokens (drop at s))))
-    → Moves b to s at (take 1) (drop 1) m x → Fits (x .to) (blanked (take 1 (tokens (drop (x .at) s))))
-signed-second {s = s} {at = at} e f u =
-    let ts = tokens (drop at s) in
-    let g = fits-then (blanked (take 1 ts)) (blanked (take 1 (drop 1 ts))) (signed-parts ts e) f (u .writes) in
-    omega (arith, g, ap (λ (us : List Token). length (blanked (take 1 us))) (u .left))
-
-pub signed-two : {b m a s : List ℕ} {to at : ℕ} {x r : Moved} → eqb (kind (first (tokens (drop at s)))) 3 ≡ false
-    → Moves b to s at (take 1) (drop 1) m x → Moves m (x .to) s (x .at) (take 1) (drop 1) a r → Moves b to s at signed after-signed a r
-signed-two {s = s} {at = at} e u v =
-    let ts = tokens (drop at s) in
-    moves-as (take-two ts ∙ ap (λ (c : Bool). take (cond c 1 2) ts) (sym e)) (drop-drop 1 1 ts ∙ ap (λ (c : Bool). drop (cond c 1 2) ts) (sym e))
-    (moves-then u v)
 
 -- ---- `r*`
 
@@ -272,18 +178,15 @@ none-left d s i h = ap (λ (u : List ℕ). blanked (spread d (tokens u))) (drop-
 
 -- ---- a line
 
--- by the first token that the code found
-module _ (s : List ℕ) (t : Tok) (l : Lexed s 0 t) (d : Bool) where
-  abbrev head : List ℕ
-  head = told (kind-number (t .kind)) (part s (t .start) (t .stop))
-
+-- by the first token that the code found, whose bytes are `head` without leading zeros
+module _ (s : List ℕ) (t : Tok) (l : Lexed s 0 t) (d : Bool) (head : List ℕ) (e : head ≡ told (kind-number (t .kind)) (part s (t .start) (t .stop))) where
   abbrev body : List ℕ
   body = blanked (spread d (tokens (drop (t .stop) s)))
 
   line-parts : line-bytes d (tokens s) ≡ head ++ (body ++ (10 ∷ []))
   unfolding line-bytes
   line-parts =
-      (λ i. (sym (token-told s 0 t l) i ++ blanked (spread d ((rest-drop (tokens s) ∙ sym (tokens-left s 0 t l)) i))) ++ (10 ∷ []))
+      (λ i. (sym (e ∙ token-told s 0 t l) i ++ blanked (spread d ((rest-drop (tokens s) ∙ sym (tokens-left s 0 t l)) i))) ++ (10 ∷ []))
       ∙ append-assoc head body (10 ∷ [])
 
   pub line-first : (to : ℕ) → Fits to (line-bytes d (tokens s)) → Fits to head

@@ -10,7 +10,9 @@ use lib.ListN.{length, take, drop}
 use Rattle.syntax.specs.Bytes.{choose, same, bytes, Token, tokens}
 use Rattle.syntax.specs.Grammar.{number, sg}
 use Rattle.syntax.specs.Reader.{kind, text, first, rest}
-use Rattle.writing.specs.Written.{told, blanked}
+use Rattle.lexer.specs.Lex.{part}
+use Rattle.writing.specs.Written.{told, spanned, blanked}
+use Rattle.layout.specs.declared.Literal.{Literal}
 use Rattle.layout.specs.declared.Repeat.{Repeat}
 
 -- how many of the tokens are a literal with an optional sign
@@ -31,6 +33,28 @@ commas (suc n) xs = sg "," ++ (xs ++ commas n xs)
 -- so many copies of the literal that stands first, with commas between them
 abbrev pub listed : ℕ → List Token → List Token
 listed n ts = signed ts ++ commas (n - 1) (signed ts)
+
+-- where the code found the literal that stands first: its bytes, each token after a blank; that it lies in the line; and what is left after it
+abbrev pub literalBytes : List ℕ → Literal → List ℕ
+literalBytes s l = spanned (part s (l .first) (l .stop)) ++ spanned (part s (l .second) (l .next))
+
+pub record Within (s : List ℕ) (l : Literal) : Type 0 where
+  pub first : l .first ≤ l .stop
+  pub stop : l .stop ≤ length s
+  pub second : l .second ≤ l .next
+  pub next : l .next ≤ length s
+
+pub record Stands (s : List ℕ) (at : ℕ) (l : Literal) : Type 0 where
+  pub bytes : literalBytes s l ≡ blanked (signed (tokens (drop at s)))
+  pub within : Within s l
+  pub left : tokens (drop (l .next) s) ≡ after-signed (tokens (drop at s))
+  pub from : at ≤ l .next
+  pub onward : at < length s → at < l .next
+
+-- so many copies of a literal's bytes, each after a comma
+unfoldable pub commaBytes : ℕ → List ℕ → List ℕ
+commaBytes zero b = []
+commaBytes (suc n) b = 32 ∷ 44 ∷ (b ++ commaBytes n b)
 
 -- digits before * are a repeat
 unfoldable pub repeats : Bool → List Token → Bool

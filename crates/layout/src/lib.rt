@@ -3,7 +3,7 @@ ghost use Prim.Native.Nat.{_≤_, _<_, _+_, _-_};
 ghost use lib.ListN.{length, drop};
 ghost use Rattle.syntax.specs.Bytes.{tokens};
 ghost use Rattle.writing.specs.Written.{Fits, Writes, blanked, Moves};
-ghost use Rattle.layout.specs.Copied.{signed, after-signed, commas, listed, Repeats, front, back, spread, line-bytes};
+ghost use Rattle.layout.specs.Copied.{after-signed, listed, literalBytes, Within, Stands, commaBytes, Repeats, front, back, spread, line-bytes};
 use lexer::Kind;
 use lexer::digits;
 use lexer::pass;
@@ -11,45 +11,77 @@ use lexer::same_kind;
 use lexer::token;
 use writing::Moved;
 use writing::put;
+use writing::put_bytes;
 use writing::put_next;
-use writing::put_token;
+use writing::put_span;
+use writing::start_of;
 
 // ---- copies
 
-// A literal, with the sign before it.
-fn put_signed(out: &mut [u8], to: usize, s: &[u8], at: usize) -> Moved
-    requires { ⌜ (at ≤ length (now s)) × Fits to (blanked (signed (tokens (drop at (now s))))) ⌝ }
-    ensures { λ r. ⌜ Moves (now (out .entry)) to (now (s .entry)) at signed after-signed (now (out .exit)) r ⌝ }
+// Where a literal with an optional sign stands: its first token from `first` up to `stop`, and its second, if any, from `second` up to `next`, without
+// leading zeros.
+pub struct Literal {
+    pub first: usize,
+    pub stop: usize,
+    pub second: usize,
+    pub next: usize,
+}
+
+// It is looked for once, however many copies are written.
+fn literal_at(s: &[u8], at: usize) -> Literal
+    requires { ⌜ at ≤ length (now s) ⌝ }
+    ensures { λ r. ⌜ Stands (now (s .entry)) at r ⌝ }
 {
     let t = token(s, at);
     let k = t.kind;
-    let m = put_next(out, to, s, at);
+    let e = t.stop;
+    let a = start_of(s, t);
     if same_kind(k, Kind::Digits) {
-        return m;
+        return Literal {
+            first: a,
+            stop: e,
+            second: e,
+            next: e,
+        };
     }
-    put_next(out, m.to, s, m.at)
+    let u = token(s, e);
+    let f = u.stop;
+    let b = start_of(s, u);
+    Literal {
+        first: a,
+        stop: e,
+        second: b,
+        next: f,
+    }
+}
+
+fn put_literal(out: &mut [u8], to: usize, s: &[u8], l: Literal) -> usize
+    requires { ⌜ Within (now s) l × Fits to (literalBytes (now s) l) ⌝ }
+    ensures { λ r. ⌜ Writes (now (out .entry)) to (literalBytes (now (s .entry)) l) (now (out .exit)) r ⌝ }
+{
+    let p = put_span(out, to, s, l.first, l.stop);
+    put_span(out, p, s, l.second, l.next)
 }
 
 // The same, after a comma.
-fn put_after_comma(out: &mut [u8], to: usize, s: &[u8], at: usize) -> usize
-    requires { ⌜ (at ≤ length (now s)) × Fits to (blanked (commas 1 (signed (tokens (drop at (now s)))))) ⌝ }
-    ensures { λ r. ⌜ Writes (now (out .entry)) to (blanked (commas 1 (signed (tokens (drop at (now (s .entry))))))) (now (out .exit)) r ⌝ }
+fn put_after_comma(out: &mut [u8], to: usize, s: &[u8], l: Literal) -> usize
+    requires { ⌜ Within (now s) l × Fits to (commaBytes 1 (literalBytes (now s) l)) ⌝ }
+    ensures { λ r. ⌜ Writes (now (out .entry)) to (commaBytes 1 (literalBytes (now (s .entry)) l)) (now (out .exit)) r ⌝ }
 {
     let p = put(out, to, b' ');
     let q = put(out, p, b',');
-    let m = put_signed(out, q, s, at);
-    m.to
+    put_literal(out, q, s, l)
 }
 
 // All copies but the first.
-fn put_commas(out: &mut [u8], to: usize, s: &[u8], at: usize, copies: u32) -> usize
-    requires { ⌜ (at ≤ length (now s)) × Fits to (blanked (commas (copies - 1) (signed (tokens (drop at (now s)))))) ⌝ }
-    ensures { λ r. ⌜ Writes (now (out .entry)) to (blanked (commas (copies - 1) (signed (tokens (drop at (now (s .entry))))))) (now (out .exit)) r ⌝ }
+fn put_commas(out: &mut [u8], to: usize, s: &[u8], l: Literal, copies: u32) -> usize
+    requires { ⌜ Within (now s) l × Fits to (commaBytes (copies - 1) (literalBytes (now s) l)) ⌝ }
+    ensures { λ r. ⌜ Writes (now (out .entry)) to (commaBytes (copies - 1) (literalBytes (now (s .entry)) l)) (now (out .exit)) r ⌝ }
 {
     let mut p = to;
     let mut k = 1;
     while k < copies {
-        p = put_after_comma(out, p, s, at);
+        p = put_after_comma(out, p, s, l);
         k += 1;
     }
     p
@@ -60,10 +92,13 @@ fn put_copies(out: &mut [u8], to: usize, s: &[u8], at: usize, copies: u32) -> Mo
     requires { ⌜ (at ≤ length (now s)) × Fits to (blanked (listed copies (tokens (drop at (now s))))) ⌝ }
     ensures { λ r. ⌜ Moves (now (out .entry)) to (now (s .entry)) at (listed copies) after-signed (now (out .exit)) r ⌝ }
 {
-    let m = put_signed(out, to, s, at);
-    let at_end = m.at;
-    let p = put_commas(out, m.to, s, at, copies);
-    Moved { to: p, at: at_end }
+    let l = literal_at(s, at);
+    let next = l.next;
+    let p = put_literal(out, to, s, l);
+    Moved {
+        to: put_commas(out, p, s, l, copies),
+        at: next,
+    }
 }
 
 // ---- the tokens of a line
@@ -127,7 +162,8 @@ pub fn put_line(out: &mut [u8], to: usize, s: &[u8], copying: bool) -> usize
 {
     let t = token(s, 0);
     let next = t.stop;
-    let p = put_token(out, to, s, t);
+    let a = start_of(s, t);
+    let p = put_bytes(out, to, &s[a..next]);
     let q = put_rest(out, p, s, next, copying);
     put(out, q, b'\n')
 }

@@ -4,20 +4,22 @@ use mathlib.Core.Bool.{Bool, true, false, cond}
 use mathlib.Core.List.{List, [], _∷_, _++_, append-nil, append-assoc}
 use mathlib.Core.Option.{some}
 use Prim.Native.Nat.{ℕ, zero, suc, _+_, _-_, _≤_, _<_}
+use native.Mathlib.Decide.{ℕ-discrete}
 use native.Mathlib.Omega.{arith}
 use borrow.Author.Tests.{ne-eqb}
 use lib.Dec.{eqb}
-use lib.ListN.{length, getD, take, drop, length-drop}
+use lib.ListN.{length, getD, take, drop, length-drop, length-take}
 use Rattle.syntax.specs.Bytes.{choose, Token, name, other-word, digits, sign, bytesOf, kindOf, token-of, token-size, tokens, trimmed}
 use Rattle.syntax.specs.Reader.{kind, text, first, rest, peek-in, skip-in, token-in, after-in}
+use Rattle.syntax.proofs.TestLaws.{cond-each, choose-each}
 use Rattle.syntax.proofs.Places.{peek-tokens, skip-tokens}
 use Rattle.lexer.specs.declared.Tok.{Tok}
 use Rattle.lexer.specs.Lex.{part, kind-number, Lexed}
-use Rattle.lexer.proofs.Laws.{part-cons}
+use Rattle.lexer.proofs.Laws.{part-none, part-cons}
 use Rattle.printed.specs.Form.{shortest, zeros-gone, after-blanks}
 use Rattle.writing.specs.declared.Moved.{Moved}
-use Rattle.writing.specs.Written.{Writes, told, blanked, Moves}
-use Rattle.writing.proofs.Writing.{writes-as, writes-then}
+use Rattle.writing.specs.Written.{Writes, told, spanned, blanked, Moves}
+use Rattle.writing.proofs.Writing.{writes-as}
 
 -- ---- digits without leading zeros
 
@@ -64,11 +66,41 @@ told-token (other-word b) = refl
 told-token (digits b) = refl
 told-token (sign b) = refl
 
--- the first token, after a blank
-blanked-first : (ts : List Token) → (kind (first ts) ≡ 0 → ⊥) → 32 ∷ told (kind (first ts)) (text (first ts)) ≡ blanked (take 1 ts)
+-- bytes that are some, after a blank
+spanned-some : (b : List ℕ) → 0 < length b → 32 ∷ b ≡ spanned b
+spanned-some [] h = absurd (omega arith)
+spanned-some (x ∷ b) h = refl
+
+pub span-none : (s : List ℕ) (a e : ℕ) → a ≡ e → [] ≡ spanned (part s a e)
+span-none s a e h = ap spanned (sym (part-none s a) ∙ ap (part s a) h)
+
+pub span-some : (s : List ℕ) (a e : ℕ) → a < e → e ≤ length s → spanned (part s a e) ≡ 32 ∷ part s a e
+span-some s a e h b = sym (spanned-some (part s a e) (omega (arith, length-take (e - a) (drop a s), length-drop a s)))
+
+shortest-some : (d : List ℕ) → 0 < length d → 0 < length (shortest d)
+unfolding shortest
+shortest-some [] h = absurd (omega arith)
+shortest-some (d ∷ []) h = omega arith
+shortest-some (d ∷ e ∷ ds) h =
+    choose-each (λ (x : List ℕ). 0 < length x) (eqb d 48) _ _ (λ _. shortest-some (e ∷ ds) (omega arith)) (λ _. omega arith)
+
+told-some : (k : ℕ) (b : List ℕ) → 0 < length b → 0 < length (told k b)
+told-some k b h = cond-each (λ (x : List ℕ). 0 < length x) (eqb k 3) (shortest-some b h) h
+
+kind-some : (t : Token) → kindOf t ≡ 0 → ⊥
+kind-some (name b) h = omega (arith, h)
+kind-some (other-word b) h = omega (arith, h)
+kind-some (digits b) h = omega (arith, h)
+kind-some (sign b) h = omega (arith, h)
+
+-- the first token, after a blank; nothing where there is none
+spanned-first : (ts : List Token) → ((kind (first ts) ≡ 0 → ⊥) → 0 < length (text (first ts)))
+    → spanned (told (kind (first ts)) (text (first ts))) ≡ blanked (take 1 ts)
 unfolding blanked after-blanks
-blanked-first [] h = absurd (h refl)
-blanked-first (t ∷ ts) h = ap (λ (b : List ℕ). 32 ∷ b) (told-token t ∙ sym (append-nil (bytesOf (zeros-gone t))))
+spanned-first [] h = refl
+spanned-first (t ∷ ts) h =
+    sym (spanned-some (told (kindOf t) (bytesOf t)) (told-some (kindOf t) (bytesOf t) (h (kind-some t))))
+    ∙ ap (λ (b : List ℕ). 32 ∷ b) (told-token t ∙ sym (append-nil (bytesOf (zeros-gone t))))
 
 pub blanked-append : (ts us : List Token) → blanked (ts ++ us) ≡ blanked ts ++ blanked us
 unfolding blanked after-blanks
@@ -90,94 +122,50 @@ module _ (s : List ℕ) (at : ℕ) (t : Tok) (l : Lexed s at t) where
       let p = peek-tokens (drop at s) in
       λ i. told ((sym (l .kinds) ∙ ap kind p) i) ((sym (l .bytes) ∙ ap text p) i)
 
-  -- it is no end: its bytes after a blank are those of the first token
-  module _ (n : kind-number (t .kind) ≡ 0 → ⊥) where
-    pub told-next : 32 ∷ told (kind-number (t .kind)) (part s (t .start) (t .stop)) ≡ blanked (take 1 (tokens (drop at s)))
-    told-next =
-        ap (λ (b : List ℕ). 32 ∷ b) token-told
-        ∙ blanked-first (tokens (drop at s)) (λ z. n (sym (l .kinds) ∙ ap kind (peek-tokens (drop at s)) ∙ z))
+  first-kind : kind (first (tokens (drop at s))) ≡ kind-number (t .kind)
+  first-kind = sym (ap kind (peek-tokens (drop at s))) ∙ l .kinds
 
-    pub token-onward : at < t .stop
-    token-onward = omega (arith, l .from, l .some (λ e. n (ap kind-number e)))
+  first-some : (kind (first (tokens (drop at s))) ≡ 0 → ⊥) → 0 < length (text (first (tokens (drop at s))))
+  first-some n =
+      omega (
+        arith,
+        ap length (sym (ap text (peek-tokens (drop at s))) ∙ l .bytes),
+        length-take (t .stop - t .start) (drop (t .start) s),
+        length-drop (t .start) s,
+        l .some (λ e. n (first-kind ∙ ap kind-number e)),
+        l .within,
+      )
 
-  -- it is the end: no token is left, and no byte
-  module _ (z : kind-number (t .kind) ≡ 0) where
-    none-left : (ts : List Token) → kind (first ts) ≡ 0 → ts ≡ []
-    none-left [] h = refl
-    none-left (name b ∷ ts) h = absurd (omega (arith, h))
-    none-left (other-word b ∷ ts) h = absurd (omega (arith, h))
-    none-left (digits b ∷ ts) h = absurd (omega (arith, h))
-    none-left (sign b ∷ ts) h = absurd (omega (arith, h))
+  -- its bytes after a blank are those of the first token
+  pub token-spanned : spanned (told (kind-number (t .kind)) (part s (t .start) (t .stop))) ≡ blanked (take 1 (tokens (drop at s)))
+  token-spanned = ap spanned token-told ∙ spanned-first (tokens (drop at s)) first-some
 
-    pub told-end : [] ≡ blanked (take 1 (tokens (drop at s)))
-    unfolding blanked after-blanks
-    told-end = sym (ap (λ (ts : List Token). blanked (take 1 ts)) (none-left (tokens (drop at s)) (sym (ap kind (peek-tokens (drop at s))) ∙ l .kinds ∙ z)))
+  -- where no token is left, no byte is
+  nothing-after : (u : List ℕ) → kind (peek-in u) ≡ 0 → skip-in u ≡ []
+  unfolding peek-in skip-in
+  nothing-after u h = go (trimmed u) h
+    where
+      go : (v : List ℕ) → kind (token-in v) ≡ 0 → after-in v ≡ []
+      go [] h = refl
+      go (b ∷ v) h = absurd (kind-some (token-of b (take (token-size b v) (b ∷ v))) h)
 
-    nothing-after : (u : List ℕ) → kind (peek-in u) ≡ 0 → skip-in u ≡ []
-    unfolding peek-in skip-in
-    nothing-after u h = go (trimmed u) h
-      where
-        some-kind : (t : Token) → kindOf t ≡ 0 → ⊥
-        some-kind (name b) h = omega (arith, h)
-        some-kind (other-word b) h = omega (arith, h)
-        some-kind (digits b) h = omega (arith, h)
-        some-kind (sign b) h = omega (arith, h)
-
-        go : (v : List ℕ) → kind (token-in v) ≡ 0 → after-in v ≡ []
-        go [] h = refl
-        go (b ∷ v) h = absurd (some-kind (token-of b (take (token-size b v) (b ∷ v))) h)
-
-    pub end-reached : length s ≤ t .stop
-    end-reached = omega (arith, ap length (sym (l .next) ∙ nothing-after (drop at s) (l .kinds ∙ z)), length-drop (t .stop) s)
+  pub token-onward : at < length s → at < t .stop
+  token-onward h = elim (ℕ-discrete (kind-number (t .kind)) 0) [
+    | yes z ↦ omega (arith, h, ap length (sym (l .next) ∙ nothing-after (drop at s) (l .kinds ∙ z)), length-drop (t .stop) s)
+    | no n ↦ omega (arith, l .from, l .some (λ e. n (ap kind-number e)))
+  ]
 
 -- ---- the next token
 
-module _ (b : List ℕ) (to : ℕ) (s : List ℕ) (at : ℕ) (t : Tok) (l : Lexed s at t) where
-  pub next-none : kind-number (t .kind) ≡ 0 → Writes b to [] b to → Moves b to s at (take 1) (drop 1) b (record { to = to; at = t .stop })
-  next-none z w = record {
-    writes = writes-as (told-end s at t l z) w;
-    left = tokens-left s at t l;
-    from = omega (arith, l .from, l .order);
-    onward = λ (h : at < length s). omega (arith, h, end-reached s at t l z);
-    within = l .within;
-  }
-
-  pub next-some : (kind-number (t .kind) ≡ 0 → ⊥) → (a : List ℕ) (r : ℕ)
-      → Writes b to (32 ∷ told (kind-number (t .kind)) (part s (t .start) (t .stop))) a r → Moves b to s at (take 1) (drop 1) a (record { to = r; at = t .stop })
-  next-some n a r w = record {
-    writes = writes-as (told-next s at t l n) w;
-    left = tokens-left s at t l;
-    from = omega (arith, l .from, l .order);
-    onward = λ (h : at < length s). token-onward s at t l n;
-    within = l .within;
-  }
-
--- ---- tokens one after another
-
--- some tokens, and then others
-pub moves-then : {b m a s : List ℕ} {to at : ℕ} {f g h k : List Token → List Token} {x r : Moved} → Moves b to s at f g m x → Moves m (x .to) s (x .at) h k a r
-    → Moves b to s at (λ ts. f ts ++ h (g ts)) (λ ts. k (g ts)) a r
-moves-then {s = s} {at = at} {f = f} {g = g} {h = h} {k = k} u v = record {
-  writes =
-      let xs = f (tokens (drop at s)) in
-      writes-as (ap (λ (ts : List Token). blanked xs ++ blanked (h ts)) (u .left) ∙ sym (blanked-append xs (h (g (tokens (drop at s))))))
-      (writes-then (u .writes) (v .writes));
-  left = v .left ∙ ap k (u .left);
-  from = omega (arith, u .from, v .from);
-  onward = λ (l : at < length s). omega (arith, u .onward l, v .from);
-  within = v .within;
-}
-
--- some tokens, and then others that don't stand there
-pub moves-more : {b m a s : List ℕ} {to at p : ℕ} {f g : List Token → List Token} {x : Moved} (us : List Token) → Moves b to s at f g m x
-    → Writes m (x .to) (blanked us) a p
-    → Moves b to s at (λ ts. f ts ++ us) g a (record { to = p; at = x .at })
-moves-more {s = s} {at = at} {f = f} us u v = record {
-  writes = writes-as (sym (blanked-append (f (tokens (drop at s))) us)) (writes-then (u .writes) v);
-  left = u .left;
-  from = u .from;
-  onward = u .onward;
-  within = u .within;
+pub next-moves : (b : List ℕ) (to : ℕ) (s : List ℕ) (at : ℕ) (t : Tok) → Lexed s at t → {a : List ℕ} {r : ℕ}
+    → Writes b to (spanned (told (kind-number (t .kind)) (part s (t .start) (t .stop)))) a r
+    → Moves b to s at (take 1) (drop 1) a (record { to = r; at = t .stop })
+next-moves b to s at t l w = record {
+  writes = writes-as (token-spanned s at t l) w;
+  left = tokens-left s at t l;
+  from = omega (arith, l .from, l .order);
+  onward = token-onward s at t l;
+  within = l .within;
 }
 
 -- the same tokens

@@ -1,7 +1,7 @@
 -- What the functions that write leave in the bytes lent, and the tokens of a line as they are written.
 use mathlib.Core.Path.{_≡_}
 use mathlib.Core.Bool.{cond}
-use mathlib.Core.List.{List, map}
+use mathlib.Core.List.{List, [], _∷_, map}
 use Prim.Native.Nat.{ℕ, _+_, _≤_, _<_}
 use lib.Dec.{eqb}
 use lib.ListN.{length, drop}
@@ -25,6 +25,11 @@ Fits at xs = at + length xs ≤ mostBytes
 -- the bytes of a token of this kind, without leading zeros
 abbrev pub told : ℕ → List ℕ → List ℕ
 told k b = cond (eqb k 3) (shortest b) b
+
+-- bytes after a blank, if there are any
+abbrev pub spanned : List ℕ → List ℕ
+spanned [] = []
+spanned (b ∷ bs) = 32 ∷ b ∷ bs
 
 -- tokens without leading zeros, each after a blank
 unfoldable pub blanked : List Token → List ℕ

@@ -7,7 +7,7 @@ ghost use lib.ListN.{length, take, drop};
 ghost use Rattle.syntax.specs.Bytes.{tokens};
 ghost use Rattle.lexer.specs.Lex.{part, kind-number};
 ghost use Rattle.printed.specs.Form.{shortest};
-ghost use Rattle.writing.specs.Written.{Fits, Writes, told, blanked, Moves};
+ghost use Rattle.writing.specs.Written.{Fits, Writes, told, spanned, blanked, Moves};
 use lexer::Kind;
 use lexer::Tok;
 use lexer::same_kind;
@@ -58,19 +58,30 @@ fn significant(s: &[u8], a: usize, e: usize) -> usize
     i
 }
 
-// The bytes of a token, without leading zeros.
-pub fn put_token(out: &mut [u8], to: usize, s: &[u8], t: Tok) -> usize
-    requires { ⌜ (t .start ≤ t .stop) × (t .stop ≤ length (now s)) × Fits to (told (kind-number (t .kind)) (part (now s) (t .start) (t .stop))) ⌝ }
-    ensures { λ r. ⌜ Writes (now (out .entry)) to (told (kind-number (t .kind)) (part (now (s .entry)) (t .start) (t .stop))) (now (out .exit)) r ⌝ }
+// Where a token begins, without leading zeros.
+pub fn start_of(s: &[u8], t: Tok) -> usize
+    requires { ⌜ (t .start ≤ t .stop) × (t .stop ≤ length (now s)) ⌝ }
+    ensures { λ r. ⌜ (r ≤ t .stop) × (part (now (s .entry)) r (t .stop) ≡ told (kind-number (t .kind)) (part (now (s .entry)) (t .start) (t .stop))) ⌝ }
 {
     let k = t.kind;
     let a = t.start;
     let e = t.stop;
     if same_kind(k, Kind::Digits) {
-        let d = significant(s, a, e);
-        return put_bytes(out, to, &s[d..e]);
+        return significant(s, a, e);
     }
-    put_bytes(out, to, &s[a..e])
+    a
+}
+
+// The bytes from a up to e after a blank; nothing if there are none.
+pub fn put_span(out: &mut [u8], to: usize, s: &[u8], a: usize, e: usize) -> usize
+    requires { ⌜ (a ≤ e) × (e ≤ length (now s)) × Fits to (spanned (part (now s) a e)) ⌝ }
+    ensures { λ r. ⌜ Writes (now (out .entry)) to (spanned (part (now (s .entry)) a e)) (now (out .exit)) r ⌝ }
+{
+    if a == e {
+        return to;
+    }
+    let p = put(out, to, b' ');
+    put_bytes(out, p, &s[a..e])
 }
 
 // The next token of a line, after a blank; nothing at the line's end.
@@ -79,14 +90,10 @@ pub fn put_next(out: &mut [u8], to: usize, s: &[u8], at: usize) -> Moved
     ensures { λ r. ⌜ Moves (now (out .entry)) to (now (s .entry)) at (take 1) (drop 1) (now (out .exit)) r ⌝ }
 {
     let t = token(s, at);
-    let k = t.kind;
     let next = t.stop;
-    if same_kind(k, Kind::End) {
-        return Moved { to, at: next };
-    }
-    let p = put(out, to, b' ');
+    let a = start_of(s, t);
     Moved {
-        to: put_token(out, p, s, t),
+        to: put_span(out, to, s, a, next),
         at: next,
     }
 }

@@ -1,32 +1,30 @@
 -- `layout::put_commas` meets its contract: k copies are written, the first of them before.
 use Prim.Native.Nat.{_-_, _≤_}
 use native.Mathlib.Omega.{arith}
-use lib.ListN.{drop}
-use Rattle.syntax.specs.Bytes.{tokens}
-use Rattle.writing.specs.Written.{blanked}
-use Rattle.writing.proofs.Writing.{writes-length, Along, along-none, along-more, along-all, along-fits}
-use Rattle.layout.specs.Copied.{signed, commas}
-use Rattle.layout.proofs.Copying.{blanked-commas, commas-room, no-commas}
+use Rattle.writing.proofs.Writing.{writes-length, fits-first, Along, along-none, along-more, along-all, along-fits}
+use Rattle.layout.specs.Copied.{literalBytes, commaBytes}
+use Rattle.layout.proofs.Literals.{comma-more, no-commas}
 use borrow.Author.Needs.{needs}
 use Rattle.layout.proofs.put_commas.Statement.{statement}
 use Rattle.layout.proofs.put_commas.Tie as tie
 
 abbrev Inv-loop : tie.InvT-loop
-Inv-loop out₀ to s at copies p₀ k₀ out p k =
-    let xs = signed (tokens (drop at s)) in
-    (1 ≤ k) × Along (blanked (commas (copies - 1) xs)) (blanked (commas (copies - k) xs)) out₀ to out p
+Inv-loop out₀ to s l copies p₀ k₀ out p k =
+    let b = literalBytes s l in
+    (1 ≤ k) × Along (commaBytes (copies - 1) b) (commaBytes (copies - k) b) out₀ to out p
 
 abbrev μ-loop : tie.MeasureT-loop
-μ-loop out₀ to s at copies p₀ k₀ out p k = copies - k
+μ-loop out₀ to s l copies p₀ k₀ out p k = copies - k
 
 loop-holds : tie.Need-loop-holds Inv-loop μ-loop
 loop-holds c = (omega arith, along-none _ _ _)
 
 put-after-comma-requires : tie.Need-put-after-comma-requires Inv-loop μ-loop
 put-after-comma-requires c κs =
-    let c5 = c .before .before .before .before .before in (
+    let c5 = c .before .before .before .before .before in
+    let b = literalBytes (c5 .args .s .now) (c5 .args .l) in (
       c5 .pre .0,
-      commas-room (c .before .before .loop .p) (c .before .before .loop .k) (c5 .args .copies) _ (omega arith)
+      fits-first (c .before .before .loop .p) (commaBytes 1 b) _ (comma-more (c .before .before .loop .k) (c5 .args .copies) b (omega arith))
           (along-fits (c5 .pre .1) (c .before .before .loop .inv .1)),
     )
 
@@ -39,10 +37,8 @@ loop-less c = search needs
 loop-again : tie.Need-loop-again Inv-loop μ-loop
 loop-again c =
     let c5 = c .before .before .before .before .before in
-    let c8 = c5 .before .before .before in (
-      omega arith,
-      along-more _ _ (blanked-commas (c5 .loop .k) (c8 .args .copies) _ (omega arith)) (c5 .loop .inv .1) (c .before .before .put-after-comma .ensures),
-    )
+    let c8 = c5 .before .before .before in
+    (omega arith, along-more _ _ (comma-more (c5 .loop .k) (c8 .args .copies) _ (omega arith)) (c5 .loop .inv .1) (c .before .before .put-after-comma .ensures))
 
 same-length : tie.Need-same-length Inv-loop μ-loop
 same-length c = writes-length (c .before .loop .inv .1 .writes)
