@@ -191,7 +191,7 @@ struct lrpd_plan_answer lrpd_plan(const uint8_t *text, size_t length, const int3
    tokens, a newline after each line, two-word endings, data with every copy written out, literals without leading zeros; no comments,
    empty lines or closing directive. All else stays as it stood. Two texts differ only in what this removes exactly if their forms are
    the same bytes. A form of at most 2,048 bytes is accepted as a text, and its form is itself. Numbers 1 to 4 and 12; a refusal leaves
-   the bytes as found, and so are those behind the form. */
+   the bytes as found; those behind the form stay as found. */
 struct lrpd_print_answer lrpd_print(const uint8_t *text, size_t length, uint8_t *bytes, size_t room);
 
 #ifdef __cplusplus

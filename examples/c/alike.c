@@ -45,7 +45,7 @@ static void take(struct loop *loop, FILE *file, const char *name)
     }
 }
 
-/* The first line at which two forms differ. Both have it: the last line of a form, end do, is no other's. */
+/* The first line at which two forms differ. Both have it: a form ends with its only line `end do`, so none begins another. */
 static uint32_t first_difference(const struct loop *one, const struct loop *two)
 {
     uint32_t line = 1;

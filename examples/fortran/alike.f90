@@ -26,7 +26,7 @@ program alike
     stop
   end if
 
-  ! Both forms have the line at which they begin to differ: the last line of a form, end do, is no other's.
+  ! Both forms have the line at which they begin to differ: a form ends with its only line end do, so none begins another.
   line = 1
   do at = 1, min(len(one), len(two))
     if (one(at:at) /= two(at:at)) exit

@@ -1,4 +1,4 @@
--- Texts and their printed forms, by computing: one with everything in it, and small ones (readings 8.1 to 8.6).
+-- Texts and their printed forms, by computing: one with everything in it, and small ones (RULES 1.15 a and b).
 use mathlib.Core.Path.{_≡_, refl}
 use mathlib.Core.Bool.{Bool, true, false}
 use mathlib.Core.List.{List, [], _∷_, _++_, map}

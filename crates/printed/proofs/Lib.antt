@@ -21,6 +21,7 @@ pub mod PrintedAgain
 -- Doing the same; a printed line by its tokens; the length.
 pub mod SameLoops
 pub mod SameEndings
+pub mod SameSteps
 pub mod SaidAlike
 pub mod FormedLaws
 pub mod PrintedLength

@@ -3,6 +3,7 @@ use mathlib.Core.Path.{_≡_, refl, sym, _∙_, ap, subst}
 use mathlib.Core.List.{List, [], _∷_, _++_, map}
 use mathlib.Core.Option.{Option, none, some}
 use Prim.Native.Nat.{ℕ}
+use Rattle.rules.specs.Serial.{Outcome, Result}
 use Rattle.rules.specs.Answer.{Answer, Ending}
 use Rattle.syntax.specs.Bytes.{Token}
 use Rattle.syntax.specs.Grammar.{Line}
@@ -13,7 +14,7 @@ use Rattle.syntax.specs.Text.{read, good}
 use Rattle.syntax.specs.Follows.{Program, learnt}
 use Rattle.syntax.proofs.Complete.{parse-complete}
 use Rattle.printed.specs.Form.{plain, kept, formed-line, formed, program, form}
-use Rattle.printed.specs.Restated.{short, numbered, restated, SameKnown, SameAnswer, both-passed, both-rerun, both-faulted, SameEnding}
+use Rattle.printed.specs.Restated.{short, numbered, restated, SameKnown, SameOutcome, no-fault, one-fault, SameResult, SameAnswer, both-passed, both-rerun, both-faulted, SameEnding}
 use Rattle.printed.proofs.ZeroLaws.{show-short}
 use Rattle.printed.proofs.Programs.{accepted}
 use Rattle.printed.proofs.PrintedAgain.{printed-known, formed-once}
@@ -60,7 +61,14 @@ said-alike s t u v h k e =
           (subst (λ (r : Program). SameKnown (learnt nothing q) (learnt nothing r)) z (printed-known t q (b .follows)));
     }
 
--- ---- endings like a third
+-- ---- runs and endings like a third
+
+outcome-both : {x y z : Outcome} → SameOutcome x z → SameOutcome y z → SameOutcome x y
+outcome-both no-fault no-fault = no-fault
+outcome-both one-fault one-fault = one-fault
+
+pub result-both : {x y z : Result} → SameResult x z → SameResult y z → SameResult x y
+result-both a b = record { cells = sym (b .cells) ∙ a .cells; log = sym (b .log) ∙ a .log; outcome = outcome-both (a .outcome) (b .outcome) }
 
 answer-both : {x y z : Answer} → SameAnswer x z → SameAnswer y z → SameAnswer x y
 answer-both both-passed both-passed = both-passed

@@ -6,24 +6,25 @@ use Prim.Native.Nat.{ℕ, _≤_}
 use lib.ListN.{length}
 use lib.IntN.{ℤ}
 use Rattle.rules.specs.Serial.{serial}
-use Rattle.rules.specs.Answer.{settled}
-use Rattle.syntax.specs.Bytes.{Token, tokens}
+use Rattle.rules.specs.Answer.{look, settled}
+use Rattle.syntax.specs.Bytes.{tokens}
 use Rattle.syntax.specs.Known.{State, nothing}
 use Rattle.syntax.specs.Conditions.{concat}
 use Rattle.syntax.specs.Text.{read, good}
 use Rattle.syntax.specs.Meaning.{loopOf, partitionOf}
 use Rattle.syntax.specs.Follows.{learnt}
-use Rattle.syntax.specs.Sane.{Each}
 use Rattle.syntax.proofs.Theorem.{accepted-complete}
 use Rattle.printed.specs.Form.{spaced, ended, printed, program, form}
 use Rattle.printed.specs.Differ.{DifferOnly}
 use Rattle.printed.specs.Restated.{restated, SameKnown, SameLoop, SameResult, SameEnding}
-use Rattle.printed.proofs.RoundTrip.{Proper, spaced-tokens}
+use Rattle.printed.proofs.RoundTrip.{spaced-tokens}
+use Rattle.printed.proofs.LexedLaws.{tokens-proper}
 use Rattle.printed.proofs.PrintedAlike.{formed-differ, differ-formed}
 use Rattle.printed.proofs.PrintedAgain.{printed-follows, printed-known, formed-once, printed-again}
 use Rattle.printed.proofs.SameLoops.{known-loop, loop-serial}
 use Rattle.printed.proofs.SameEndings.{loop-settled}
-use Rattle.printed.proofs.SaidAlike.{said-alike, ending-both}
+use Rattle.printed.proofs.SameSteps.{look-same}
+use Rattle.printed.proofs.SaidAlike.{said-alike, result-both, ending-both}
 use Rattle.printed.proofs.PrintedBound.{printed-bound}
 use Rattle.printed.proofs.Programs.{program-follows, accepted}
 
@@ -76,8 +77,12 @@ pub printed-run : (s t : State) → SameKnown s t → (m : List ℤ)
     → SameEnding (settled (loopOf s m) (partitionOf s .group)) (settled (loopOf t m) (partitionOf t .group))
 printed-run s t h m = rw (printed-partition s t h) (loop-settled (loopOf s m) (loopOf t m) (known-loop s t h m) (partitionOf s .group))
 
+-- Nor does Look show another view, after any schedule's steps.
+pub printed-look : (s t : State) → SameKnown s t → (m : List ℤ) (ps : List ℕ) → look (loopOf t m) (partitionOf t) ps ≡ look (loopOf s m) (partitionOf s) ps
+printed-look s t h m ps = rw (printed-partition s t h) (look-same (loopOf s m) (loopOf t m) (known-loop s t h m) (partitionOf s) ps)
+
 -- "Sites exchange loops and can't tell whether two are alike": of two accepted texts that print alike, however long their form is, the names with their
--- cells, classes and data are the same, P, the grouping and the bounds;
+-- cells, classes and data are the same, P, the grouping, v and the bounds;
 pub record AlikeKnown (u v : State) : Type 0 where
   pub table : u .table ≡ v .table
   pub processors : u .processors ≡ v .processors
@@ -104,11 +109,22 @@ pub alike-run : (s t : List ℕ) (u v : State) → read s ≡ good u → read t 
 alike-run s t u v h k e m =
     let a = said-alike s t u v h k e in ending-both (printed-run u (a .state) (a .first) m) (printed-run v (a .state) (a .second) m)
 
+-- So does their serial run, accesses included, by which Plan goes; and Look shows the same of both.
+pub alike-serial : (s t : List ℕ) (u v : State) → read s ≡ good u → read t ≡ good v → form s ≡ form t → (m : List ℤ)
+    → SameResult (serial (loopOf u m)) (serial (loopOf v m))
+alike-serial s t u v h k e m =
+    let a = said-alike s t u v h k e in result-both (printed-serial u (a .state) (a .first) m) (printed-serial v (a .state) (a .second) m)
+
+pub alike-look : (s t : List ℕ) (u v : State) → read s ≡ good u → read t ≡ good v → form s ≡ form t → (m : List ℤ) (ps : List ℕ)
+    → look (loopOf v m) (partitionOf v) ps ≡ look (loopOf u m) (partitionOf u) ps
+alike-look s t u v h k e m ps =
+    let a = said-alike s t u v h k e in sym (printed-look v (a .state) (a .second) m ps) ∙ printed-look u (a .state) (a .first) m ps
+
 -- "The answer is the length": it is below 65,536, so 16 bits hold it.
 pub form-bound : (text : List ℕ) (s : State) → read text ≡ good s → length (form text) ≤ 65530
 unfolding form
 form-bound text s h = printed-bound text (program text) (accepted text s h .follows)
 
--- The lexer round trip: tokens as the lexer makes them, written with one blank between them, are the tokens of these bytes.
-pub round-trip : (ts : List Token) → Each Proper ts → tokens (spaced ts) ≡ ts
-round-trip = spaced-tokens
+-- The lexer round trip: a line's tokens, written with one blank between them, are the tokens of these bytes.
+pub round-trip : (s : List ℕ) → tokens (spaced (tokens s)) ≡ tokens s
+round-trip s = spaced-tokens (tokens s) (tokens-proper 0 s)

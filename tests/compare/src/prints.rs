@@ -148,6 +148,21 @@ fn read_back(tally: &mut Tally, name: &str, text: &[u8], form: &[u8], rng: &mut 
     };
     let ran = run(text);
     back.compare("Run", &run(form), &ran);
+    let look = |text: &[u8]| {
+        let mut view = vec![7; 2 * loaded.1.len()];
+        let answer = product::look(text, &loaded.1, &mut words.clone(), &schedule, &mut view);
+        (answer, view)
+    };
+    let looked = look(text);
+    back.compare("Look", &look(form), &looked);
+    let iterations = bounded.expect("an accepted text").iterations;
+    let plan = |text: &[u8]| {
+        let mut list = vec![7; iterations as usize];
+        let answer = product::plan(text, &loaded.1, &mut words.clone(), &mut list);
+        (answer.map_err(|fault| (fault.number, fault.v)), list)
+    };
+    let planned = plan(text);
+    back.compare("Plan", &plan(form), &planned);
     let word = match ran.0 {
         Ok(answer) if answer.passed => "passed",
         Ok(_) => "rerun",
