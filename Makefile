@@ -19,7 +19,8 @@ sources := crates.txt $(shell find crates -type f ! -path '*/must-fail/*')
 
 # The one place of the version is the header.
 version := $(shell sed -n 's/^.define LRPD_VERSION "\(.*\)"$$/\1/p' include/lrpd.h)
-soname = liblrpd.so.$(firstword $(subst ., ,$(version)))
+# With the second number an answer may grow, so a program asks for the library of both.
+soname = liblrpd.so.$(basename $(version))
 shared = liblrpd.so.$(version)
 fill = sed -e 's|@PREFIX@|$(PREFIX)|' -e 's|@VERSION@|$(version)|'
 

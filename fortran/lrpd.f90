@@ -11,10 +11,10 @@ module lrpd
   public :: lrpd_check_answer, lrpd_bounds_answer, lrpd_name_answer, lrpd_done_answer, lrpd_run_answer, lrpd_plan_answer
   public :: lrpd_print_answer
   public :: lrpd_text, lrpd_message, lrpd_workspace
-  public :: lrpd_check, lrpd_bounds, lrpd_name, lrpd_load, lrpd_look, lrpd_run, lrpd_plan, lrpd_print
+  public :: lrpd_check, lrpd_bounds, lrpd_name, lrpd_load, lrpd_look, lrpd_run, lrpd_plan, lrpd_print, lrpd_rows, lrpd_columns
 
-  ! The version of this module and its library.
-  character(len=*), parameter, public :: lrpd_version = '1.8.0'
+  ! The version of this module and its library. What was compiled with the module of another second number has to be compiled again.
+  character(len=*), parameter, public :: lrpd_version = '1.9.0'
 
   ! The most characters of a text, cells, processors and iterations of a loop.
   integer, parameter, public :: lrpd_most_bytes = 2048, lrpd_most_cells = 4096, lrpd_most_processors = 8
@@ -27,6 +27,7 @@ module lrpd
   integer, parameter, public :: lrpd_done = 0, lrpd_too_long = 1, lrpd_broken = 2, lrpd_bad_name = 3, lrpd_over_limit = 4
   integer, parameter, public :: lrpd_bad_cells = 5, lrpd_bad_workspace = 6, lrpd_bad_schedule = 7, lrpd_bad_view = 8
   integer, parameter, public :: lrpd_bad_subscript = 9, lrpd_zero_divisor = 10, lrpd_bad_list = 11, lrpd_bad_room = 12
+  integer, parameter, public :: lrpd_not_a_grid = 13
 
   ! The clauses of a name.
   integer, parameter, public :: lrpd_shared = 0, lrpd_lastprivate = 1, lrpd_sum = 2, lrpd_copied = 3
@@ -43,10 +44,10 @@ module lrpd
     integer(c_int32_t) :: number, line, v, from, iterations, blocks
   end type
 
-  ! A refusal's number, or 0, its line and v; then the name's first cell, counted from 1, how many it has, 1 if it takes a
-  ! subscript, and its clause.
+  ! A refusal's number, or 0, its line and v; then the name's first cell, counted from 1, how many it has, how many subscripts it
+  ! takes, its clause, and its extents: a grid's two, an array's length and 0, of a single cell 0 and 0.
   type, bind(C) :: lrpd_name_answer
-    integer(c_int32_t) :: number, line, v, first, cells, subscripts, clause
+    integer(c_int32_t) :: number, line, v, first, cells, subscripts, clause, rows, columns
   end type
 
   ! A refusal's number, or 0, its line and v.
@@ -136,6 +137,22 @@ module lrpd
       character(kind=c_char), intent(inout) :: bytes(*)
       type(lrpd_print_answer) :: answer
     end function
+
+    function c_rows(text, length, cells, count, name, name_length) bind(C, name="lrpd_rows") result(answer)
+      import :: c_char, c_int32_t, c_size_t, lrpd_done_answer
+      character(kind=c_char), intent(in) :: text(*), name(*)
+      integer(c_size_t), value :: length, count, name_length
+      integer(c_int32_t), intent(inout) :: cells(*)
+      type(lrpd_done_answer) :: answer
+    end function
+
+    function c_columns(text, length, cells, count, name, name_length) bind(C, name="lrpd_columns") result(answer)
+      import :: c_char, c_int32_t, c_size_t, lrpd_done_answer
+      character(kind=c_char), intent(in) :: text(*), name(*)
+      integer(c_size_t), value :: length, count, name_length
+      integer(c_int32_t), intent(inout) :: cells(*)
+      type(lrpd_done_answer) :: answer
+    end function
   end interface
 
 contains
@@ -184,6 +201,8 @@ contains
       words = 'not exactly one number in the list for each iteration'
     case (lrpd_bad_room)
       words = 'fewer bytes lent than the printed form has'
+    case (lrpd_not_a_grid)
+      words = 'no grid has this name'
     case default
       words = 'not a number of this library'
     end select
@@ -300,6 +319,24 @@ contains
     allocate (character(len=lrpd_print_room) :: own)
     answer = c_print(text, len(text, c_size_t), own, len(own, c_size_t))
     form = own(:answer%length)
+  end function
+
+  ! Puts the cells of the grid with this name into row order.
+  function lrpd_rows(text, cells, name) result(answer)
+    character(len=*), intent(in) :: text, name
+    integer(c_int32_t), contiguous, intent(inout) :: cells(:)
+    type(lrpd_done_answer) :: answer
+
+    answer = c_rows(text, len(text, c_size_t), cells, size(cells, kind=c_size_t), name, len(name, c_size_t))
+  end function
+
+  ! Puts the cells of the grid with this name from row order back into Fortran's.
+  function lrpd_columns(text, cells, name) result(answer)
+    character(len=*), intent(in) :: text, name
+    integer(c_int32_t), contiguous, intent(inout) :: cells(:)
+    type(lrpd_done_answer) :: answer
+
+    answer = c_columns(text, len(text, c_size_t), cells, size(cells, kind=c_size_t), name, len(name, c_size_t))
   end function
 
 end module

@@ -20,8 +20,9 @@
 extern "C" {
 #endif
 
-/* The version of this header and its library: the second number is that of the client's last change request that is in it. */
-#define LRPD_VERSION "1.8.0"
+/* The version of this header and its library: the second number is that of the client's last change request that is in it. What was
+   compiled with the header of another second number has to be compiled again: in 1.9 lrpd_name's answer has grown by two fields. */
+#define LRPD_VERSION "1.9.0"
 
 /* The most bytes of a text, cells, processors and iterations of a loop. */
 #define LRPD_MOST_BYTES 2048
@@ -48,10 +49,11 @@ enum {
     LRPD_BAD_WORKSPACE = 6,  /* a workspace under LRPD_WORKSPACE words */
     LRPD_BAD_SCHEDULE = 7,   /* a schedule byte that names no processor */
     LRPD_BAD_VIEW = 8,       /* a view of not exactly two words for each cell */
-    LRPD_BAD_SUBSCRIPT = 9,  /* line, v: the serial run met a subscript outside its array */
+    LRPD_BAD_SUBSCRIPT = 9,  /* line, v: the serial run met a subscript outside its array or grid */
     LRPD_ZERO_DIVISOR = 10,  /* line, v: the serial run met a zero divisor */
     LRPD_BAD_LIST = 11,      /* not exactly as many numbers in the list as the loop has iterations */
-    LRPD_BAD_ROOM = 12       /* fewer bytes lent than the printed form has */
+    LRPD_BAD_ROOM = 12,      /* fewer bytes lent than the printed form has */
+    LRPD_NOT_A_GRID = 13     /* no grid has the name */
 };
 
 /* A number in words, for a message. */
@@ -71,6 +73,7 @@ static inline const char *lrpd_message(uint32_t number)
     case LRPD_ZERO_DIVISOR: return "a division by zero";
     case LRPD_BAD_LIST: return "not exactly one number in the list for each iteration";
     case LRPD_BAD_ROOM: return "fewer bytes lent than the printed form has";
+    case LRPD_NOT_A_GRID: return "no grid has this name";
     default: return "not a number of this library";
     }
 }
@@ -131,8 +134,9 @@ enum {
     LRPD_MAXIMUM = 5      /* reduction(max:name) */
 };
 
-/* The cells of a name: its first, counted from 0, how many, whether it takes a subscript (1) or is a single cell (0), and its clause;
-   all are 0 after a refusal. */
+/* The cells of a name: its first, counted from 0, how many, how many subscripts the name takes, its clause, and its extents. A single
+   cell takes no subscript, and rows and columns are 0; an array takes 1, rows is its length and columns 0; a grid a(m, n) takes 2, rows
+   is m and columns n. All are 0 after a refusal. */
 struct lrpd_name_answer {
     uint32_t number;
     uint32_t line;
@@ -141,6 +145,8 @@ struct lrpd_name_answer {
     uint32_t cells;
     uint32_t subscripts;
     uint32_t clause;
+    uint32_t rows;
+    uint32_t columns;
 };
 
 /* The printed form has so many bytes; 0 after a refusal. */
@@ -161,8 +167,8 @@ struct lrpd_bounds_answer lrpd_bounds(const uint8_t *text, size_t length);
    name is declared. */
 struct lrpd_name_answer lrpd_name(const uint8_t *text, size_t length, const uint8_t *name, size_t name_length);
 
-/* Load: fills the cells, in declared order, from the text's data, with 0 where it gives none. Numbers 1 to 5; a refusal leaves the
-   cells as found. */
+/* Load: fills the cells, in declared order, a grid's first subscript fastest, from the text's data, with 0 where it gives none. Numbers
+   1 to 5; a refusal leaves the cells as found. */
 struct lrpd_done_answer lrpd_load(const uint8_t *text, size_t length, int32_t *cells, size_t count);
 
 /* Look: takes one step of the processor that each byte of the schedule names, and writes two words for each cell: its shared value,
@@ -193,6 +199,17 @@ struct lrpd_plan_answer lrpd_plan(const uint8_t *text, size_t length, const int3
    the same bytes. A form of at most 2,048 bytes is accepted as a text, and its form is itself. Numbers 1 to 4 and 12; a refusal leaves
    the bytes as found; those behind the form stay as found. */
 struct lrpd_print_answer lrpd_print(const uint8_t *text, size_t length, uint8_t *bytes, size_t room);
+
+/* Rows: puts the cells of one grid, which these bytes name, into row order: of a(m, n) what stands at (r - 1) + (c - 1) * m among the
+   grid's cells, counted from 0, which is a(r, c), goes to (r - 1) * n + (c - 1). All other cells stay. Upper case reads as lower case,
+   and the bytes are the whole name. Numbers 1 to 5, then 13 if no grid has the name; a refusal leaves the cells as found. */
+struct lrpd_done_answer lrpd_rows(const uint8_t *text, size_t length, int32_t *cells, size_t count, const uint8_t *name,
+                                  size_t name_length);
+
+/* Columns: puts the cells of a grid from row order back into the order that all other functions take them in. It undoes Rows, and Rows
+   undoes it. Numbers as of Rows. */
+struct lrpd_done_answer lrpd_columns(const uint8_t *text, size_t length, int32_t *cells, size_t count, const uint8_t *name,
+                                     size_t name_length);
 
 #ifdef __cplusplus
 }

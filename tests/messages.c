@@ -25,6 +25,7 @@ int main(void)
     SHOW(LRPD_ZERO_DIVISOR);
     SHOW(LRPD_BAD_LIST);
     SHOW(LRPD_BAD_ROOM);
+    SHOW(LRPD_NOT_A_GRID);
     SHOW(LRPD_SHARED);
     SHOW(LRPD_LASTPRIVATE);
     SHOW(LRPD_SUM);
@@ -35,7 +36,7 @@ int main(void)
     SHOW(LRPD_WORKSPACE(1, 1));
     SHOW(LRPD_WORKSPACE(17, 3));
     SHOW(LRPD_WORKSPACE(4096, 8));
-    for (uint32_t number = 0; number <= 13; number++)
+    for (uint32_t number = 0; number <= 14; number++)
         printf("%ld: %s\n", (long)number, lrpd_message(number));
     printf("all bits: %s\n", lrpd_message(UINT32_MAX));
     return 0;

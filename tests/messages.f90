@@ -23,6 +23,7 @@ program messages
   call show('LRPD_ZERO_DIVISOR', lrpd_zero_divisor)
   call show('LRPD_BAD_LIST', lrpd_bad_list)
   call show('LRPD_BAD_ROOM', lrpd_bad_room)
+  call show('LRPD_NOT_A_GRID', lrpd_not_a_grid)
   call show('LRPD_SHARED', lrpd_shared)
   call show('LRPD_LASTPRIVATE', lrpd_lastprivate)
   call show('LRPD_SUM', lrpd_sum)
@@ -33,7 +34,7 @@ program messages
   call show('LRPD_WORKSPACE(1, 1)', lrpd_workspace(lrpd_check_answer(0, 0, 0, 1, 1)))
   call show('LRPD_WORKSPACE(17, 3)', lrpd_workspace(lrpd_check_answer(0, 0, 0, 17, 3)))
   call show('LRPD_WORKSPACE(4096, 8)', lrpd_workspace(lrpd_check_answer(0, 0, 0, 4096, 8)))
-  do number = 0, 13
+  do number = 0, 14
     print '(i0, 2a)', number, ': ', lrpd_message(number)
   end do
   print '(2a)', 'all bits: ', lrpd_message(-1)

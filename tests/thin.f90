@@ -42,6 +42,7 @@ program thin
   call looks
   call plans
   call prints
+  call grids
   if (failures > 0) error stop 1
 
 contains
@@ -70,6 +71,14 @@ contains
     text = lrpd_text([character(len=40) :: 'integer s(2)', '!$omp parallel do num_threads(1)', 'do i = 7, 9', line, 'end do'])
   end function
 
+  ! A single cell, a grid and an array: nine cells.
+  function gridded() result(text)
+    character(len=:), allocatable :: text
+
+    text = lrpd_text([character(len=40) :: 'integer s, g(2, 3), a(2)', '!$omp parallel do num_threads(2)', 'do i = 1, 3', &
+      'g(2, i) = g(1, i) + a(2)', 'end do'])
+  end function
+
   subroutine texts
     character(len=*), parameter :: nl = new_line('a')
 
@@ -84,14 +93,16 @@ contains
     call expect(is_check(lrpd_check(repeat(' ', 2049)), [1, 0, 0, 0, 0]), 'Check, 2,049 characters')
     call expect(is_bounds(lrpd_bounds(text), [0, 0, 0, -1, 4, 0]), 'Bounds')
     call expect(is_bounds(lrpd_bounds(with_line('s(1) = u')), [3, 4, 0, 0, 0, 0]), 'Bounds, refused')
-    call expect(is_name(lrpd_name(text, 'a'), [0, 0, 0, 1, 4, 1, lrpd_shared]), 'Name, the first')
-    call expect(is_name(lrpd_name(text, 'S'), [0, 0, 0, 5, 1, 0, lrpd_sum]), 'Name, the second in upper case')
-    call expect(is_name(lrpd_name(text, 'z'), [0, 0, 0, 6, 1, 0, lrpd_copied]), 'Name, the last')
-    call expect(is_name(lrpd_name(text, 'z '), [3, 0, 0, 0, 0, 0, 0]), 'Name, with a blank')
-    call expect(is_name(lrpd_name(text, trim('z ')), [0, 0, 0, 6, 1, 0, lrpd_copied]), 'Name, trimmed')
-    call expect(is_name(lrpd_name(text, 'i'), [3, 0, 0, 0, 0, 0, 0]), 'Name, of the variable')
-    call expect(is_name(lrpd_name(text, ''), [3, 0, 0, 0, 0, 0, 0]), 'Name, no characters')
-    call expect(is_name(lrpd_name('', 'a'), [2, 1, 0, 0, 0, 0, 0]), 'Name, refused')
+    call expect(is_name(lrpd_name(text, 'a'), [0, 0, 0, 1, 4, 1, lrpd_shared, 4, 0]), 'Name, the first')
+    call expect(is_name(lrpd_name(text, 'S'), [0, 0, 0, 5, 1, 0, lrpd_sum, 0, 0]), 'Name, the second in upper case')
+    call expect(is_name(lrpd_name(text, 'z'), [0, 0, 0, 6, 1, 0, lrpd_copied, 0, 0]), 'Name, the last')
+    call expect(is_name(lrpd_name(text, 'z '), [3, 0, 0, 0, 0, 0, 0, 0, 0]), 'Name, with a blank')
+    call expect(is_name(lrpd_name(text, trim('z ')), [0, 0, 0, 6, 1, 0, lrpd_copied, 0, 0]), 'Name, trimmed')
+    call expect(is_name(lrpd_name(text, 'i'), [3, 0, 0, 0, 0, 0, 0, 0, 0]), 'Name, of the variable')
+    call expect(is_name(lrpd_name(text, ''), [3, 0, 0, 0, 0, 0, 0, 0, 0]), 'Name, no characters')
+    call expect(is_name(lrpd_name('', 'a'), [2, 1, 0, 0, 0, 0, 0, 0, 0]), 'Name, refused')
+    call expect(is_name(lrpd_name(gridded(), 'g'), [0, 0, 0, 2, 6, 2, lrpd_shared, 2, 3]), 'Name, a grid')
+    call expect(is_name(lrpd_name(gridded(), 'a'), [0, 0, 0, 8, 2, 1, lrpd_shared, 2, 0]), 'Name, behind a grid')
   end subroutine
 
   subroutine loads
@@ -214,6 +225,39 @@ contains
     call expect(is_print(lrpd_print(form, again), [1, 0, 0, 0]), 'Print of a long form')
   end subroutine
 
+  ! Of the grid g(r, c) is 10 r + c.
+  subroutine grids
+    integer(c_int32_t), parameter :: lent(*) = [7, 11, 21, 12, 22, 13, 23, 8, 9], by_rows(*) = [7, 11, 12, 13, 21, 22, 23, 8, 9]
+    integer(c_int32_t) :: cells(9), wide(18)
+
+    cells = lent
+    call expect(is_done(lrpd_rows(gridded(), cells, 'g'), [0, 0, 0]), 'Rows')
+    call expect(all(cells == by_rows), 'what Rows leaves')
+    call expect(is_done(lrpd_columns(gridded(), cells, 'G'), [0, 0, 0]), 'Columns, in upper case')
+    call expect(all(cells == lent), 'what Columns leaves')
+    call expect(is_done(lrpd_columns(gridded(), cells, 'g'), [0, 0, 0]), 'Columns before Rows')
+    call expect(all(cells == [7, 11, 22, 21, 13, 12, 23, 8, 9]), 'what Columns leaves before Rows')
+    call expect(is_done(lrpd_rows(gridded(), cells, trim('g ')), [0, 0, 0]), 'Rows after Columns, trimmed')
+    call expect(all(cells == lent), 'what Rows leaves after Columns')
+    wide = 5
+    wide(2::2) = lent
+    call expect(is_done(lrpd_rows(gridded(), wide(2::2), 'g'), [0, 0, 0]), 'Rows of every other cell')
+    call expect(all(wide(2::2) == by_rows) .and. all(wide(1::2) == 5), 'the cells between, after Rows')
+
+    call expect(is_done(lrpd_rows('', cells, 'g'), [2, 1, 0]), 'Rows, refused')
+    call expect(is_done(lrpd_rows(gridded(), cells(:8), 'a'), [5, 0, 0]), 'Rows, too few cells, and no grid')
+    call expect(is_done(lrpd_rows(gridded(), cells, 'a'), [13, 0, 0]), 'Rows, of an array')
+    call expect(is_done(lrpd_rows(gridded(), cells, 's'), [13, 0, 0]), 'Rows, of a single cell')
+    call expect(is_done(lrpd_rows(gridded(), cells, 'g '), [13, 0, 0]), 'Rows, with a blank')
+    call expect(is_done(lrpd_columns('', cells, 'g'), [2, 1, 0]), 'Columns, refused')
+    call expect(is_done(lrpd_columns(gridded(), cells(:8), 'g'), [5, 0, 0]), 'Columns, too few cells')
+    call expect(is_done(lrpd_columns(gridded(), cells, 'i'), [13, 0, 0]), 'Columns, of the variable')
+    call expect(is_done(lrpd_columns(gridded(), cells, ''), [13, 0, 0]), 'Columns, no characters')
+    call expect(all(cells == lent), 'what refusals leave of a grid')
+    call expect(is_run(lrpd_run(gridded(), cells), [0, 0, 0, 0, 3, 3]), 'Run over a grid')
+    call expect(all(cells == [7, 11, 20, 12, 21, 13, 22, 8, 9]), 'what Run leaves of a grid')
+  end subroutine
+
   ! Whether an answer is these numbers.
 
   pure logical function is_check(answer, numbers)
@@ -232,9 +276,10 @@ contains
 
   pure logical function is_name(answer, numbers)
     type(lrpd_name_answer), intent(in) :: answer
-    integer, intent(in) :: numbers(7)
+    integer, intent(in) :: numbers(9)
 
-    is_name = all([answer%number, answer%line, answer%v, answer%first, answer%cells, answer%subscripts, answer%clause] == numbers)
+    is_name = all([answer%number, answer%line, answer%v, answer%first, answer%cells, answer%subscripts, answer%clause, &
+      answer%rows, answer%columns] == numbers)
   end function
 
   pure logical function is_done(answer, numbers)

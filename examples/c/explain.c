@@ -18,10 +18,14 @@ enum { TOLD = 20, RUNS = 300 };
 
 /* Words ------------------------------------------------------------------------------------------------------------------- */
 
+/* A cell by its name and subscripts. In a grid the first one goes fastest. */
 static void name_cell(char label[PICTURE_LABEL], const struct name *name, uint32_t cell)
 {
-    if (name->is.subscripts)
-        snprintf(label, PICTURE_LABEL, "%.31s(%" PRIu32 ")", name->word, cell - name->is.first + 1);
+    uint32_t at = cell - name->is.first;
+    if (name->is.subscripts == 2)
+        snprintf(label, PICTURE_LABEL, "%.31s(%" PRIu32 ", %" PRIu32 ")", name->word, at % name->is.rows + 1, at / name->is.rows + 1);
+    else if (name->is.subscripts == 1)
+        snprintf(label, PICTURE_LABEL, "%.31s(%" PRIu32 ")", name->word, at + 1);
     else
         snprintf(label, PICTURE_LABEL, "%.31s", name->word);
 }
@@ -146,7 +150,8 @@ static void simplify(uint32_t processors, uint32_t blocks)
 /* In which form an assignment to a reduction's name is an update. */
 static void tell_updates(const struct name *name)
 {
-    const char *word = name->word, *at = name->is.subscripts ? "(k)" : "";
+    static const char *const subscripts[] = {"", "(k)", "(k, l)"};
+    const char *word = name->word, *at = subscripts[name->is.subscripts];
     printf("hint: an update of %s is %s%s = ", word, word, at);
     if (name->is.clause == LRPD_SUM)
         printf("%s%s + e or %s%s = %s%s - e", word, at, word, at, word, at);

@@ -1,4 +1,5 @@
-/* Runs a loop text and prints the cells of one name: which they are, counted from 1, its clause, and their values afterwards.
+/* Runs a loop text and prints the cells of one name: its extents, which cells they are, counted from 1, its clause, and their values
+   afterwards, of a grid the first subscript fastest.
 
        gcc -I include examples/c/name.c target/staticlib/libexports.a -o target/name
        target/name examples/texts/weights.loop peak */
@@ -45,7 +46,12 @@ int main(int argc, char **argv)
     if (ran.number != 0)
         return refuse(ran.number, ran.line, ran.v);
 
-    printf("%s: cells %" PRIu32 " to %" PRIu32 ", %s\n", argv[2], name.first + 1, name.first + name.cells, clauses[name.clause]);
+    printf("%s", argv[2]);
+    if (name.subscripts == 1)
+        printf("(%" PRIu32 ")", name.rows);
+    else if (name.subscripts == 2)
+        printf("(%" PRIu32 ", %" PRIu32 ")", name.rows, name.columns);
+    printf(": cells %" PRIu32 " to %" PRIu32 ", %s\n", name.first + 1, name.first + name.cells, clauses[name.clause]);
     for (uint32_t i = 0; i < name.cells; i++)
         printf("%" PRId32 "\n", cells[name.first + i]);
     return 0;

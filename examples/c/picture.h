@@ -7,7 +7,7 @@
 #include <stdio.h>
 #include <string.h>
 
-enum { PICTURE_ROWS = 64, PICTURE_COLUMNS = 400, PICTURE_LABEL = 48, PICTURE_STORY = 256 };
+enum { PICTURE_ROWS = 64, PICTURE_COLUMNS = 400, PICTURE_LABEL = 64, PICTURE_STORY = 256 };
 
 struct picture {
     /* All words are letters, digits and signs that XML takes as they are. */

@@ -237,8 +237,9 @@ static int see(uint32_t index, size_t steps)
 /* Goes through an iteration statement by statement. A write that is put into an `if` shows whether its lines are run. */
 static int go_by_statements(uint32_t index)
 {
+    static const char *const first[] = {"", "(1)", "(1,1)"};
     char inside[64];
-    snprintf(inside, sizeof inside, "%s%s=0\nendif\n", names[0].word, names[0].is.subscripts ? "(1)" : "");
+    snprintf(inside, sizeof inside, "%s%s=0\nendif\n", names[0].word, first[names[0].is.subscripts]);
     size_t skipped = 0; /* how many `if`s are open, from the one on whose lines are not run */
     memset(marks, 0, sizes.cells * sizeof *marks);
     for (size_t at = 0; at < lines; at++) {

@@ -1,4 +1,5 @@
-! Runs a loop text and prints the cells of one name: which they are, counted from 1, its clause, and their values afterwards.
+! Runs a loop text and prints the cells of one name: its extents, which cells they are, counted from 1, its clause, and their values
+! afterwards, of a grid the first subscript fastest.
 !
 !     gfortran -J target fortran/lrpd.f90 examples/fortran/name.f90 target/staticlib/libexports.a -o target/name
 !     target/name examples/texts/weights.loop peak
@@ -29,10 +30,21 @@ program name
   if (ran%number /= lrpd_done) call refuse(ran%number, ran%line, ran%v)
 
   last = found%first + found%cells - 1
-  print '(2a, i0, a, i0, 2a)', argument(2), ': cells ', found%first, ' to ', last, ', ', trim(clauses(found%clause))
+  print '(3a, i0, a, i0, 2a)', argument(2), extents(), ': cells ', found%first, ' to ', last, ', ', trim(clauses(found%clause))
   print '(i0)', cells(found%first:last)
 
 contains
+
+  ! The extents as they are declared: none, one or two.
+  function extents() result(words)
+    character(len=:), allocatable :: words
+    character(len=24) :: buffer
+
+    buffer = ''
+    if (found%subscripts == 1) write (buffer, '("(", i0, ")")') found%rows
+    if (found%subscripts == 2) write (buffer, '("(", i0, ", ", i0, ")")') found%rows, found%columns
+    words = trim(buffer)
+  end function
 
   subroutine refuse(number, line, v)
     integer, intent(in) :: number, line, v

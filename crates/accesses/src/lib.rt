@@ -1,11 +1,11 @@
-// The instructions that access cells, one function for each (crates/code).
+// The instructions that access cells, and the place of a grid's two subscripts, one function for each (crates/code).
 ghost use mathlib.Core.Path.{_≡_};
 ghost use mathlib.Core.List.{List};
 ghost use Prim.Native.Nat.{ℕ, _/_, _%_, _≤_};
 ghost use lib.ListN.{length};
 ghost use lib.IntN.{ℤ};
 ghost use Rattle.rules.specs.Loop.{Act};
-ghost use Rattle.syntax.specs.Meaning.{located};
+ghost use Rattle.syntax.specs.Meaning.{located, in-grid};
 ghost use Rattle.code.specs.Instr.{Instr};
 ghost use Rattle.operands.specs.Pending.{Holding};
 ghost use Rattle.operands.specs.Performing.{does, Performs};
@@ -34,6 +34,21 @@ pub fn locate(first: u32, size: u32, i: i32) -> Located
         return Located::Outside;
     }
     Located::Cell(first as usize + k as usize)
+}
+
+// The place of two subscripts among the cells of a grid, the first subscript fastest.
+pub fn locate_both(rows: u32, columns: u32, i: i32, j: i32) -> Located
+    ensures { λ r. ⌜ ((line : ℕ) (k : ℕ → Act) → in-grid line 0 rows columns i j k ≡ at-cell r line k) ⌝ }
+{
+    let row = locate(0, rows, i);
+    let column = locate(0, columns, j);
+    match row {
+        Located::Cell(a) => match column {
+            Located::Cell(b) => Located::Cell(a + b * rows as usize),
+            Located::Outside => Located::Outside,
+        },
+        Located::Outside => Located::Outside,
+    }
 }
 
 // The value of a cell.
@@ -142,6 +157,33 @@ pub fn update_at(place: usize, depth: usize, pending: &[i32; 32], arg: u32, line
     let found = locate(arg % code::ELEMENT, arg / code::ELEMENT, i);
     match found {
         Located::Cell(c) => stop(place, d, Move::Update { cell: c, value: x }),
+        Located::Outside => fault(place, d, 9, line),
+    }
+}
+
+// A grid's two subscripts are tested, and the place among its cells is left as one subscript.
+pub fn flatten(
+    place: usize,
+    depth: usize,
+    pending: &mut [i32; 32],
+    arg: u32,
+    line: u32,
+) -> Performed
+    requires { ⌜ Holding (now pending) depth ⌝ }
+    ensures { λ r. ⌜ ((v : ℤ) → Performs (does (Instr.flatten (arg % 8192) (arg / 8192 % 8192) line) place depth (now (pending .entry)) v) place (now (pending .exit)) r) ⌝ }
+{
+    if depth < 2 {
+        return stop(place, depth, Move::End);
+    }
+    let d = depth - 2;
+    let i = pending[d];
+    let j = pending[d + 1];
+    let found = locate_both(arg % code::EXTENT, arg / code::EXTENT % code::EXTENT, i, j);
+    match found {
+        Located::Cell(c) => {
+            let n = operands::put(pending, d, (c + 1) as i32);
+            go_on(place, n)
+        }
         Located::Outside => fault(place, d, 9, line),
     }
 }

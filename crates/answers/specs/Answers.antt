@@ -1,6 +1,7 @@
--- RULES 9 and 10 (document 01, Services and answers; document 02, Points 7 and 8): what each service answers and leaves in what is lent, by the verdict on the text.
+-- RULES 9 and 10 (document 01, Services and answers; document 02, Points 7 to 9): what each service answers and leaves in what is lent, by the verdict on the text.
 use mathlib.Core.Bool.{cond}
 use mathlib.Core.List.{List, [], map, _++_}
+use mathlib.Core.Option.{Option, none, some}
 use Prim.Native.Nat.{ℕ, zero, suc, _+_, _*_}
 use lib.Dec.{eqb, leb, ltb}
 use lib.ListN.{length, replicate, drop}
@@ -12,10 +13,11 @@ use Rattle.rules.specs.Serial.{Outcome, finished, failed, serial}
 use Rattle.rules.specs.Answer.{look, Answer, passed, rerun, faulted, Ending, settled}
 use Rattle.reorder.specs.Stages.{stage, stage-count}
 use Rattle.syntax.specs.Bytes.{all, lower}
-use Rattle.syntax.specs.Known.{Entry, State, cells, find, known}
+use Rattle.syntax.specs.Known.{Entry, rows, columns, State, cells, find, known}
 use Rattle.syntax.specs.Text.{Verdict, refused, good, loaded}
 use Rattle.syntax.specs.Meaning.{loopOf, partitionOf}
 use Rattle.printed.specs.Form.{form}
+use Rattle.grids.specs.Arrange.{Grid, by-rows, by-columns, rearranged, grid-named}
 use Rattle.answers.specs.declared.Bounded.{Bounded}
 use Rattle.answers.specs.declared.Bounded.the-variants.{Range, Refused as Unbounded}
 use Rattle.answers.specs.declared.Checked.{Checked}
@@ -44,10 +46,11 @@ unfoldable pub boundsOf : Verdict → Bounded
 boundsOf (refused n k) = Unbounded n k
 boundsOf (good s) = Range (s .from) (s .count) (s .grouping)
 
--- ---- Name (RULES 9.2 c): the cells of a declared name and the number of its class; 3 and no line for a name that is not declared
+-- ---- Name (RULES 9.2 c): the cells of a declared name, how many subscripts it takes, the number of its class and its extents; 3 and no line for a name that is
+-- not declared
 
 abbrev pub entryCells : Entry → Located
-entryCells e = Cells (e .first) (e .size) (e .subscripted) (class-number (e .class))
+entryCells e = Cells (e .first) (e .size) (length (e .extents)) (class-number (e .class)) (rows e) (columns e)
 
 abbrev pub locatedIn : List Entry → List ℕ → Located
 locatedIn t x = cond (known x t) (entryCells (find x t)) (Unlocated 3 0)
@@ -199,3 +202,35 @@ printOf (good s) text n = formAnswered (form text) n
 unfoldable pub bytesPrinted : Verdict → List ℕ → List ℕ → List ℕ
 bytesPrinted (refused m k) text b = b
 bytesPrinted (good s) text b = formWritten (form text) b
+
+-- ---- Rows and Columns (document 02, Point 9), over the cells m and the name w
+
+-- "13, name not a grid, after 5"
+abbrev pub gridNumber : Option Grid → ℕ → ℕ
+gridNumber none zero = 13
+gridNumber (some g) zero = 0
+gridNumber o (suc n) = suc n
+
+abbrev pub arrangeNumber : State → List ℕ → ℕ → ℕ
+arrangeNumber s w m = gridNumber (grid-named (s .table) w) (loadNumber s m)
+
+-- "answers only that it was done"
+unfoldable pub arrangeOf : Verdict → List ℕ → ℕ → Completed
+arrangeOf (refused n k) w m = Rejected n k
+arrangeOf (good s) w m = completed (arrangeNumber s w m)
+
+-- the cells of the grid that is named, if it is one
+abbrev pub arranged : (Grid → (ℕ → ℤ) → ℕ → ℤ) → Option Grid → List ℤ → List ℤ
+arranged f none m = m
+arranged f (some g) m = rearranged f g m
+
+abbrev pub cellsArranged : (Grid → (ℕ → ℤ) → ℕ → ℤ) → Verdict → List ℕ → List ℤ → List ℤ
+cellsArranged f (refused n k) w m = m
+cellsArranged f (good s) w m = taken (arrangeNumber s w (length m)) (arranged f (grid-named (s .table) w) m) m
+
+-- "into row order, and its inverse"
+unfoldable pub cellsByRows : Verdict → List ℕ → List ℤ → List ℤ
+cellsByRows = cellsArranged by-rows
+
+unfoldable pub cellsByColumns : Verdict → List ℕ → List ℤ → List ℤ
+cellsByColumns = cellsArranged by-columns

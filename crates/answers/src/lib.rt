@@ -21,13 +21,15 @@ pub enum Bounded {
     },
 }
 
-// What Name answers: the first cell of a name, how many it has, whether it takes a subscript and the number of its class, or a refusal.
+// What Name answers: the first cell of a name, how many it has, how many subscripts it takes, the number of its class and its extents, or a refusal.
 pub enum Located {
     Cells {
         first: u32,
         count: u32,
-        subscripted: bool,
+        subscripts: u32,
         class: u32,
+        rows: u32,
+        columns: u32,
     },
     Refused {
         number: u32,
@@ -35,7 +37,7 @@ pub enum Located {
     },
 }
 
-// What Load and Look answer.
+// What Load, Look, Rows and Columns answer.
 pub enum Completed {
     Done,
     Refused { number: u32, line: u32 },

@@ -145,7 +145,7 @@ module _ (T : List ℕ) (σ : Stand) (m : Marked T σ) (w : List ℕ) where
             mark : (i : ℕ) → i < length t → isClaimed T′ i ≡ any (same (getD t i nowhere .name)) (xs ++ (w ∷ []))
             mark i l = elim (ℕ-discrete i (n .index)) [
               | yes x ↦ ap (isClaimed T′) x ∙ d .here (m .table .long) ∙ sym (among i x)
-              | no x ↦ ap (λ (y : ℕ). eqb (y / 4 % 2) 1) (d .others i x) ∙ more-other i l (ap (same (getD t i nowhere .name)) (sym (st .name)) ∙ apart i l x)
+              | no x ↦ ap (λ (y : ℕ). eqb (y / 2 % 2) 1) (d .others i x) ∙ more-other i l (ap (same (getD t i nowhere .name)) (sym (st .name)) ∙ apart i l x)
             ]
 
   -- a name that is not lastprivate, or is

@@ -112,4 +112,4 @@ module _ (T : List ℕ) (t : List Entry) (cs : List Clause) (tab : Tabled T t) (
 
 -- before a clause stands, none is marked
 pub unmarked : (T : List ℕ) (t : List Entry) → Tabled T t → Unclaimed T (length t) → Marked T (bare t)
-unmarked T t tab u = record { table = tab; claimed = λ i l. let z : factsAt T i / 4 ≡ 0 = omega (arith, u i l) in ap (λ (n : ℕ). eqb (n % 2) 1) z }
+unmarked T t tab u = record { table = tab; claimed = λ i l. let z : factsAt T i / 2 ≡ 0 = omega (arith, u i l) in ap (λ (n : ℕ). eqb (n % 2) 1) z }

@@ -10,8 +10,8 @@ use Rattle.rules.specs.declared.Operator.{Operator}
 use Rattle.rules.specs.declared.Operator.the-variants.{Sum, Product, Maximum}
 use Rattle.syntax.specs.declared.Function.the-variants.{Rdiv, Max}
 use Rattle.syntax.specs.Bytes.{bytes, Token, sign}
-use Rattle.syntax.specs.Grammar.{Lead, bare, plus, minus, Expr, expr, Terms, no-terms, terms, Term, term, Factors, no-factors, factors, Factor, literal, cell, call, brackets, Ref, single, element, sg, showLead, show, showTerms, showTerm, showFactors, showFactor, showRef, Statement, assign, when, otherwise, end-if, Line, declare, give, direct, loop, inside, end-do, close, showLine}
-use Rattle.syntax.specs.Known.{Entry, total, State, nothing, after}
+use Rattle.syntax.specs.Grammar.{Lead, bare, plus, minus, Expr, expr, Terms, no-terms, terms, Term, term, Factors, no-factors, factors, Factor, literal, cell, call, brackets, Ref, single, element, Subscripts, subscript, subscripts, sg, showLead, show, showTerms, showTerm, showFactors, showFactor, showRef, showSubscripts, Statement, assign, when, otherwise, end-if, Line, declare, give, direct, loop, inside, end-do, close, showLine}
+use Rattle.syntax.specs.Known.{Entry, find, total, State, nothing, after}
 use Rattle.syntax.specs.Meaning.{operator-at, is-update, remainder}
 use Rattle.syntax.specs.Conditions.{stands}
 use Rattle.syntax.specs.Text.{read, good}
@@ -20,7 +20,7 @@ use Rattle.syntax.proofs.Theorem.{accepted-sound}
 use Rattle.syntax.proofs.TokenCount.{follows-length}
 use Rattle.syntax.proofs.TestLaws.{cond-each}
 use Rattle.code.specs.Instr.{Instr}
-use Rattle.code.specs.Compile.{codeLead, code, codeTerms, codeTerm, codeFactors, codeFactor, codeRef, checks, codeAssign, codeIf, codeStmts, codeOpens, codeLines, codeOf}
+use Rattle.code.specs.Compile.{codeLead, code, codeTerms, codeTerm, codeFactors, codeFactor, codeRef, codeSubscripts, checks, codeAssign, codeIf, codeStmts, codeOpens, codeLines, codeOf}
 use Rattle.code.proofs.Emitted.{innermost-places, end-if-innermost, otherwise-innermost, emits-assign, emits-when, emits-otherwise, emits-end-if}
 
 lead-length : (l : Lead) → length (codeLead l) ≤ length (showLead l)
@@ -36,7 +36,7 @@ sign-length false a b = refl
 
 module _ (t : List Entry) (v : List ℕ) (line : ℕ) where
   mutual
-    unfolding code codeTerms codeTerm codeFactors codeFactor codeRef show showTerms showTerm showFactors showFactor showRef
+    unfolding code codeTerms codeTerm codeFactors codeFactor codeRef codeSubscripts show showTerms showTerm showFactors showFactor showRef showSubscripts
 
     pub expr-length : (e : Expr) → length (code t v line e) ≤ length (show e)
     expr-length (expr l a as′) = simp length-append (omega (arith, lead-length l, term-length a, terms-length as′))
@@ -63,7 +63,12 @@ module _ (t : List Entry) (v : List ℕ) (line : ℕ) where
     -- one token is left for the read or the store
     pub ref-length : (r : Ref) → suc (length (codeRef t v line r)) ≤ length (showRef r)
     ref-length (single x) = omega arith
-    ref-length (element x e) = simp length-append (omega (arith, expr-length e))
+    ref-length (element x is) = simp length-append (omega (arith, subscripts-length (find x t) is))
+
+    -- and one for each bracket
+    subscripts-length : (y : Entry) (is : Subscripts) → length (codeSubscripts t v line y is) ≤ 2 + length (showSubscripts is)
+    subscripts-length y (subscript e) = omega (arith, expr-length e)
+    subscripts-length y (subscripts e f) = simp length-append (omega (arith, expr-length e, expr-length f))
 
 -- ---- lines
 
@@ -85,7 +90,7 @@ remainder-length t v line Maximum (expr l (term (brackets e) xs) ts) = simp leng
 
 checks-length : (t : List Entry) (v : List ℕ) (line : ℕ) (r : Ref) → length (checks t v line r) ≤ 1
 checks-length t v line (single x) = omega arith
-checks-length t v line (element x e) = omega arith
+checks-length t v line (element x is) = omega arith
 
 pub assign-length : (t : List Entry) (v : List ℕ) (line : ℕ) (r : Ref) (e : Expr) → length (codeAssign t v line r e) ≤ length (showLine (inside (assign r e)))
 unfolding codeAssign showLine

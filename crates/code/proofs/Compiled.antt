@@ -2,7 +2,7 @@
 use mathlib.Core.Path.{_≡_, refl, sym, _∙_, ap, fun-ext}
 use mathlib.Core.Bool.{Bool, true, false, cond, _&&_}
 use mathlib.Core.List.{List, [], _∷_, _++_, append-nil}
-use Prim.Native.Nat.{ℕ, suc, _+_, _-_, _≤_}
+use Prim.Native.Nat.{ℕ, suc, _+_, _-_, _*_, _≤_}
 use native.Mathlib.Omega.{arith}
 use lib.Dec.{leb}
 use lib.ListN.{length}
@@ -15,18 +15,19 @@ use Rattle.rules.specs.declared.Operator.the-variants.{Sum, Product, Maximum}
 use Rattle.rules.specs.Loop.{Act, write, fault, done}
 use Rattle.syntax.specs.Bytes.{choose, all}
 use Rattle.syntax.specs.Grammar.{bare, Expr, expr, no-terms, terms, term, Factors, no-factors, factors, Factor, literal, cell, call, brackets, Ref, single, element}
-use Rattle.syntax.specs.Known.{Entry, find, State, Stmts, stop, set, if-then, if-else}
-use Rattle.syntax.specs.Conditions.{opens, mentions, inTerms, inTerm, inFactors, inFactor, inRef, small, finished}
+use Rattle.syntax.specs.Known.{Entry, rows, columns, find, State, Stmts, stop, set, if-then, if-else}
+use Rattle.syntax.specs.Conditions.{opens, mentions, inTerms, inTerm, inFactors, inFactor, inRef, inSubscripts, small, finished}
 use Rattle.syntax.specs.Meaning.{operator-at, is-update, second-of, remainder, located, eval, place, assigned, exec}
 use Rattle.syntax.specs.Text.{read, good}
 use Rattle.syntax.specs.Sane.{SaneStmts, Sane}
 use Rattle.syntax.proofs.Spelling.{both-true}
 use Rattle.syntax.proofs.TestLaws.{all-parts}
 use Rattle.syntax.proofs.Statements.{assign-small, when-small}
+use Rattle.syntax.proofs.Table.{find-grid}
 use Rattle.syntax.proofs.Sane.{accepted-sane, accepted-finished}
 use Rattle.code.specs.Instr.{Instr, jump-unless, jump, with1, with2, perform, resume}
 use Rattle.code.specs.Compile.{code, codeRef, stores, checks, updates, codeAssign, codeIf, codeStmts, codeOpens, codeLines, codeOf}
-use Rattle.code.proofs.CompiledExpr.{resume-assoc, resume-assoc₂, resume-expr}
+use Rattle.code.proofs.CompiledExpr.{resume-assoc, resume-assoc₂, resume-expr, resume-subscripts}
 use Rattle.rules.specs.Loop as loop
 
 -- past the instructions of a
@@ -90,27 +91,26 @@ remainder-small Product (expr l (term x (factors o y ys)) ts) h =
 remainder-small Maximum (expr l (term x xs) ts) h =
     second-small x (all-parts small (inFactor 0 x) (inFactors 0 xs) (all-parts small (inFactor 0 x ++ inFactors 0 xs) (inTerms 0 ts) h .0) .0)
 
-module _ (t : List Entry) (v : List ℕ) (x : ℤ) where
+module _ (t : List Entry) (v : List ℕ) (x : ℤ) (whole : (y : List ℕ) → rows (find y t) * columns (find y t) ≤ find y t .size) where
   -- ---- assignments
 
   resume-store : (line : ℕ) (r : Ref) (rest : List Instr) (y : ℤ) → all small (inRef 0 r) ≡ true
       → resume (codeRef t v line r ++ (stores t v line r ∷ rest)) 0 (y ∷ []) x ≡ place t v x line r (λ c. write c y (resume rest 0 [] x))
   unfolding codeRef place inRef resume perform with1 with2
   resume-store line (single z) rest y h = refl
-  resume-store line (element z e) rest y h =
-      resume-expr t v x line 1 e _ (y ∷ []) (omega arith) (both-true (small (opens 1)) (all small (mentions 1 e)) h .1) (omega arith)
+  resume-store line (element z is) rest y h =
+      resume-subscripts t v x line whole 1 z is _ (y ∷ []) _ (omega arith) (both-true (small (opens 1)) (all small (inSubscripts 1 is)) h .1) (omega arith) (λ i. refl)
 
   resume-update : (line : ℕ) (r : Ref) (e : Expr) (rest : List Instr) → all small (inRef 0 r) ≡ true → Shallow e
       → resume (codeRef t v line r ++ (checks t v line r ++ (code t v line e ++ (updates t v line r ∷ rest)))) 0 [] x
       ≡ place t v x line r (λ c. eval t v x line e (λ y. loop.update c y (resume rest 0 [] x)))
   unfolding codeRef place inRef resume perform with1 with2
-  resume-update line (single z) e rest h k = resume-expr t v x line (k .depth) e _ [] (omega (arith, k .most)) (k .within) (omega arith)
-  resume-update line (element z i) e rest h k =
-      resume-expr t v x line 1 i _ [] (omega arith) (both-true (small (opens 1)) (all small (mentions 1 i)) h .1) (omega arith)
-      ∙ ap (eval t v x line i) (fun-ext (λ j.
+  resume-update line (single z) e rest h k = resume-expr t v x line whole (k .depth) e _ [] (omega (arith, k .most)) (k .within) (omega arith)
+  resume-update line (element z is) e rest h k =
+      resume-subscripts t v x line whole 1 z is _ [] _ (omega arith) (both-true (small (opens 1)) (all small (inSubscripts 1 is)) h .1) (omega arith) (λ j.
       ap (located line (find z t .first) (find z t .size) j) (fun-ext (λ _.
-      resume-expr t v x line (k .depth) e _ (j ∷ []) (omega (arith, k .most)) (k .within) (omega arith)))
-      ∙ located-again line (find z t .first) (find z t .size) j (eval t v x line e) (λ c y. loop.update c y (resume rest 0 [] x))))
+      resume-expr t v x line whole (k .depth) e _ (j ∷ []) (omega (arith, k .most)) (k .within) (omega arith)))
+      ∙ located-again line (find z t .first) (find z t .size) j (eval t v x line e) (λ c y. loop.update c y (resume rest 0 [] x)))
 
   pub resume-assign : (line : ℕ) (r : Ref) (e : Expr) (rest : List Instr) → all small (inRef 0 r) ≡ true → all small (mentions 0 e) ≡ true
       → resume (codeAssign t v line r e ++ rest) 0 [] x ≡ assigned t v x line r e (resume rest 0 [] x)
@@ -120,7 +120,7 @@ module _ (t : List Entry) (v : List ℕ) (x : ℤ) where
       ∙ resume-assoc₂ (codeRef t v line r) (checks t v line r) (code t v line (remainder o e)) (updates t v line r ∷ rest) [] x
       ∙ resume-update line r (remainder o e) rest h (remainder-small o e k))
       (resume-assoc₂ (code t v line e) (codeRef t v line r) (stores t v line r ∷ []) rest [] x
-      ∙ resume-expr t v x line 0 e _ [] (omega arith) k (omega arith)
+      ∙ resume-expr t v x line whole 0 e _ [] (omega arith) k (omega arith)
       ∙ ap (eval t v x line e) (fun-ext (λ y. resume-store line r rest y h)))
     where
       o : Operator
@@ -140,8 +140,8 @@ module _ (t : List Entry) (v : List ℕ) (x : ℤ) where
   unfolding resume perform with2
   resume-if line a rel b m rest h k =
       resume-assoc₂ (code t v line a) (code t v line b) (jump-unless rel m ∷ []) rest [] x
-      ∙ resume-expr t v x line 0 a _ [] (omega arith) h (omega arith)
-      ∙ ap (eval t v x line a) (fun-ext (λ y. resume-expr t v x line 0 b (jump-unless rel m ∷ rest) (y ∷ []) (omega arith) k (omega arith)))
+      ∙ resume-expr t v x line whole 0 a _ [] (omega arith) h (omega arith)
+      ∙ ap (eval t v x line a) (fun-ext (λ y. resume-expr t v x line whole 0 b (jump-unless rel m ∷ rest) (y ∷ []) (omega arith) k (omega arith)))
 
   -- and its two ways
   resume-branch : (line : ℕ) (a : Expr) (rel : Relation) (b : Expr) (m : ℕ) (rest : List Instr) (yes′ no′ : Act) → all small (mentions 0 a) ≡ true
@@ -192,7 +192,7 @@ pub compiled-finished : (s : State) → Sane s → finished (s .stage) ≡ true 
     → resume (codeOf s ++ rest) 0 [] x ≡ exec (s .table) (s .variable) x (s .inner) (resume rest 0 [] x)
 compiled-finished s h f rest x =
     ap (λ (is : List Instr). resume (is ++ rest) 0 [] x) (code-finished s h f)
-    ∙ compiled (s .table) (s .variable) x (s .inner) rest (h .loop (omega (arith, leb-true 6 (s .stage) f)) .statements)
+    ∙ compiled (s .table) (s .variable) x (λ y. find-grid y (s .table) (h .table)) (s .inner) rest (h .loop (omega (arith, leb-true 6 (s .stage) f)) .statements)
 
 pub compiled-text : (text : List ℕ) (s : State) → read text ≡ good s → (x : ℤ)
     → resume (codeOf s) 0 [] x ≡ exec (s .table) (s .variable) x (s .inner) done

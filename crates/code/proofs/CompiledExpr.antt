@@ -1,27 +1,29 @@
 -- The code of an expression does what the expression does, and its value is then pending. Inside n brackets at most 5 + 3 n values are pending
--- around an expression (the left of a sum, the left of a product and the dividend for each bracket), so 8 brackets leave room among 32.
+-- around an expression (the left of a sum, the left of a product and the dividend or the first subscript for each bracket), so 8 brackets leave room
+-- among 32.
 use mathlib.Core.Path.{_≡_, refl, _∙_, ap, fun-ext}
 use mathlib.Core.Bool.{Bool, true, false, cond}
 use mathlib.Core.List.{List, [], _∷_, _++_, append-assoc}
-use Prim.Native.Nat.{ℕ, suc, _+_, _*_, min, _≤_, _<_}
+use Prim.Native.Nat.{ℕ, suc, _+_, _-_, _*_, min, _≤_, _<_}
 use native.Mathlib.Omega.{arith}
 use lib.ListN.{length}
 use lib.IntN.{ℤ, pos}
-use borrow.Author.Tests.{lt-ltb, leb-true}
+use borrow.Author.Tests.{lt-ltb, le-leb, leb-true}
 use Rattle.int32.specs.Integers.{value, sum, difference, product, quotient}
 use Rattle.int32.proofs.Laws.{value-cases}
 use Rattle.rules.specs.Loop.{Act, read}
 use Rattle.syntax.specs.declared.Function.{Function}
 use Rattle.syntax.specs.declared.Function.the-variants.{Rdiv, Max}
 use Rattle.syntax.specs.Bytes.{choose, all, same}
-use Rattle.syntax.specs.Grammar.{number, Lead, bare, plus, minus, Expr, expr, Terms, no-terms, terms, Term, term, Factors, no-factors, factors, Factor, literal, cell, call, brackets, Ref, single, element}
-use Rattle.syntax.specs.Known.{Entry, find}
-use Rattle.syntax.specs.Conditions.{opens, mentions, inTerms, inTerm, inFactors, inFactor, inRef, small}
-use Rattle.syntax.specs.Meaning.{led, divides, called, isVariable, eval, evalTerms, evalTerm, evalFactors, evalFactor, place}
+use Rattle.syntax.specs.Grammar.{number, Lead, bare, plus, minus, Expr, expr, Terms, no-terms, terms, Term, term, Factors, no-factors, factors, Factor, literal, cell, call, brackets, Ref, single, element, Subscripts, subscript, subscripts}
+use Rattle.syntax.specs.Known.{Entry, rows, columns, find}
+use Rattle.syntax.specs.Conditions.{opens, mentions, inTerms, inTerm, inFactors, inFactor, inRef, inSubscripts, small}
+use Rattle.syntax.specs.Meaning.{led, located, divides, called, isVariable, eval, evalTerms, evalTerm, evalFactors, evalFactor, place, cell-of}
 use Rattle.syntax.proofs.Spelling.{both-true}
-use Rattle.syntax.proofs.TestLaws.{all-parts}
-use Rattle.code.specs.Instr.{Instr, push, push-v, load, add, subtract, multiply, divide, room, with1, with2, perform, resume}
-use Rattle.code.specs.Compile.{codeLead, calls, reads, code, codeTerms, codeTerm, codeFactors, codeFactor, codeRef}
+use Rattle.syntax.proofs.TestLaws.{both-hold, all-parts}
+use Rattle.syntax.proofs.Placing.{in-grid-alike}
+use Rattle.code.specs.Instr.{Instr, push, push-v, load, add, subtract, multiply, divide, flatten, room, with1, with2, perform, resume}
+use Rattle.code.specs.Compile.{codeLead, calls, reads, code, codeTerms, codeTerm, codeFactors, codeFactor, codeRef, codeSubscripts}
 
 room-left : (s : List ℤ) (a : Act) → length s < 32 → room s a ≡ a
 unfolding room
@@ -33,6 +35,15 @@ resume-assoc a b rest s x = ap (λ (is : List Instr). resume is 0 s x) (append-a
 
 pub resume-assoc₂ : (a b c rest : List Instr) (s : List ℤ) (x : ℤ) → resume (((a ++ b) ++ c) ++ rest) 0 s x ≡ resume (a ++ (b ++ (c ++ rest))) 0 s x
 resume-assoc₂ a b c rest s x = resume-assoc (a ++ b) c rest s x ∙ resume-assoc a b (c ++ rest) s x
+
+-- ---- a grid's two subscripts made one
+
+-- the place that was found is inside
+located-inside : (line first size c : ℕ) (k : ℕ → Act) → c < size → located line first size (pos (suc c)) k ≡ k (first + c)
+unfolding located
+located-inside line first size c k h =
+    let d : suc c - 1 ≡ c = omega arith in
+    rw (both-hold (le-leb 1 (suc c) (omega arith)) (le-leb (suc c) size h), d)
 
 -- ---- single instructions
 
@@ -76,9 +87,10 @@ module _ (x : ℤ) (rest : List Instr) (s : List ℤ) where
 
 -- ---- expressions
 
-module _ (t : List Entry) (v : List ℕ) (x : ℤ) (line : ℕ) where
+-- `whole`: the place that is made of a grid's subscripts is one of its cells
+module _ (t : List Entry) (v : List ℕ) (x : ℤ) (line : ℕ) (whole : (y : List ℕ) → rows (find y t) * columns (find y t) ≤ find y t .size) where
   mutual
-    unfolding mentions inTerms inTerm inFactors inFactor inRef code codeTerms codeTerm codeFactors codeFactor codeRef eval evalTerms evalTerm evalFactors evalFactor place resume perform with1 with2
+    unfolding mentions inTerms inTerm inFactors inFactor inRef inSubscripts code codeTerms codeTerm codeFactors codeFactor codeRef codeSubscripts eval evalTerms evalTerm evalFactors evalFactor place cell-of resume perform with1 with2
 
     pub resume-expr : (n : ℕ) (e : Expr) (rest : List Instr) (s : List ℤ) → n ≤ 8 → all small (mentions n e) ≡ true → length s ≤ 5 + 3 * n
         → resume (code t v line e ++ rest) 0 s x ≡ eval t v x line e (λ y. resume rest 0 (y ∷ s) x)
@@ -135,6 +147,23 @@ module _ (t : List Entry) (v : List ℕ) (x : ℤ) (line : ℕ) where
         → resume (codeRef t v line r ++ (reads t v line r ∷ rest)) 0 s x
         ≡ choose (isVariable t v x r) (λ _. resume rest 0 (x ∷ s) x) (λ _. place t v x line r (λ c. read c (λ y. resume rest 0 (y ∷ s) x)))
     resume-read n (single y) rest s b h l = resume-variable x rest s (same y v) (find y t .first) (omega arith)
-    resume-read n (element y e) rest s b h l =
-        let (o, m) = both-true (small (opens (suc n))) (all small (mentions (suc n) e)) h in
-        resume-expr (suc n) e _ s (leb-true (suc n) 8 o) m (omega arith)
+    resume-read n (element y is) rest s b h l =
+        let (o, m) = both-true (small (opens (suc n))) (all small (inSubscripts (suc n) is)) h in
+        resume-subscripts (suc n) y is _ s (λ c. read c (λ z. resume rest 0 (z ∷ s) x)) (leb-true (suc n) 8 o) m (omega arith) (λ i. refl)
+
+    -- what is done with the subscript that is then pending: of a grid's two it is the place that is made of them
+    pub resume-subscripts : (n : ℕ) (y : List ℕ) (is : Subscripts) (rest : List Instr) (s : List ℤ) (k : ℕ → Act) → n ≤ 8 → all small (inSubscripts n is) ≡ true
+        → length s ≤ 4 + 3 * n
+        → ((i : ℤ) → resume rest 0 (i ∷ s) x ≡ located line (find y t .first) (find y t .size) i k)
+        → resume (codeSubscripts t v line (find y t) is ++ rest) 0 s x ≡ cell-of t v x line (find y t) is k
+    resume-subscripts n y (subscript e) rest s k b h l g = resume-expr n e rest s b h (omega arith) ∙ ap (eval t v x line e) (fun-ext g)
+    resume-subscripts n y (subscripts e f) rest s k b h l g =
+        let (p, q) = all-parts small (mentions n e) (mentions n f) h in
+        let i = flatten (rows (find y t)) (columns (find y t)) line in
+        resume-assoc₂ (code t v line e) (code t v line f) (i ∷ []) rest s x
+        ∙ resume-expr n e _ s b p (omega arith)
+        ∙ ap (eval t v x line e) (fun-ext (λ z.
+        resume-expr n f (i ∷ rest) (z ∷ s) b q (omega arith)
+        ∙ ap (eval t v x line f) (fun-ext (λ w. in-grid-alike line 0 (find y t .first) (rows (find y t)) (columns (find y t)) z w _ k (λ c d.
+        let o : 0 + c ≡ c = omega arith in
+        rw o (g (pos (suc c)) ∙ located-inside line (find y t .first) (find y t .size) c k (omega (arith, d, whole y))))))))

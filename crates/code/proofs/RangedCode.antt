@@ -1,4 +1,5 @@
--- Every instruction of a text's code can be read back from its words, since a table of at most 4,096 cells has its arrays below cell 4,096.
+-- Every instruction of a text's code can be read back from its words, since a table of at most 4,096 cells has its arrays below cell 4,096 and grids of no
+-- more rows or columns.
 use mathlib.Core.Bool.{cond}
 use mathlib.Core.List.{List, [], _∷_, _++_}
 use mathlib.Core.Option.{Option, none, some}
@@ -9,14 +10,14 @@ use Rattle.int32.specs.declared.Relation.{Relation}
 use Rattle.syntax.specs.declared.Function.{Function}
 use Rattle.syntax.specs.declared.Function.the-variants.{Rdiv, Max}
 use Rattle.syntax.specs.Bytes.{same}
-use Rattle.syntax.specs.Grammar.{number, Lead, bare, plus, minus, Expr, expr, Terms, no-terms, terms, Term, term, Factors, no-factors, factors, Factor, literal, cell, call, brackets, Ref, single, element}
-use Rattle.syntax.specs.Known.{Entry, find, cells, Stmts, stop, set, if-then, if-else, Open, State}
+use Rattle.syntax.specs.Grammar.{number, Lead, bare, plus, minus, Expr, expr, Terms, no-terms, terms, Term, term, Factors, no-factors, factors, Factor, literal, cell, call, brackets, Ref, single, element, Subscripts, subscript, subscripts}
+use Rattle.syntax.specs.Known.{Entry, rows, columns, find, cells, Stmts, stop, set, if-then, if-else, Open, State}
 use Rattle.syntax.specs.Meaning.{operator-at, is-update, remainder}
 use Rattle.syntax.specs.Sane.{Each, SaneTable, Sane}
 use Rattle.syntax.proofs.TestLaws.{each-append, cond-each}
-use Rattle.syntax.proofs.Table.{find-first}
-use Rattle.code.specs.Instr.{Instr, push, add, subtract, multiply, negate, divide, jump-unless, jump}
-use Rattle.code.specs.Compile.{codeLead, calls, reads, code, codeTerms, codeTerm, codeFactors, codeFactor, codeRef, stores, checks, updates, codeAssign, codeIf, codeStmts, codeOpen, codeOpens, codeLines, codeOf}
+use Rattle.syntax.proofs.Table.{find-first, find-extents}
+use Rattle.code.specs.Instr.{Instr, push, add, subtract, multiply, negate, divide, jump-unless, jump, flatten}
+use Rattle.code.specs.Compile.{codeLead, calls, reads, code, codeTerms, codeTerm, codeFactors, codeFactor, codeRef, codeSubscripts, stores, checks, updates, codeAssign, codeIf, codeStmts, codeOpen, codeOpens, codeLines, codeOf}
 use Rattle.code.proofs.Words.{Ranged}
 
 -- as a record, so that the list is inferred
@@ -33,7 +34,8 @@ one i h = record { each = (h, tt) }
 nil : Readable []
 nil = record { each = tt }
 
-module _ (t : List Entry) (v : List ℕ) (low : (x : List ℕ) → find x t .first < 4096) where
+module _ (t : List Entry) (v : List ℕ) (low : (x : List ℕ) → find x t .first < 4096)
+    (few : (x : List ℕ) → (rows (find x t) < 8192) × (columns (find x t) < 8192)) where
   lead-readable : (l : Lead) → Readable (codeLead l)
   lead-readable bare = nil
   lead-readable plus = nil
@@ -41,14 +43,14 @@ module _ (t : List Entry) (v : List ℕ) (low : (x : List ℕ) → find x t .fir
 
   reads-ranged : (line : ℕ) (r : Ref) → Ranged (reads t v line r)
   reads-ranged line (single x) = cond-each Ranged (same x v) tt tt
-  reads-ranged line (element x e) = low x
+  reads-ranged line (element x is) = low x
 
   calls-ranged : (line : ℕ) (f : Function) → Ranged (calls line f)
   calls-ranged line Rdiv = tt
   calls-ranged line Max = tt
 
   mutual
-    unfolding code codeTerms codeTerm codeFactors codeFactor codeRef
+    unfolding code codeTerms codeTerm codeFactors codeFactor codeRef codeSubscripts
 
     expr-readable : (line : ℕ) (e : Expr) → Readable (code t v line e)
     expr-readable line (expr l a as′) = (term-readable line a ▸ lead-readable l) ▸ terms-readable line as′
@@ -73,19 +75,23 @@ module _ (t : List Entry) (v : List ℕ) (low : (x : List ℕ) → find x t .fir
 
     ref-readable : (line : ℕ) (r : Ref) → Readable (codeRef t v line r)
     ref-readable line (single x) = nil
-    ref-readable line (element x e) = expr-readable line e
+    ref-readable line (element x is) = subscripts-readable line (find x t) is (few x)
+
+    subscripts-readable : (line : ℕ) (y : Entry) (is : Subscripts) → (rows y < 8192) × (columns y < 8192) → Readable (codeSubscripts t v line y is)
+    subscripts-readable line y (subscript e) h = expr-readable line e
+    subscripts-readable line y (subscripts e f) h = (expr-readable line e ▸ expr-readable line f) ▸ one (flatten _ _ line) h
 
   stores-ranged : (line : ℕ) (r : Ref) → Ranged (stores t v line r)
   stores-ranged line (single x) = tt
-  stores-ranged line (element x e) = low x
+  stores-ranged line (element x is) = low x
 
   updates-ranged : (line : ℕ) (r : Ref) → Ranged (updates t v line r)
   updates-ranged line (single x) = tt
-  updates-ranged line (element x e) = low x
+  updates-ranged line (element x is) = low x
 
   checks-readable : (line : ℕ) (r : Ref) → Readable (checks t v line r)
   checks-readable line (single x) = nil
-  checks-readable line (element x e) = one _ (low x)
+  checks-readable line (element x is) = one _ (low x)
 
   assign-readable : (line : ℕ) (r : Ref) (e : Expr) → Readable (codeAssign t v line r e)
   unfolding codeAssign
@@ -123,4 +129,6 @@ first-low t h k x = omega (arith, find-first x t h k, h .few-cells)
 
 pub code-ranged : (s : State) → Sane s → 1 ≤ s .stage → Each Ranged (codeOf s)
 unfolding codeOf
-code-ranged s h k = lines-ranged (s .table) (s .variable) (first-low (s .table) (h .table) (h .some-cells k)) (s .opens) (s .inner)
+code-ranged s h k =
+    lines-ranged (s .table) (s .variable) (first-low (s .table) (h .table) (h .some-cells k))
+    (λ x. let (m, n) = find-extents x (s .table) (h .table) in (omega arith, omega arith)) (s .opens) (s .inner)

@@ -7,9 +7,9 @@ use lib.ListN.{length, getD, set}
 use Rattle.int32.specs.declared.Relation.{Relation}
 use Rattle.int32.specs.declared.Relation.the-variants.{Equal, Unequal, Less, AtMost, Greater, AtLeast}
 use Rattle.syntax.specs.Sane.{Each}
-use Rattle.code.specs.Instr.{Instr, push, push-v, load, load-at, add, subtract, multiply, negate, divide, round, store, store-at, check, update, update-at, jump-unless, jump, maximum, end, relation-number, relation-of, operation, argument, words, numbered, decode, instructions}
+use Rattle.code.specs.Instr.{Instr, push, push-v, load, load-at, add, subtract, multiply, negate, divide, round, store, store-at, check, update, update-at, jump-unless, jump, maximum, flatten, end, relation-number, relation-of, operation, argument, words, numbered, decode, instructions}
 
--- an array's first cell leaves room for its length in the argument
+-- an array's first cell leaves room for its length in the argument, and a grid's first extent for its second
 abbrev pub Ranged : Instr → Type 0
 Ranged (push n) = Unit {0}
 Ranged push-v = Unit {0}
@@ -29,6 +29,7 @@ Ranged (update-at b n l) = b < 4096
 Ranged (jump-unless r n) = Unit {0}
 Ranged (jump n) = Unit {0}
 Ranged maximum = Unit {0}
+Ranged (flatten m n l) = (m < 8192) × (n < 8192)
 Ranged end = Unit {0}
 
 -- ---- one instruction
@@ -47,6 +48,14 @@ split-array b n l f h =
     let p : (b + 4096 * n) % 4096 ≡ b = omega arith in
     let q : (b + 4096 * n) / 4096 ≡ n = omega arith in
     rw (p, q)
+
+-- m and n are the grid's extents
+split-grid : (m n l : ℕ) → m < 8192 → n < 8192 → flatten ((m + 8192 * n) % 8192) ((m + 8192 * n) / 8192 % 8192) l ≡ flatten m n l
+split-grid m n l h k =
+    let p : (m + 8192 * n) % 8192 ≡ m = omega arith in
+    let q : (m + 8192 * n) / 8192 ≡ n = omega arith in
+    let r : n % 8192 ≡ n = omega arith in
+    rw (p, q, r)
 
 split-relation : (r : Relation) (n : ℕ) → jump-unless (relation-of ((relation-number r + 8 * n) % 8)) ((relation-number r + 8 * n) / 8) ≡ jump-unless r n
 split-relation r n =
@@ -90,6 +99,7 @@ decode-words (update-at b n l) h = decode-line 14 l _ (omega arith) ∙ split-ar
 decode-words (jump-unless r n) h = split-relation r n
 decode-words (jump n) h = let e : 8 * n / 8 ≡ n = omega arith in rw e
 decode-words maximum h = refl
+decode-words (flatten m n l) h = decode-line 18 l _ (omega arith) ∙ split-grid m n l (h .0) (h .1)
 decode-words end h = refl
 
 -- ---- lists of them

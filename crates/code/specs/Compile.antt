@@ -8,10 +8,10 @@ use Rattle.int32.specs.declared.Relation.{Relation}
 use Rattle.syntax.specs.declared.Function.{Function}
 use Rattle.syntax.specs.declared.Function.the-variants.{Rdiv, Max}
 use Rattle.syntax.specs.Bytes.{same}
-use Rattle.syntax.specs.Grammar.{number, Lead, bare, plus, minus, Expr, expr, Terms, no-terms, terms, Term, term, Factors, no-factors, factors, Factor, literal, cell, call, brackets, Ref, single, element}
-use Rattle.syntax.specs.Known.{Entry, find, Stmts, stop, set, if-then, if-else, Open, State}
+use Rattle.syntax.specs.Grammar.{number, Lead, bare, plus, minus, Expr, expr, Terms, no-terms, terms, Term, term, Factors, no-factors, factors, Factor, literal, cell, call, brackets, Ref, single, element, Subscripts, subscript, subscripts}
+use Rattle.syntax.specs.Known.{Entry, rows, columns, find, Stmts, stop, set, if-then, if-else, Open, State}
 use Rattle.syntax.specs.Meaning.{operator-at, is-update, remainder}
-use Rattle.code.specs.Instr.{Instr, push, push-v, load, load-at, add, subtract, multiply, negate, divide, round, store, store-at, check, update, update-at, jump-unless, jump, maximum}
+use Rattle.code.specs.Instr.{Instr, push, push-v, load, load-at, add, subtract, multiply, negate, divide, round, store, store-at, check, update, update-at, jump-unless, jump, maximum, flatten}
 
 abbrev pub codeLead : Lead → List Instr
 codeLead bare = []
@@ -27,7 +27,7 @@ module _ (t : List Entry) (v : List ℕ) where
   -- the read of a reference, once its subscript is pending
   abbrev pub reads : ℕ → Ref → Instr
   reads line (single x) = cond (same x v) push-v (load (find x t .first))
-  reads line (element x e) = load-at (find x t .first) (find x t .size) line
+  reads line (element x is) = load-at (find x t .first) (find x t .size) line
 
   -- a literal over the limit stands for none: such a text is refused
   unfoldable mutual
@@ -51,22 +51,26 @@ module _ (t : List Entry) (v : List ℕ) where
     codeFactor line (call f a b) = (code line a ++ code line b) ++ (calls line f ∷ [])
     codeFactor line (brackets e) = code line e
 
-    -- the subscript of a reference
+    -- the subscript of a reference; of a grid's two one is made
     pub codeRef : ℕ → Ref → List Instr
     codeRef line (single x) = []
-    codeRef line (element x e) = code line e
+    codeRef line (element x is) = codeSubscripts line (find x t) is
+
+    pub codeSubscripts : ℕ → Entry → Subscripts → List Instr
+    codeSubscripts line y (subscript e) = code line e
+    codeSubscripts line y (subscripts e f) = (code line e ++ code line f) ++ (flatten (rows y) (columns y) line ∷ [])
 
   abbrev pub stores : ℕ → Ref → Instr
   stores line (single x) = store (find x t .first)
-  stores line (element x e) = store-at (find x t .first) (find x t .size) line
+  stores line (element x is) = store-at (find x t .first) (find x t .size) line
 
   abbrev pub checks : ℕ → Ref → List Instr
   checks line (single x) = []
-  checks line (element x e) = check (find x t .first) (find x t .size) line ∷ []
+  checks line (element x is) = check (find x t .first) (find x t .size) line ∷ []
 
   abbrev pub updates : ℕ → Ref → Instr
   updates line (single x) = update (find x t .first)
-  updates line (element x e) = update-at (find x t .first) (find x t .size) line
+  updates line (element x is) = update-at (find x t .first) (find x t .size) line
 
   unfoldable pub codeAssign : ℕ → Ref → Expr → List Instr
   codeAssign line r e =

@@ -5,17 +5,17 @@ use mathlib.Core.List.{List, [], _∷_}
 use Prim.Native.Nat.{ℕ, zero, suc, _+_, _*_, _/_, _%_}
 use lib.Dec.{ltb}
 use lib.ListN.{length, getD}
-use lib.IntN.{ℤ}
+use lib.IntN.{ℤ, pos}
 use Rattle.int32.specs.declared.Relation.{Relation}
 use Rattle.int32.specs.declared.Relation.the-variants.{Equal, Unequal, Less, AtMost, Greater, AtLeast}
 use Rattle.int32.specs.Integers.{value, sum, difference, product, negation, larger, quotient, rdiv, related}
 use Rattle.rules.specs.Loop.{Act, read, write, done}
-use Rattle.syntax.specs.Meaning.{located, divides}
+use Rattle.syntax.specs.Meaning.{located, in-grid, divides}
 use Rattle.rules.specs.Loop as loop
 
 -- A literal by its word, v, a cell; an element of an array with its first cell, its length and the line; the operations, a division with its line; the larger of two; the
 -- store of a value in a cell or an element; the test of an update's subscript, which stays pending, and the update; jumps over so many
--- instructions.
+-- instructions; the two subscripts of a grid tested against its extents and made one, the place among its cells, with the line.
 pub data Instr : Type 0 where
   push : ℕ → Instr
   push-v : Instr
@@ -31,6 +31,7 @@ pub data Instr : Type 0 where
   jump-unless : Relation → ℕ → Instr
   jump : ℕ → Instr
   maximum : Instr
+  flatten : ℕ → ℕ → ℕ → Instr
   end : Instr
 
 -- ---- words
@@ -70,7 +71,8 @@ operation (update-at b n l) = 14 + 32 * l
 operation (jump-unless r n) = 15
 operation (jump n) = 16
 operation maximum = 17
-operation end = 18
+operation (flatten m n l) = 18 + 32 * l
+operation end = 19
 
 abbrev pub argument : Instr → ℕ
 argument (push n) = n
@@ -91,6 +93,7 @@ argument (update-at b n l) = b + 4096 * n
 argument (jump-unless r n) = relation-number r + 8 * n
 argument (jump n) = 8 * n
 argument maximum = 0
+argument (flatten m n l) = m + 8192 * n
 argument end = 0
 
 -- the words of instructions
@@ -119,6 +122,7 @@ numbered l a =
     ∷ jump-unless (relation-of (a % 8)) (a / 8)
     ∷ jump (a / 8)
     ∷ maximum
+    ∷ flatten (a % 8192) (a / 8192 % 8192) l
     ∷ []
 
 -- the instruction of two words; others are `end`
@@ -168,6 +172,7 @@ perform (update-at b n l) on past s v = with2 s (λ i x t. located l b n i (λ c
 perform (jump-unless r n) on past s v = with2 s (λ x y t. cond (related r x y) (on t) (past n t))
 perform (jump n) on past s v = past n s
 perform maximum on past s v = with2 s (λ x y t. on (larger x y ∷ t))
+perform (flatten m n l) on past s v = with2 s (λ i j t. in-grid l 0 m n i j (λ c. on (pos (suc c) ∷ t)))
 perform end on past s v = done
 
 -- from place p of the code on

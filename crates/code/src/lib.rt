@@ -38,10 +38,15 @@ pub const JUMP: u32 = 16;
 
 pub const MAXIMUM: u32 = 17;
 
+pub const FLATTEN: u32 = 18;
+
 pub const LINE: u32 = 32;
 
 // The second word of an element: its array's first cell, and ELEMENT times how many cells that has.
 pub const ELEMENT: u32 = 4096;
+
+// The second word of a grid: its first extent, and EXTENT times its second.
+pub const EXTENT: u32 = 8192;
 
 // The second word of a jump: a relation, and DISTANCE times how many instructions it goes over.
 pub const DISTANCE: u32 = 8;

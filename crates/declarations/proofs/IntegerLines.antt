@@ -2,17 +2,20 @@
 use mathlib.Core.Path.{_≡_, refl, sym, _∙_, ap, subst}
 use mathlib.Core.Bool.{Bool, true, false, cond, not, _&&_, _||_, or-false, or-true}
 use mathlib.Core.List.{List, [], _∷_, _++_, append-assoc, append-nil}
-use Prim.Native.Nat.{ℕ, zero, suc, _+_, _-_, _≤_, _<_, min, max}
+use Prim.Native.Nat.{ℕ, zero, suc, _+_, _-_, _*_, _≤_, _<_, min, max}
 use native.Mathlib.Decide.{decLt, ℕ-discrete}
+use native.Mathlib.Nat.{mul-le-mul-right}
 use native.Mathlib.Omega.{arith}
 use borrow.Author.Tests.{leb-true, le-leb}
 use lib.Dec.{leb}
-use lib.ListN.{length, drop, length-append}
+use lib.ListN.{length, getD, drop, length-append}
 use Rattle.syntax.specs.Bytes.{bytes, choose, same, any, all, between}
-use Rattle.syntax.specs.Grammar.{number, Declared, one, array}
-use Rattle.syntax.specs.Known.{Entry, known, declaredName, declaredSize, takesSubscript, total, entries}
-use Rattle.names.specs.Table.{variableOf, Tabled, Unclaimed, declared, countIn, lengthAt, variableEntry, nameWords}
+use Rattle.syntax.specs.Grammar.{number, Declared, one, array, grid}
+use Rattle.syntax.specs.Known.{Entry, known, declaredName, declaredExtents, cellsOf, declaredSize, total, entryOf, entries}
+use Rattle.names.specs.Table.{extentsOf, variableOf, Tabled, Unclaimed, declared, countIn, lengthAt, variableEntry, nameWords}
 use Rattle.names.proofs.Rows.{name-length}
+use Rattle.names.specs.declared.Shape.{Shape}
+use Rattle.syntax.proofs.Table.{extents-few}
 use Rattle.syntax.specs.Conditions.{different}
 use Rattle.syntax.proofs.Spelling.{both-true}
 use Rattle.syntax.proofs.TestLaws.{both-hold, any-append, neither-holds, same-comm-false, same-truth}
@@ -23,7 +26,7 @@ use Rattle.lexer.proofs.PlaceLaws.{goes-next, goes-end, lands-next, lands-expec
 use Rattle.lexer.proofs.Said.{sign-text}
 use Rattle.declarations.specs.declared.Item.{Item}
 use Rattle.lexer.specs.Lex.{part}
-use Rattle.declarations.specs.Integer.{Declares, Follow, namesOf, Later, Repeated, Enters, fits, Entered, apart, fit, Enlists, Integers}
+use Rattle.declarations.specs.Integer.{shapeOf, Declares, Follow, namesOf, Later, Repeated, Enters, fits, Entered, apart, fit, Enlists, Integers}
 use Rattle.declarations.specs.declared.Listed.{Listed}
 use Rattle.heading.specs.Lists.{order, Keeps}
 use Rattle.heading.proofs.Lists.{more-comma, more-none, list-last, list-more, read-there, order-unnamed, order-most, order-some, order-either}
@@ -38,57 +41,129 @@ what (done xs v) = xs
 
 -- ---- one declared name
 
+-- a factor over the limit, and another that is not 0
+pub over-first : (m n : ℕ) → 4096 < m → (n ≡ 0 → ⊥) → 4097 ≡ min (m * n) 4097
+over-first m zero h k = absurd (k refl)
+over-first m (suc n) h k = omega arith
+
+pub over-second : (m n : ℕ) → (m ≡ 0 → ⊥) → 4096 < n → 4097 ≡ min (m * n) 4097
+over-second zero n k h = absurd (k refl)
+over-second (suc m) n k h = omega arith
+
+pub few-times : (m n : ℕ) → m ≤ 4096 → n ≤ 4096 → m * n ≤ 16777216
+few-times m n h k = omega (arith, mul-le-mul-right n h)
+
+-- extents up to 2^31 have the same product up to 4,097
+capped : (a b : ℕ) → min (min a 2147483648 * min b 2147483648) 4097 ≡ min (a * b) 4097
+capped zero b = omega arith
+capped (suc a) zero = omega arith
+capped (suc a) (suc b) = elim (decLt 2147483648 (suc a)) [
+  | yes p ↦ let e : min (suc a) 2147483648 ≡ 2147483648 = omega arith in rw e (omega arith)
+  | no p ↦ elim (decLt 2147483648 (suc b)) [
+    | yes q ↦ let e : min (suc b) 2147483648 ≡ 2147483648 = omega arith in rw e (omega arith)
+    | no q ↦
+        let e : min (suc a) 2147483648 ≡ suc a = omega arith in
+        let f : min (suc b) 2147483648 ≡ suc b = omega arith in
+        rw (e, f)
+  ]
+]
+
 module _ (s : List ℕ) (from : ℕ) (w : Word) (h : Goes (Spells s w) s from (readName peek-in skip-in) (w .next)) (o : ℕ)
     (g : Goes Any s (w .next) (passes (bytes "(")) o) where
-  -- what comes after the name
+  -- what comes after the first extent, and after the name
+  abbrev second : List ℕ → List ℕ → Reader (List ℕ) Declared
+  second x y u = choose (sees peek-in skip-in "," u)
+      (λ _. next (readDigits peek-in skip-in (skip-in u)) (λ n v. next (expects peek-in skip-in ")" v) (λ _. done (grid x y n))))
+      (λ _. next (expects peek-in skip-in ")" u) (λ _. done (array x y)))
+
   abbrev rest : List ℕ → Reader (List ℕ) Declared
-  rest x u = choose (sees peek-in skip-in "(" u)
-      (λ _. next (readDigits peek-in skip-in (skip-in u)) (λ d v. next (expects peek-in skip-in ")" v) (λ _. done (array x d)))) (λ _. done (one x) u)
+  rest x u = choose (sees peek-in skip-in "(" u) (λ _. next (readDigits peek-in skip-in (skip-in u)) (second x)) (λ _. done (one x) u)
 
   rest-by : (x : List ℕ) (b : Bool) → sees peek-in skip-in "(" (drop (w .next) s) ≡ b → (Q : Declared → Type 0) (r : ℕ)
-      → Lands Q s (choose b
-      (λ _. next (readDigits peek-in skip-in (skip-in (drop (w .next) s))) (λ d v. next (expects peek-in skip-in ")" v) (λ _. done (array x d))))
-      (λ _. done (one x) (drop (w .next) s)))
-      r
+      → Lands Q s (choose b (λ _. next (readDigits peek-in skip-in (skip-in (drop (w .next) s))) (second x)) (λ _. done (one x) (drop (w .next) s))) r
       → Lands Q s (rest x (drop (w .next) s)) r
-  rest-by x b e Q r l = subst (λ (c : Bool). Lands Q s (choose c
-      (λ _. next (readDigits peek-in skip-in (skip-in (drop (w .next) s))) (λ d v. next (expects peek-in skip-in ")" v) (λ _. done (array x d))))
-      (λ _. done (one x) (drop (w .next) s)))
-      r)
+  rest-by x b e Q r l = subst (λ (c : Bool). Lands Q s
+      (choose c (λ _. next (readDigits peek-in skip-in (skip-in (drop (w .next) s))) (second x)) (λ _. done (one x) (drop (w .next) s))) r)
       (sym e) l
 
   pub declares-one : length s < o
-      → Goes (Declares s (record { next = w .next; start = w .start; stop = w .next; subscripted = false; size = 1 })) s from
+      → Goes (Declares s (record { next = w .next; start = w .start; stop = w .next; shape = record { size = 1; rows = 0; columns = 0 } })) s from
       (readDeclared peek-in skip-in) (w .next)
   declares-one b = goes-next (Spells s w) _ s rest (w .next) (w .next) h
       (λ x p l. rest-by x false (sign-text (bytes "(") refl (drop (w .next) s) ∙ pass-not s (bytes "(") (w .next) o g l b) _ (w .next)
-      (refl, l, record { name = p .bytes; order = p .order; inside = l; short = p .short; subscripted = refl; size = refl }))
+      (refl, l, record { name = p .bytes; order = p .order; inside = l; short = p .short; shape = refl }))
       (λ l. omega arith)
       (goes-end h)
 
-  module _ (b : o ≤ length s) (n k : ℕ) (d : Goes (λ d. k ≡ min (number d) 2147483648) s o (readDigits peek-in skip-in) n) (c : ℕ)
-      (f : Goes Any s n (passes (bytes ")")) c) where
-    abbrev found : Declared → Type 0
-    found = Declares s (record { next = c; start = w .start; stop = w .next; subscripted = true; size = k })
-
-    pub declares-array : Goes (Declares s (record { next = c; start = w .start; stop = w .next; subscripted = true; size = k })) s from
-        (readDeclared peek-in skip-in) c
-    declares-array = goes-next (Spells s w) found s rest (w .next) c h
+  module _ (b : o ≤ length s) (n k : ℕ) (d : Goes (λ d. k ≡ min (number d) 2147483648) s o (readDigits peek-in skip-in) n) where
+    -- by what comes after the first extent
+    bracketed : (Q : Declared → Type 0) (c : ℕ)
+        → ((x y : List ℕ) → Spells s w x → k ≡ min (number y) 2147483648 → w .next ≤ length s → n ≤ length s → Lands Q s (second x y (drop n s)) c)
+        → (n ≤ length s → n ≤ c) → (length s < n → c ≡ length s + 1) → Goes Q s from (readDeclared peek-in skip-in) c
+    bracketed Q c f fr lost = goes-next (Spells s w) Q s rest (w .next) c h
         (λ x p l. let (e, m) = pass-there s (bytes "(") (w .next) o g l b in
-        rest-by x true (sign-text (bytes "(") refl (drop (w .next) s) ∙ e) found c
-        (subst (λ (u : List ℕ). Lands found s
-        (next (readDigits peek-in skip-in u) (λ d v. next (expects peek-in skip-in ")" v) (λ _. done (array x d)))) c)
-        (sym m)
-        (lands-next (λ d. k ≡ min (number d) 2147483648) found s (λ d v. next (expects peek-in skip-in ")" v) (λ _. done (array x d))) n c
-        (readDigits peek-in skip-in (drop o s)) (d .lands b)
-        (λ y q i. lands-expect found s ")" refl n c f i (array x y)
-        (record { name = p .bytes; order = p .order; inside = l; short = p .short; subscripted = refl; size = q }))
-        (f .lost))))
+        rest-by x true (sign-text (bytes "(") refl (drop (w .next) s) ∙ e) Q c
+        (subst (λ (u : List ℕ). Lands Q s (next (readDigits peek-in skip-in u) (second x)) c) (sym m)
+        (lands-next (λ d. k ≡ min (number d) 2147483648) Q s (second x) n c (readDigits peek-in skip-in (drop o s)) (d .lands b)
+        (λ y q i. f x y p q l i) lost)))
         (λ l. elim (decLt (length s) n) [
-          | yes i ↦ omega (arith, f .lost i)
-          | no i ↦ omega (arith, g .from l, d .from b, f .from (omega arith))
+          | yes i ↦ omega (arith, lost i)
+          | no i ↦ omega (arith, g .from l, d .from b, fr (omega arith))
         ])
         (λ l. absurd (omega (arith, g .lost l)))
+
+    module _ (m : ℕ) (gm : Goes Any s n (passes (bytes ",")) m) where
+      second-by : (x y : List ℕ) (b : Bool) → sees peek-in skip-in "," (drop n s) ≡ b → (Q : Declared → Type 0) (r : ℕ)
+          → Lands Q s (choose b
+          (λ _. next (readDigits peek-in skip-in (skip-in (drop n s))) (λ n v. next (expects peek-in skip-in ")" v) (λ _. done (grid x y n))))
+          (λ _. next (expects peek-in skip-in ")" (drop n s)) (λ _. done (array x y))))
+          r
+          → Lands Q s (second x y (drop n s)) r
+      second-by x y b e Q r l = subst (λ (c : Bool). Lands Q s (choose c
+          (λ _. next (readDigits peek-in skip-in (skip-in (drop n s))) (λ n v. next (expects peek-in skip-in ")" v) (λ _. done (grid x y n))))
+          (λ _. next (expects peek-in skip-in ")" (drop n s)) (λ _. done (array x y))))
+          r)
+          (sym e) l
+
+      -- an array
+      pub declares-array : length s < m → (c z : ℕ) → Goes Any s n (passes (bytes ")")) c → z ≡ min (k * 1) 4097
+          → Goes (Declares s (record { next = c; start = w .start; stop = w .next; shape = record { size = z; rows = k; columns = 0 } })) s from
+          (readDeclared peek-in skip-in) c
+      declares-array l c z gc ez = bracketed _ c
+          (λ x y p q i j.
+          let e : z ≡ min (number y) 4097 = omega (arith, ez, q) in
+          second-by x y false (sign-text (bytes ",") refl (drop n s) ∙ pass-not s (bytes ",") n m gm j l) _ c
+          (lands-expect _ s ")" refl n c gc j (array x y)
+          (record { name = p .bytes; order = p .order; inside = i; short = p .short; shape = λ h. record { size = e h; rows = q h; columns = 0 } })))
+          (gc .from) (gc .lost)
+
+      -- a grid
+      module _ (l : m ≤ length s) (n₂ k₂ : ℕ) (d₂ : Goes (λ d. k₂ ≡ min (number d) 2147483648) s m (readDigits peek-in skip-in) n₂) (c z : ℕ)
+          (gc : Goes Any s n₂ (passes (bytes ")")) c) (ez : z ≡ min (k * k₂) 4097) where
+        abbrev found : Declared → Type 0
+        found = Declares s (record { next = c; start = w .start; stop = w .next; shape = record { size = z; rows = k; columns = k₂ } })
+
+        pub declares-grid : Goes (Declares s (record { next = c; start = w .start; stop = w .next; shape = record { size = z; rows = k; columns = k₂ } })) s from
+            (readDeclared peek-in skip-in) c
+        declares-grid = bracketed found c
+            (λ x y p q i j.
+            let (e, u) = pass-there s (bytes ",") n m gm j l in
+            second-by x y true (sign-text (bytes ",") refl (drop n s) ∙ e) found c
+            (subst (λ (u : List ℕ). Lands found s
+            (next (readDigits peek-in skip-in u) (λ n v. next (expects peek-in skip-in ")" v) (λ _. done (grid x y n)))) c)
+            (sym u)
+            (lands-next (λ d. k₂ ≡ min (number d) 2147483648) found s (λ n v. next (expects peek-in skip-in ")" v) (λ _. done (grid x y n))) n₂ c
+            (readDigits peek-in skip-in (drop m s)) (d₂ .lands l)
+            (λ y₂ q₂ i₂.
+            let f : z ≡ min (number y * number y₂) 4097 = ez ∙ (λ h. min (q h * q₂ h) 4097) ∙ capped (number y) (number y₂) in
+            lands-expect found s ")" refl n₂ c gc i₂ (grid x y y₂)
+            (record { name = p .bytes; order = p .order; inside = i; short = p .short; shape = λ h. record { size = f h; rows = q h; columns = q₂ h } }))
+            (gc .lost))))
+            (λ j. elim (decLt (length s) n₂) [
+              | yes i ↦ omega (arith, gc .lost i)
+              | no i ↦ omega (arith, gm .from j, d₂ .from l, gc .from (omega arith))
+            ])
+            (λ i. absurd (omega (arith, gm .lost i)))
 
 -- ---- further ones
 
@@ -155,27 +230,27 @@ unfit n c z f = go (fits n c z) refl
     go true e = absurd (f (fits-true n c z e))
     go false e = refl
 
--- a size up to 2^31 says whether the size itself fits
-pub fits-least : (n c z : ℕ) → fits n c (min z 2147483648) ≡ fits n c z
+-- a size up to 4,097 says whether the size itself fits
+pub fits-least : (n c z : ℕ) → fits n c (min z 4097) ≡ fits n c z
 fits-least n c z = same-truth _ _
-    (λ h. let (a, b, d, e) = fits-true n c (min z 2147483648) h in true-fits n c z (omega (arith, a)) (omega (arith, b)) (omega (arith, b, d)) e)
-    (λ h. let (a, b, d, e) = fits-true n c z h in true-fits n c (min z 2147483648) (omega (arith, a, b)) (omega (arith, b)) (omega (arith, b, d)) e)
+    (λ h. let (a, b, d, e) = fits-true n c (min z 4097) h in true-fits n c z (omega (arith, a)) (omega (arith, b)) (omega (arith, b, d)) e)
+    (λ h. let (a, b, d, e) = fits-true n c z h in true-fits n c (min z 4097) (omega (arith, a, b)) (omega (arith, b)) (omega (arith, b, d)) e)
 
 -- ---- one declared name, checked and added
 
 module _ (T s T′ : List ℕ) (c most : ℕ) (r : Item) (again : Bool) (names rank more : ℕ)
-    (er : rank ≡ max most (order (not again) (fits names c (r .size)))) where
+    (er : rank ≡ max most (order (not again) (fits names c (r .shape .size)))) where
   -- rank 0: the names and the size are in order
-  pub rank-good : rank ≡ 0 → (most ≡ 0) × (again ≡ false) × (fits names c (r .size) ≡ true)
-  rank-good e = go again (fits names c (r .size)) refl refl
+  pub rank-good : rank ≡ 0 → (most ≡ 0) × (again ≡ false) × (fits names c (r .shape .size) ≡ true)
+  rank-good e = go again (fits names c (r .shape .size)) refl refl
     where
-      go : (a b : Bool) → again ≡ a → fits names c (r .size) ≡ b → (most ≡ 0) × (a ≡ false) × (b ≡ true)
-      go true b ea eb = let q : rank ≡ max most 2 = er ∙ ap (λ (x : Bool). max most (order (not x) (fits names c (r .size)))) ea in absurd (omega (arith, q, e))
+      go : (a b : Bool) → again ≡ a → fits names c (r .shape .size) ≡ b → (most ≡ 0) × (a ≡ false) × (b ≡ true)
+      go true b ea eb = let q : rank ≡ max most 2 = er ∙ ap (λ (x : Bool). max most (order (not x) (fits names c (r .shape .size)))) ea in absurd (omega (arith, q, e))
       go false true ea eb = let q : rank ≡ max most 0 = er ∙ (λ i. max most (order (not (ea i)) (eb i))) in (omega (arith, q, e), refl, refl)
       go false false ea eb = let q : rank ≡ max most 1 = er ∙ (λ i. max most (order (not (ea i)) (eb i))) in absurd (omega (arith, q, e))
 
   module _ (d : Declared) (p : Declares s r d) (rep : Repeated T s (r .next) (part s (r .start) (r .stop)) again) (en : names ≡ countIn T)
-      (ent : Enters T (part s (r .start) (r .stop)) c (r .size) (r .subscripted) rank T′ more) where
+      (ent : Enters T (part s (r .start) (r .stop)) c (r .shape) rank T′ more) where
     unknown : (t : List Entry) → Tabled T t → again ≡ false → known (declaredName d) t ≡ false
     unknown t tab b = go (known (declaredName d) t) refl
       where
@@ -188,22 +263,21 @@ module _ (T s T′ : List ℕ) (c most : ℕ) (r : Item) (again : Bool) (names r
       rank = λ t tab ds q.
           let a = rep .either t tab ds q ∙ ap (λ (w : List ℕ). known w t || any (same w) (namesOf ds)) (sym (p .name)) in
           let n : names ≡ length t = omega (arith, en, tab .count, tab .few) in
-          er ∙ (λ i. max most (order (not (a i)) (fits (n i) c (p .size i))))
+          er ∙ (λ i. max most (order (not (a i)) (fits (n i) c (p .shape i .size))))
           ∙ ap (λ (b : Bool). max most (order (not (known (declaredName d) t || any (same (declaredName d)) (namesOf ds))) b))
           (fits-least (length t) c (declaredSize d));
       fresh = λ z t tab.
           let n : names ≡ length t = omega (arith, en, tab .count, tab .few) in
           let (a, b, x) = rank-good z in
-          (a, unknown t tab b, sym (fits-least (length t) c (declaredSize d)) ∙ sym (λ i. fits (n i) c (p .size i)) ∙ x);
-      enters = subst (λ (w : List ℕ). Enters T w c (min (declaredSize d) 2147483648) (takesSubscript d) rank T′ more) (sym (p .name))
-          (subst (λ (n : ℕ). Enters T (part s (r .start) (r .stop)) c n (takesSubscript d) rank T′ more) (p .size)
-          (subst (λ (b : Bool). Enters T (part s (r .start) (r .stop)) c (r .size) b rank T′ more) (sym (p .subscripted)) ent));
+          (a, unknown t tab b, sym (fits-least (length t) c (declaredSize d)) ∙ sym (λ i. fits (n i) c (p .shape i .size)) ∙ x);
+      enters = subst (λ (w : List ℕ). Enters T w c (shapeOf d) rank T′ more) (sym (p .name))
+          (subst (λ (z : Shape). Enters T (part s (r .start) (r .stop)) c z rank T′ more) (p .shape) ent);
     }
 
-  module _ (w : List ℕ) (sub : Bool) (ent : Enters T w c (r .size) sub rank T′ more) where
+  module _ (w : List ℕ) (ent : Enters T w c (r .shape) rank T′ more) where
     pub few-cells : c ≤ 4096 → more ≤ 4096
     few-cells b = elim (ℕ-discrete rank 0) [
-      | yes e ↦ omega (arith, ent .more e, fits-true names c (r .size) (rank-good e .2) .2)
+      | yes e ↦ omega (arith, ent .more e, fits-true names c (r .shape .size) (rank-good e .2) .2)
       | no n ↦ omega (arith, ent .same n)
     ]
 
@@ -281,10 +355,43 @@ fit-not t c d ds h = go (fit t c (d ∷ ds)) refl
         let (x, y) = both-true (leb 1 (declaredSize d)) _ (both-true (between 1 4096 (declaredSize d)) _ w .0) in
         sym (true-fits (length t) c (declaredSize d) (leb-true 1 _ x) (leb-true _ 4096 y) (omega (arith, z)) (omega (arith, p))) ∙ h
 
+-- within the limits the shape is that of the declared name
+exact-shape : (d : Declared) → 1 ≤ declaredSize d → declaredSize d ≤ 4096
+    → (shapeOf d .size ≡ declaredSize d) × (shapeOf d .rows ≤ 4096) × (shapeOf d .columns ≤ 4096)
+exact-shape d h k = let (m, n) = extents-few (declaredExtents d) h in (omega arith, omega arith, omega arith)
+
+-- extents that are none of them 0
+exact-extents : (ns : List ℕ) → length ns ≤ 2 → 1 ≤ cellsOf ns → cellsOf ns ≤ 4096 → extentsOf (min (getD ns 0 0) 2147483648) (min (getD ns 1 0) 2147483648) ≡ ns
+exact-extents [] l h k = refl
+exact-extents (zero ∷ []) l h k = absurd (omega arith)
+exact-extents (suc n ∷ []) l h k = let e : min (suc n) 2147483648 ≡ suc n = omega arith in rw e
+exact-extents (zero ∷ n ∷ []) l h k = absurd (omega arith)
+exact-extents (suc m ∷ zero ∷ []) l h k = absurd (omega arith)
+exact-extents (suc m ∷ suc n ∷ []) l h k =
+    let e : min (suc m) 2147483648 ≡ suc m = omega arith in
+    let f : min (suc n) 2147483648 ≡ suc n = omega arith in
+    rw (e, f)
+exact-extents (m ∷ n ∷ o ∷ ns) l h k = absurd (omega arith)
+
+few-extents : (d : Declared) → length (declaredExtents d) ≤ 2
+few-extents (one x) = omega arith
+few-extents (array x n) = omega arith
+few-extents (grid x m n) = omega arith
+
+exact-entry : (c : ℕ) (d : Declared) → 1 ≤ declaredSize d → declaredSize d ≤ 4096 → declared (declaredName d) c (shapeOf d) ≡ entryOf c d
+exact-entry c d h k = λ i. record {
+  name = declaredName d;
+  first = c;
+  extents = exact-extents (declaredExtents d) (few-extents d) h k i;
+  size = exact-shape d h k .0 i;
+  class = entryOf c d .class;
+  given = entryOf c d .given;
+}
+
 -- what a declared name and those after it come to
 module _ (t : List Entry) (T s : List ℕ) (c most : ℕ) (T₁ : List ℕ) (r₁ : Listed) (tab : Tabled T t) (d : Declared) (p : Entered T s c most T₁ r₁ d) where
   abbrev e : Entry
-  e = declared (declaredName d) c (declaredSize d) (takesSubscript d)
+  e = entryOf c d
 
   -- in order
   module _ (z : r₁ .rank ≡ 0) where
@@ -294,15 +401,14 @@ module _ (t : List Entry) (T s : List ℕ) (c most : ℕ) (T₁ : List ℕ) (r�
     sizes : (1 ≤ declaredSize d) × (declaredSize d ≤ 4096) × (c + declaredSize d ≤ 4096) × (length t < 16)
     sizes = fits-true (length t) c (declaredSize d) (good .2)
 
-    least : min (declaredSize d) 2147483648 ≡ declaredSize d
-    least = omega (arith, sizes .1)
-
     pub tabled₁ : Tabled T₁ (t ++ (e ∷ []))
-    tabled₁ = subst (λ (n : ℕ). Tabled T₁ (t ++ (declared (declaredName d) c n (takesSubscript d) ∷ []))) least
-        (p .enters .added z .table t tab (sizes .3) (good .1) (omega (arith, sizes .1, sizes .2)))
+    tabled₁ =
+        let x = exact-shape d (sizes .0) (sizes .1) in
+        subst (λ (e : Entry). Tabled T₁ (t ++ (e ∷ []))) (exact-entry c d (sizes .0) (sizes .1))
+        (p .enters .added z .table t tab (sizes .3) (good .1) (omega (arith, x .0, sizes .2)) (omega (arith, x .1)) (omega (arith, x .2)))
 
     pub cells₁ : r₁ .cells ≡ c + declaredSize d
-    cells₁ = p .enters .more z ∙ ap (λ (n : ℕ). c + n) least
+    cells₁ = p .enters .more z ∙ ap (λ (n : ℕ). c + n) (exact-shape d (sizes .0) (sizes .1) .0)
 
     unclaimed₁ : Unclaimed T (length t) → Unclaimed T₁ (length t + 1)
     unclaimed₁ = p .enters .added z .unclaimed t tab (sizes .3)

@@ -4,18 +4,27 @@ use mathlib.Core.Bool.{Bool, true, false, not, _&&_, _||_}
 use mathlib.Core.List.{List, _++_, map}
 use Prim.Native.Nat.{ℕ, _+_, _-_, _≤_, _<_, max, min}
 use lib.Dec.{leb}
-use lib.ListN.{length, drop}
+use lib.ListN.{length, getD, drop}
 use Rattle.syntax.specs.Bytes.{all, any, same, between}
 use Rattle.syntax.specs.Grammar.{Declared}
-use Rattle.syntax.specs.Known.{Entry, known, declaredName, declaredSize, takesSubscript, total, entries}
+use Rattle.syntax.specs.Known.{Entry, known, declaredName, declaredExtents, declaredSize, total, entries}
 use Rattle.syntax.specs.Conditions.{different}
 use Rattle.syntax.specs.Reader.{done, readMore, readDeclared, peek-in, skip-in}
 use Rattle.lexer.specs.Lex.{part}
 use Rattle.lexer.specs.Places.{Goes}
+use Rattle.names.specs.declared.Shape.{Shape}
 use Rattle.names.specs.Table.{Tabled, Unclaimed, Added}
 use Rattle.heading.specs.Lists.{readSome, order}
 use Rattle.declarations.specs.declared.Item.{Item}
 use Rattle.declarations.specs.declared.Listed.{Listed}
+
+-- the shape of a declared name as the code holds it: cells up to one over the limit, and extents up to 2^31
+abbrev pub shapeOf : Declared → Shape
+shapeOf d = record {
+  size = min (declaredSize d) 4097;
+  rows = min (getD (declaredExtents d) 0 0) 2147483648;
+  columns = min (getD (declaredExtents d) 1 0) 2147483648;
+}
 
 -- the code found this declared name
 pub record Declares (s : List ℕ) (r : Item) (d : Declared) : Type 0 where
@@ -23,8 +32,7 @@ pub record Declares (s : List ℕ) (r : Item) (d : Declared) : Type 0 where
   pub order : r .start ≤ r .stop
   pub inside : r .stop ≤ length s
   pub short : length (declaredName d) ≤ 31
-  pub subscripted : takesSubscript d ≡ r .subscripted
-  pub size : r .size ≡ min (declaredSize d) 2147483648
+  pub shape : r .shape ≡ shapeOf d
 
 -- further declared names follow at a place
 abbrev pub Follow : List ℕ → ℕ → List Declared → Type 0
@@ -41,9 +49,9 @@ pub record Repeated (T s : List ℕ) (at : ℕ) (w : List ℕ) (r : Bool) : Type
   pub either : (t : List Entry) → Tabled T t → (ds : List Declared) → Follow s at ds → r ≡ known w t || any (same w) (namesOf ds)
 
 -- a name in order, of rank 0, is added
-pub record Enters (T w : List ℕ) (c size : ℕ) (sub : Bool) (rank : ℕ) (T′ : List ℕ) (r : ℕ) : Type 0 where
-  pub added : rank ≡ 0 → Added T w c size sub T′
-  pub more : rank ≡ 0 → r ≡ c + size
+pub record Enters (T w : List ℕ) (c : ℕ) (z : Shape) (rank : ℕ) (T′ : List ℕ) (r : ℕ) : Type 0 where
+  pub added : rank ≡ 0 → Added T w c z T′
+  pub more : rank ≡ 0 → r ≡ c + z .size
   pub left : (rank ≡ 0 → ⊥) → T′ ≡ T
   pub same : (rank ≡ 0 → ⊥) → r ≡ c
 
@@ -56,7 +64,7 @@ pub record Entered (T s : List ℕ) (c most : ℕ) (T′ : List ℕ) (r : Listed
   pub rank : (t : List Entry) → Tabled T t → (ds : List Declared) → Follow s (r .next) ds
       → r .rank ≡ max most (order (not (known (declaredName d) t || any (same (declaredName d)) (namesOf ds))) (fits (length t) c (declaredSize d)))
   pub fresh : r .rank ≡ 0 → (t : List Entry) → Tabled T t → (most ≡ 0) × (known (declaredName d) t ≡ false) × (fits (length t) c (declaredSize d) ≡ true)
-  pub enters : Enters T (declaredName d) c (min (declaredSize d) 2147483648) (takesSubscript d) (r .rank) T′ (r .cells)
+  pub enters : Enters T (declaredName d) c (shapeOf d) (r .rank) T′ (r .cells)
 
 -- no name twice, and none that is declared
 abbrev pub apart : List Entry → List Declared → Bool

@@ -1,7 +1,7 @@
 // `integer` lines (RULES 1.5), after their first word.
 ghost use mathlib.Core.Path.{_≡_};
 ghost use mathlib.Core.Bool.{true, not};
-ghost use Prim.Native.Nat.{_≤_, _<_, _+_, max};
+ghost use Prim.Native.Nat.{_≤_, _<_, _+_, _*_, max, min};
 ghost use lib.ListN.{length};
 ghost use Rattle.syntax.specs.Reader.{peek-in, skip-in, readDeclared};
 ghost use Rattle.lexer.specs.Places.{Goes};
@@ -14,18 +14,41 @@ use lexer::equal;
 use lexer::name;
 use lexer::pass;
 use names::MOST;
+use names::Shape;
 use names::Table;
 use names::add;
 use names::count;
 use names::find;
 
-// A declared name: where it lies, whether it takes a subscript, and how many cells it has, up to 2^31.
+// A declared name: where it lies, and its shape, with up to 4,097 cells and extents up to 2^31.
 pub struct Item {
     pub next: usize,
     pub start: usize,
     pub stop: usize,
-    pub subscripted: bool,
-    pub size: u32,
+    pub shape: Shape,
+}
+
+// A product up to 4,097, one over the limit.
+fn product(m: u32, n: u32) -> u32
+    ensures { λ r. ⌜ r ≡ min (m * n) 4097 ⌝ }
+{
+    if m == 0 {
+        return 0;
+    }
+    if n == 0 {
+        return 0;
+    }
+    if 4096 < m {
+        return 4097;
+    }
+    if 4096 < n {
+        return 4097;
+    }
+    let p = m * n;
+    if 4096 < p {
+        return 4097;
+    }
+    p
 }
 
 fn declared(s: &[u8], at: usize) -> Item
@@ -41,18 +64,39 @@ fn declared(s: &[u8], at: usize) -> Item
             next: stop,
             start,
             stop,
-            subscripted: false,
-            size: 1,
+            shape: Shape {
+                size: 1,
+                rows: 0,
+                columns: 0,
+            },
         };
     }
     let d = digits(s, open);
-    let next = pass(s, d.next, b")");
+    let rows = d.number;
+    let comma = pass(s, d.next, b",");
+    if s.len() < comma {
+        return Item {
+            next: pass(s, d.next, b")"),
+            start,
+            stop,
+            shape: Shape {
+                size: product(rows, 1),
+                rows,
+                columns: 0,
+            },
+        };
+    }
+    let e = digits(s, comma);
+    let columns = e.number;
     Item {
-        next,
+        next: pass(s, e.next, b")"),
         start,
         stop,
-        subscripted: true,
-        size: d.number,
+        shape: Shape {
+            size: product(rows, columns),
+            rows,
+            columns,
+        },
     }
 }
 
@@ -92,7 +136,7 @@ fn repeated(s: &[u8], at: usize, w: &[u8], table: &Table) -> bool
 
 // The rank so far, with that of one declared name after as many cells and names.
 fn declared_rank(rank: u32, repeated: bool, cells: u32, size: u32, names: usize) -> u32
-    requires { ⌜ (cells ≤ 4097) × (size ≤ 2147483648) × (names ≤ mostNames) ⌝ }
+    requires { ⌜ (cells ≤ 4097) × (size ≤ 4097) × (names ≤ mostNames) ⌝ }
     ensures { λ r. ⌜ r ≡ max rank (order (not repeated) (fits names cells size)) ⌝ }
 {
     if MOST <= names {
@@ -108,15 +152,15 @@ fn declared_rank(rank: u32, repeated: bool, cells: u32, size: u32, names: usize)
 }
 
 // A declared name in order is added to the table: the number of cells after it.
-fn enter(table: &mut Table, w: &[u8], cells: u32, size: u32, subscripted: bool, rank: u32) -> u32
-    requires { ⌜ (length (now w) ≤ nameWords) × (cells ≤ 4097) × (size ≤ 2147483648) ⌝ }
-    ensures { λ r. ⌜ Enters (now (table .entry)) (now (w .entry)) cells size subscripted rank (now (table .exit)) r ⌝ }
+fn enter(table: &mut Table, w: &[u8], cells: u32, shape: Shape, rank: u32) -> u32
+    requires { ⌜ (length (now w) ≤ nameWords) × (cells ≤ 4097) × (shape .size ≤ 4097) ⌝ }
+    ensures { λ r. ⌜ Enters (now (table .entry)) (now (w .entry)) cells shape rank (now (table .exit)) r ⌝ }
 {
     if rank != 0 {
         return cells;
     }
-    add(table, w, cells, size, subscripted);
-    cells + size
+    add(table, w, cells, shape);
+    cells + shape.size
 }
 
 // What an integer line comes to: with the number of cells so far.
@@ -139,10 +183,10 @@ fn integer(s: &[u8], at: usize, table: &mut Table, cells: u32, rank: u32) -> Lis
     }
     let a = d.start;
     let e = d.stop;
-    let size = d.size;
+    let shape = d.shape;
     let again = repeated(s, next, &s[a..e], table);
-    let worst = declared_rank(rank, again, cells, size, count(table));
-    let more = enter(table, &s[a..e], cells, size, d.subscripted, worst);
+    let worst = declared_rank(rank, again, cells, shape.size, count(table));
+    let more = enter(table, &s[a..e], cells, shape, worst);
     Listed {
         next,
         cells: more,

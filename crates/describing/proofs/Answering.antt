@@ -10,9 +10,9 @@ use Rattle.syntax.specs.Bytes.{lower}
 use Rattle.syntax.specs.Known.{Entry, find, nowhere}
 use Rattle.syntax.specs.Text.{Verdict, read}
 use Rattle.lexer.proofs.Laws.{same-lengths}
-use Rattle.names.specs.Table.{Tabled, Knows, nameWords}
+use Rattle.names.specs.Table.{extentsOf, Tabled, Knows, nameWords}
 use Rattle.names.specs.declared.Named.{Named}
-use Rattle.names.proofs.Laws.{find-none}
+use Rattle.names.proofs.Laws.{find-none, knows-rows, knows-columns}
 use Rattle.reader.specs.declared.Reading.{Reading}
 use Rattle.reader.specs.Judged.{Reads}
 use Rattle.answers.specs.declared.Bounded.the-variants.{Range, Refused as Unbounded}
@@ -57,8 +57,10 @@ module _ (T : List ℕ) (t : List Entry) (d : Tabled T t) where
     by-known : (b : Bool) → e .known ≡ b → cond b (entryCells (find w t)) (Unlocated 3 0) ≡ locatedIn t (map lower x)
     by-known b q = sym (ap (λ (c : Bool). cond c (entryCells (find w t)) (Unlocated 3 0)) (sym (k .known) ∙ q)) ∙ ap (locatedIn t) l
 
-    pub declared : e .known ≡ true → Cells (e .first) (e .size) (e .subscripted) (e .class) ≡ locatedIn t (map lower x)
-    declared q = (λ i. Cells (k .first i) (k .size i) (k .subscripted i) (k .class i)) ∙ by-known true q
+    pub declared : (n : ℕ) → n ≡ length (extentsOf (e .rows) (e .columns)) → e .known ≡ true
+        → Cells (e .first) (e .size) n (e .class) (e .rows) (e .columns) ≡ locatedIn t (map lower x)
+    declared n en q =
+        (λ i. Cells (k .first i) (k .size i) ((en ∙ ap length (k .extents)) i) (k .class i) (knows-rows t w e k i) (knows-columns t w e k i)) ∙ by-known true q
 
     pub undeclared : e .known ≡ false → Unlocated 3 0 ≡ locatedIn t (map lower x)
     undeclared q = by-known false q

@@ -1,6 +1,5 @@
 -- Bounds and Name by the definitions, of small texts: rows of one table, what the definitions give and what RULES 9.2 says.
 use mathlib.Core.Path.{_≡_, refl}
-use mathlib.Core.Bool.{true, false}
 use mathlib.Core.List.{List, [], _∷_, map}
 use Prim.Native.Nat.{ℕ}
 use Prim.Native.String.{String}
@@ -22,7 +21,7 @@ use Rattle.syntax.specs.Bytes as bytes′
 
 -- a loop without statements, of this directive and these bounds
 abbrev loop : String → String → List ℕ
-loop directive bounds = text ("integer x, a(3)" ∷ "integer s, P(2), m, y" ∷ directive ∷ bounds ∷ "end do" ∷ [])
+loop directive bounds = text ("integer x, a(3)" ∷ "integer s, P(2), m, y" ∷ "integer G(2, 3), h(1, 1)" ∷ directive ∷ bounds ∷ "end do" ∷ [])
 
 abbrev plain : String
 plain = "!$omp parallel do num_threads(2) lastprivate(a, y) reduction(+:s) reduction(*:p) reduction(max:m) firstprivate(y)"
@@ -48,8 +47,8 @@ bounds-rows =
     ∷ bounds (loop plain "do i = +5, 5") (Range (pos 5) 1 Iterations)
     ∷ bounds (loop blocks "do i = 5, 4") (Range (pos 5) 0 Blocks)
     -- refusals
-    ∷ bounds (loop plain "do x = 1, 4") (Unbounded 3 4)
-    ∷ bounds (loop plain "do i = 1, 65536") (Unbounded 4 4)
+    ∷ bounds (loop plain "do x = 1, 4") (Unbounded 3 5)
+    ∷ bounds (loop plain "do i = 1, 65536") (Unbounded 4 5)
     ∷ bounds [] (Unbounded 2 1)
     ∷ []
 
@@ -64,15 +63,19 @@ name = named (loop plain "do i = 1, 0")
 
 pub name-rows : List (Row Located)
 name-rows =
-    -- first cell, how many, whether it takes a subscript, and the clause: each of the six
-    name "x" (Cells 0 1 false 0)
-    ∷ name "a" (Cells 1 3 true 1)
-    ∷ name "s" (Cells 4 1 false 2)
-    ∷ name "p" (Cells 5 2 true 4)
-    ∷ name "m" (Cells 7 1 false 5)
-    ∷ name "y" (Cells 8 1 false 3)
+    -- first cell, how many, how many subscripts, the clause (each of the six), and the extents
+    name "x" (Cells 0 1 0 0 0 0)
+    ∷ name "a" (Cells 1 3 1 1 3 0)
+    ∷ name "s" (Cells 4 1 0 2 0 0)
+    ∷ name "p" (Cells 5 2 1 4 2 0)
+    ∷ name "m" (Cells 7 1 0 5 0 0)
+    ∷ name "y" (Cells 8 1 0 3 0 0)
+    -- grids: rows and columns, also of one cell
+    ∷ name "g" (Cells 9 6 2 0 2 3)
+    ∷ name "h" (Cells 15 1 2 0 1 1)
     -- upper case reads as lower case, in the text and in the name
-    ∷ name "P" (Cells 5 2 true 4)
+    ∷ name "P" (Cells 5 2 1 4 2 0)
+    ∷ name "G" (Cells 9 6 2 0 2 3)
     -- what is not declared: v, a longer and an empty name, one with a blank, one over the room of the table
     ∷ name "i" (Unlocated 3 0)
     ∷ name "aa" (Unlocated 3 0)
@@ -80,7 +83,7 @@ name-rows =
     ∷ name "a " (Unlocated 3 0)
     ∷ name "a23456789012345678901234567890123" (Unlocated 3 0)
     -- refusals of the text come first
-    ∷ named (loop plain "do x = 1, 4") "x" (Unlocated 3 4)
+    ∷ named (loop plain "do x = 1, 4") "x" (Unlocated 3 5)
     ∷ named [] "x" (Unlocated 2 1)
     ∷ []
 

@@ -16,9 +16,11 @@ use Rattle.answers.specs.Answers.{checkOf, entryCells, nameOf}
 module _ (text : List ℕ) where
   -- Name tells that x has n cells, from number f on
   pub record Has (x : List ℕ) (f n : ℕ) : Type 0 where
-    pub subscripted : Bool
+    pub subscripts : ℕ
     pub clause : ℕ
-    pub answer : nameOf (read text) x ≡ Cells f n subscripted clause
+    pub rows : ℕ
+    pub columns : ℕ
+    pub answer : nameOf (read text) x ≡ Cells f n subscripts clause rows columns
 
   -- then these are the cells of x, in lower case, in the table of the text, which is accepted
   record Tells (x : List ℕ) (f n : ℕ) (s : State) : Type 0 where
@@ -29,7 +31,7 @@ module _ (text : List ℕ) where
   unfolding nameOf
   tells x f n h s e = go (known (map lower x) (s .table)) (sym (ap (λ (v : Verdict). nameOf v x) e) ∙ h .answer)
     where
-      go : (b : Bool) → cond b (entryCells (find (map lower x) (s .table))) (Unlocated 3 0) ≡ Cells f n (h .subscripted) (h .clause) → Tells x f n s
+      go : (b : Bool) → cond b (entryCells (find (map lower x) (s .table))) (Unlocated 3 0) ≡ Cells f n (h .subscripts) (h .clause) (h .rows) (h .columns) → Tells x f n s
       go true q = record { first = cc; size = cc }
       go false q = let z : _≡_ {A = ℕ} 0 1 = cc in absurd (omega arith)
 

@@ -39,7 +39,7 @@ pub fn bounds(text: &[u8]) -> Bounded
 }
 
 // The cells of the name that these bytes spell.
-fn located(table: &Table, name: &[u8]) -> Located
+pub fn located(table: &Table, name: &[u8]) -> Located
     ensures { λ r. ⌜ ((t : List Entry) → Tabled (now (table .entry)) t → r ≡ locatedIn t (map lower (now (name .entry)))) ⌝ }
 {
     let n = name.len();
@@ -53,8 +53,10 @@ fn located(table: &Table, name: &[u8]) -> Located
         return Located::Cells {
             first: e.first,
             count: e.size,
-            subscripted: e.subscripted,
+            subscripts: names::subscripts_of(e.rows, e.columns),
             class: e.class,
+            rows: e.rows,
+            columns: e.columns,
         };
     }
     Located::Refused { number: 3, line: 0 }

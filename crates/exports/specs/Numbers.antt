@@ -1,5 +1,4 @@
 -- RULES 9.1 a, 9.2 and 10 (document 01, Services and answers): "Returned: number, line, value of v", for each answer.
-use mathlib.Core.Bool.{Bool, cond}
 use Prim.Native.Nat.{ℕ}
 use lib.IntN.{pos}
 use Rattle.rules.specs.declared.Grouping.{Grouping}
@@ -39,13 +38,9 @@ unfoldable pub boundsNumbers : Bounded → BoundsAnswer
 boundsNumbers (Range m n g) = record { number = 0; line = 0; v = pos 0; from = m; iterations = n; blocks = by-blocks g }
 boundsNumbers (Unbounded k l) = record { number = k; line = l; v = pos 0; from = pos 0; iterations = 0; blocks = 0 }
 
--- how many subscripts a name takes: none if it is a single cell
-abbrev pub subscripts : Bool → ℕ
-subscripts b = cond b 1 0
-
 unfoldable pub nameNumbers : Located → NameAnswer
-nameNumbers (Cells f n b c) = record { number = 0; line = 0; v = pos 0; first = f; cells = n; subscripts = subscripts b; clause = c }
-nameNumbers (Unlocated k l) = record { number = k; line = l; v = pos 0; first = 0; cells = 0; subscripts = 0; clause = 0 }
+nameNumbers (Cells f z b c m n) = record { number = 0; line = 0; v = pos 0; first = f; cells = z; subscripts = b; clause = c; rows = m; columns = n }
+nameNumbers (Unlocated k l) = record { number = k; line = l; v = pos 0; first = 0; cells = 0; subscripts = 0; clause = 0; rows = 0; columns = 0 }
 
 unfoldable pub doneNumbers : Completed → DoneAnswer
 doneNumbers Done = record { number = 0; line = 0; v = pos 0 }

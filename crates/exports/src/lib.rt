@@ -3,8 +3,8 @@
 ghost use mathlib.Core.Path.{_≡_};
 ghost use lib.ListN.{length};
 ghost use Rattle.syntax.specs.Text.{read};
-ghost use Rattle.answers.specs.Answers.{checkOf, boundsOf, nameOf, loadOf, cellsLoaded, lookOf, viewShown, lookWorkspace, runOf, cellsRun, runWorkspace, planOf, listPlanned, planWorkspace, printOf, bytesPrinted};
-ghost use Rattle.exports.specs.Numbers.{checkNumbers, boundsNumbers, nameNumbers, by-blocks, subscripts, doneNumbers, runNumbers, planNumbers, printNumbers};
+ghost use Rattle.answers.specs.Answers.{checkOf, boundsOf, nameOf, loadOf, cellsLoaded, lookOf, viewShown, lookWorkspace, runOf, cellsRun, runWorkspace, planOf, listPlanned, planWorkspace, printOf, bytesPrinted, arrangeOf, cellsByRows, cellsByColumns};
+ghost use Rattle.exports.specs.Numbers.{checkNumbers, boundsNumbers, nameNumbers, by-blocks, doneNumbers, runNumbers, planNumbers, printNumbers};
 use answers::Bounded;
 use answers::Checked;
 use answers::Completed;
@@ -35,7 +35,8 @@ pub struct BoundsAnswer {
     pub blocks: u32,
 }
 
-// Name's answer: a refusal's number (0: none), line and v; the first cell, how many, how many subscripts the name takes, and its class.
+// Name's answer: a refusal's number (0: none), line and v; the first cell, how many, how many subscripts the name takes, its class, and its
+// rows and columns (0 where it has none; the rows of an array are its length).
 #[repr(C)]
 pub struct NameAnswer {
     pub number: u32,
@@ -45,9 +46,11 @@ pub struct NameAnswer {
     pub cells: u32,
     pub subscripts: u32,
     pub clause: u32,
+    pub rows: u32,
+    pub columns: u32,
 }
 
-// Load's and Look's answer: a refusal's number (0: done), line and v.
+// The answer of Load, Look, Rows and Columns: a refusal's number (0: done), line and v.
 #[repr(C)]
 pub struct DoneAnswer {
     pub number: u32,
@@ -146,13 +149,6 @@ pub extern "C" fn lrpd_bounds(text: &[u8]) -> BoundsAnswer
     }
 }
 
-// How many subscripts a name takes.
-fn subscripts_of(subscripted: bool) -> u32
-    ensures { λ r. ⌜ r ≡ subscripts subscripted ⌝ }
-{
-    if subscripted { 1 } else { 0 }
-}
-
 #[no_mangle]
 pub extern "C" fn lrpd_name(text: &[u8], name: &[u8]) -> NameAnswer
     ensures { λ r. ⌜ r ≡ nameNumbers (nameOf (read (now (text .entry))) (now (name .entry))) ⌝ }
@@ -162,16 +158,20 @@ pub extern "C" fn lrpd_name(text: &[u8], name: &[u8]) -> NameAnswer
         Located::Cells {
             first,
             count,
-            subscripted,
+            subscripts,
             class,
+            rows,
+            columns,
         } => NameAnswer {
             number: 0,
             line: 0,
             v: 0,
             first: first,
             cells: count,
-            subscripts: subscripts_of(subscripted),
+            subscripts: subscripts,
             clause: class,
+            rows: rows,
+            columns: columns,
         },
         Located::Refused { number, line } => NameAnswer {
             number: number,
@@ -181,6 +181,8 @@ pub extern "C" fn lrpd_name(text: &[u8], name: &[u8]) -> NameAnswer
             cells: 0,
             subscripts: 0,
             clause: 0,
+            rows: 0,
+            columns: 0,
         },
     }
 }
@@ -355,4 +357,22 @@ pub extern "C" fn lrpd_print(text: &[u8], bytes: &mut [u8]) -> PrintAnswer
             length: 0,
         },
     }
+}
+
+#[no_mangle]
+pub extern "C" fn lrpd_rows(text: &[u8], cells: &mut [i32], name: &[u8]) -> DoneAnswer
+    ensures { λ r. ⌜ r ≡ doneNumbers (arrangeOf (read (now (text .entry))) (now (name .entry)) (length (now (cells .entry)))) ⌝ }
+    ensures { λ _. ⌜ now (cells .exit) ≡ cellsByRows (read (now (text .entry))) (now (name .entry)) (now (cells .entry)) ⌝ }
+{
+    let r = arranging::rows(text, cells, name);
+    done_answer(r)
+}
+
+#[no_mangle]
+pub extern "C" fn lrpd_columns(text: &[u8], cells: &mut [i32], name: &[u8]) -> DoneAnswer
+    ensures { λ r. ⌜ r ≡ doneNumbers (arrangeOf (read (now (text .entry))) (now (name .entry)) (length (now (cells .entry)))) ⌝ }
+    ensures { λ _. ⌜ now (cells .exit) ≡ cellsByColumns (read (now (text .entry))) (now (name .entry)) (now (cells .entry)) ⌝ }
+{
+    let r = arranging::columns(text, cells, name);
+    done_answer(r)
 }

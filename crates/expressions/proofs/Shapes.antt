@@ -9,13 +9,13 @@ use lib.Dec.{eqb}
 use lib.ListN.{drop}
 use Rattle.syntax.specs.declared.Function.the-variants.{Rdiv, Max}
 use Rattle.syntax.specs.Bytes.{choose, bytes, same, sign}
-use Rattle.syntax.specs.Grammar.{Lead, bare, plus, minus, Expr, expr, Factor, literal, cell, brackets, Ref, single, element}
+use Rattle.syntax.specs.Grammar.{Lead, bare, plus, minus, expr, Factor, literal, cell, brackets, Ref, single, element, Subscripts}
 use Rattle.syntax.specs.Reader.{Parsed, broken, done, next, is, kind, text, isDigits, says, expects, peek-in, skip-in, readLead, readExpr, readTerms, readTerm, readFactor, readRef}
 use Rattle.syntax.proofs.Spelling.{is-true}
-use Rattle.expressions.specs.Readers.{readArguments}
+use Rattle.expressions.specs.Readers.{readArguments, readIndices}
 use Rattle.parts.specs.Parts.{skipped, Passes, stands, either, joined, chosen, leadBy, Joins, begins}
 use Rattle.parts.specs.declared.Joint.{Joint}
-use Rattle.parts.specs.declared.Joint.the-variants.{Neither}
+use Rattle.parts.specs.declared.Joint.the-variants.{Neither, First, Second}
 use Rattle.parts.specs.declared.Joined.{Joined}
 use Rattle.parts.specs.declared.Beginning.{Beginning}
 use Rattle.parts.specs.declared.Beginning.the-variants.{Nothing, Literal, Bracket, Call, Name, Element}
@@ -51,6 +51,33 @@ module _ (a b : ℕ) (s : List ℕ) (at : ℕ) (r : Joined) (j : Joins a b s at 
       go true q h = absurd (let z : _≡_ {A = ℕ} 0 1 = cc in omega arith)
       go false true h = absurd (let z : _≡_ {A = ℕ} 0 1 = cc in omega arith)
       go false false h = refl
+
+  pub neither-stands : r .joint ≡ Neither → (stands a (drop at s) ≡ false) × (stands b (drop at s) ≡ false)
+  neither-stands z = go (stands a (drop at s)) (stands b (drop at s)) (sym (j .joint) ∙ z)
+    where
+      go : (p q : Bool) → either p q ≡ Neither → (p ≡ false) × (q ≡ false)
+      go true q h = absurd (let z : _≡_ {A = ℕ} 0 1 = cc in omega arith)
+      go false true h = absurd (let z : _≡_ {A = ℕ} 0 1 = cc in omega arith)
+      go false false h = (refl, refl)
+
+  pub first-stands : r .joint ≡ First → (stands a (drop at s) ≡ true) × Passes 1 s at (r .next)
+  first-stands z =
+      (go (stands a (drop at s)) (stands b (drop at s)) (sym (j .joint) ∙ z), subst (λ (w : Joint). Passes (joined w) s at (r .next)) z (j .next))
+    where
+      go : (p q : Bool) → either p q ≡ First → p ≡ true
+      go true q h = refl
+      go false true h = absurd (let z : _≡_ {A = ℕ} 0 1 = cc in omega arith)
+      go false false h = absurd (let z : _≡_ {A = ℕ} 0 1 = cc in omega arith)
+
+  pub second-stands : r .joint ≡ Second → (stands a (drop at s) ≡ false) × (stands b (drop at s) ≡ true) × Passes 1 s at (r .next)
+  second-stands z =
+      let g = go (stands a (drop at s)) (stands b (drop at s)) (sym (j .joint) ∙ z) in
+      (g .0, g .1, subst (λ (w : Joint). Passes (joined w) s at (r .next)) z (j .next))
+    where
+      go : (p q : Bool) → either p q ≡ Second → (p ≡ false) × (q ≡ true)
+      go true q h = absurd (let z : _≡_ {A = ℕ} 0 1 = cc in omega arith)
+      go false true h = (refl, refl)
+      go false false h = absurd (let z : _≡_ {A = ℕ} 0 1 = cc in omega arith)
 
   -- the second sign is not the first
   pub some-sign : same (b ∷ []) (a ∷ []) ≡ false → joined (r .joint) ≡ 1
@@ -135,8 +162,7 @@ module _ (u : List ℕ) where
   abbrev subscript : ℕ → Bool → Parsed (List ℕ) Ref
   subscript f p =
       choose p
-      (λ _. next (readExpr peek-in skip-in f (skip-in (skip-in u)))
-      (λ e v. next (expects peek-in skip-in ")" v) (λ _ w. done (element (text (peek-in u)) e) w)))
+      (λ _. next (readIndices f (skip-in (skip-in u))) (λ i v. done (element (text (peek-in u)) i) v))
       (λ _. done (single (text (peek-in u))) (skip-in u))
 
   ref-named : (f : ℕ) (k : Bool) → eqb (kind (peek-in u)) 1 ≡ k → readRef peek-in skip-in (suc f) u ≡ cond k (subscript f (stands 40 (skip-in u))) broken
@@ -145,7 +171,7 @@ module _ (u : List ℕ) where
     where
       go : (k : Bool) → next (cond k (done (text (peek-in u)) (skip-in u)) broken)
           (λ x v. choose (stands 40 v)
-          (λ _. next (readExpr peek-in skip-in f (skip-in v)) (λ e w. next (expects peek-in skip-in ")" w) (λ _ y. done (element x e) y)))
+          (λ _. next (readIndices f (skip-in v)) (λ i w. done (element x i) w))
           (λ _. done (single x) v)) ≡ cond k (subscript f (stands 40 (skip-in u))) broken
       go true = refl
       go false = refl
@@ -165,8 +191,7 @@ module _ (u : List ℕ) where
 
   pub ref-element : (f : ℕ) → begins u ≡ Element
       → readRef peek-in skip-in (suc f) u
-      ≡ next (readExpr peek-in skip-in f (skip-in (skip-in u)))
-      (λ e v. next (expects peek-in skip-in ")" v) (λ _ w. done (element (text (peek-in u)) e) w))
+      ≡ next (readIndices f (skip-in (skip-in u))) (λ i v. done (element (text (peek-in u)) i) v)
   ref-element f e = ref-begun f (ap named e) ∙ ap (subscript f) (go (stands 40 (skip-in u)) (begun-by Element refl e))
     where
       go : (p : Bool) → cond p Element Name ≡ Element → p ≡ true
@@ -218,18 +243,11 @@ factor-shape f u =
     go false false false false p false h = ap (λ (P : Parsed (List ℕ) Ref). next P (λ r v. done (cell r) v)) (h refl)
 
 -- an element, as a factor
-module _ (f : ℕ) (u : List ℕ) (e : begins u ≡ Element) where
-  next-sealed : (P : Parsed (List ℕ) Expr) (x : List ℕ) → next (next P (λ e v. next (expects peek-in skip-in ")" v) (λ _ w. done (element x e) w)))
-      (λ r v. done (cell r) v) ≡ next P (λ e v. next (expects peek-in skip-in ")" v) (λ _ w. done (cell (element x e)) w))
-  next-sealed broken x = refl
-  next-sealed (done e v) x = go (expects peek-in skip-in ")" v)
-    where
-      go : (E : Parsed (List ℕ) (Unit {0})) → next (next E (λ _ w. done (element x e) w)) (λ r v. done (cell r) v) ≡ next E (λ _ w. done (cell (element x e)) w)
-      go broken = refl
-      go (done y w) = refl
-
-  pub element-shape : shape Element (suc f) u ≡ next (readExpr peek-in skip-in f (skip-in (skip-in u)))
-      (λ e v. next (expects peek-in skip-in ")" v) (λ _ w. done (cell (element (text (peek-in u)) e)) w))
-  element-shape =
-      ap (λ (P : Parsed (List ℕ) Ref). next P (λ r v. done (cell r) v)) (ref-element u f e)
-      ∙ next-sealed (readExpr peek-in skip-in f (skip-in (skip-in u))) (text (peek-in u))
+pub element-shape : (f : ℕ) (u : List ℕ) → begins u ≡ Element
+    → shape Element (suc f) u ≡ next (readIndices f (skip-in (skip-in u))) (λ i v. done (cell (element (text (peek-in u)) i)) v)
+element-shape f u e = ap (λ (P : Parsed (List ℕ) Ref). next P (λ r v. done (cell r) v)) (ref-element u f e) ∙ go (readIndices f (skip-in (skip-in u)))
+  where
+    go : (P : Parsed (List ℕ) Subscripts) → next (next P (λ i v. done (element (text (peek-in u)) i) v)) (λ r v. done (cell r) v)
+        ≡ next P (λ i v. done (cell (element (text (peek-in u)) i)) v)
+    go broken = refl
+    go (done i v) = refl

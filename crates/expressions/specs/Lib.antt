@@ -1,2 +1,2 @@
--- The reader of a quotient.
+-- The readers of what follows a bracket.
 pub mod Readers

@@ -1,13 +1,18 @@
 // The readers of expressions (RULES 1.10): form, names and limits are checked, and postfix code is emitted, in one pass over what is
 // left of a line. "An expression holds terms, a term holds factors, a factor may hold an expression": the readers call each other.
+ghost use mathlib.Core.Path.{_≡_};
 ghost use Prim.Native.Nat.{suc, _≤_, _+_, _*_};
+ghost use lib.ListN.{length};
+ghost use Rattle.syntax.specs.Grammar.{element};
 ghost use Rattle.syntax.specs.Reader.{peek-in, skip-in, readExpr, readTerms, readTerm, readFactors, readFactor, readRef};
 ghost use Rattle.syntax.specs.Conditions.{mentions, inTerms, inTerm, inFactors, inFactor, inRef};
 ghost use Rattle.code.specs.Compile.{code as codeExpr, codeTerms, codeTerm, codeFactors, codeFactor, codeRef};
 ghost use Rattle.parts.specs.Answer.{Answers, Ready};
-ghost use Rattle.expressions.specs.Readers.{readArguments};
+ghost use Rattle.parts.specs.Parts.{kindAt, textAt};
+ghost use Rattle.expressions.specs.Readers.{readArguments, readIndices};
 use names::Table;
 use parts::Beginning;
+use parts::Fetch;
 use parts::Got;
 use parts::Joint;
 use parts::begin;
@@ -200,9 +205,8 @@ pub fn factor(
         }
         Beginning::Name => variable(s, at, rank, line, table, code, place),
         Beginning::Element => {
-            let worse = opened(named(s, at, rank, table, true), inner);
-            let g = expression(s, next, inner, worse, line, table, code, place);
-            then_read(s, at, line, table, code, expect(s, g, b')'), true)
+            let g = subscripts(s, next, depth, rank, line, table, code, place, at);
+            then_read(s, at, line, table, code, g, Fetch::Indexed)
         }
         Beginning::Nothing => Got::Broken,
     }
@@ -240,7 +244,53 @@ fn pair(
     }
 }
 
-// A name, and its subscript if it has one, with so many brackets open around it: only the subscript's code is emitted.
+// The subscripts of the name at a place, after its bracket: of a grid's two one is made (RULES 2.5).
+fn subscripts(
+    s: &[u8],
+    at: usize,
+    depth: usize,
+    rank: u32,
+    line: u32,
+    table: &Table,
+    code: &mut [u32],
+    place: usize,
+    name: usize,
+) -> Got
+    requires { ⌜ Ready (now s) at (depth + 1) place (now code) ⌝ }
+    requires { ⌜ (line ≤ 2049) × (name ≤ length (now s)) × (kindAt (now s) name ≡ 1) ⌝ }
+    ensures { λ r. ⌜ Answers readIndices (λ t v i. codeRef t v line (element (textAt (now (s .entry)) name) i))
+        (λ i. inRef depth (element (textAt (now (s .entry)) name) i)) 2 (suc at) (now (table .entry)) (now (s .entry)) at place rank
+        (now (code .entry)) (now (code .exit)) r ⌝ }
+{
+    let inner = depth + 1;
+    match expression(s, at, inner, opened(rank, inner), line, table, code, place) {
+        Got::Done {
+            at: n,
+            place: p,
+            rank: d,
+        } => {
+            let j = join(s, n, b',', b')');
+            let joint = j.joint;
+            let from = j.next;
+            match joint {
+                Joint::Second => Got::Done {
+                    at: from,
+                    place: p,
+                    rank: named(s, name, d, table, 1),
+                },
+                Joint::First => {
+                    let worse = named(s, name, d, table, 2);
+                    let g = expression(s, from, inner, worse, line, table, code, p);
+                    then_read(s, name, line, table, code, expect(s, g, b')'), Fetch::Place)
+                }
+                Joint::Neither => Got::Broken,
+            }
+        }
+        Got::Broken => Got::Broken,
+    }
+}
+
+// A name, and its subscripts if it has some, with so many brackets open around it: only the subscripts' code is emitted.
 pub fn reference(
     s: &[u8],
     at: usize,
@@ -259,18 +309,13 @@ pub fn reference(
     let b = begin(s, at);
     let beginning = b.beginning;
     let next = b.next;
-    let inner = depth + 1;
     match beginning {
         Beginning::Name => Got::Done {
             at: next,
             place,
-            rank: named(s, at, rank, table, false),
+            rank: named(s, at, rank, table, 0),
         },
-        Beginning::Element => {
-            let worse = opened(named(s, at, rank, table, true), inner);
-            let g = expression(s, next, inner, worse, line, table, code, place);
-            expect(s, g, b')')
-        }
+        Beginning::Element => subscripts(s, next, depth, rank, line, table, code, place, at),
         Beginning::Literal => Got::Broken,
         Beginning::Bracket => Got::Broken,
         Beginning::Call { function: _ } => Got::Broken,

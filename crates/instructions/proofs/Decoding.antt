@@ -30,6 +30,6 @@ pub decode-as : (word arg n : ℕ) → word % 32 ≡ n → decode word arg ≡ g
 unfolding decode
 decode-as word arg n e = rw e
 
-pub decode-last : (word arg : ℕ) → 18 ≤ word % 32 → decode word arg ≡ end
+pub decode-last : (word arg : ℕ) → 19 ≤ word % 32 → decode word arg ≡ end
 unfolding decode
 decode-last word arg h = getD-past (numbered (word / 32) arg) (word % 32) end h

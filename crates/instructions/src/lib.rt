@@ -89,6 +89,7 @@ pub fn perform(
         code::JUMP_UNLESS => jump_unless(place, depth, pending, arg),
         code::JUMP => jump(place, depth, arg),
         code::MAXIMUM => operands::maximum(place, depth, pending),
+        code::FLATTEN => accesses::flatten(place, depth, pending, arg, line),
         _ => stop(place, depth, Move::End),
     }
 }

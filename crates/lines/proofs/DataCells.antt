@@ -42,7 +42,7 @@ sets-over (x ∷ xs) ys [] e = absurd (omega (arith, e))
 sets-over (x ∷ xs) ys (v ∷ vs) e = sets-cons v (xs ++ ys) 0 vs ∙ ap (λ (l : List ℤ). v ∷ l) (sets-over xs ys vs (omega (arith, e)))
 
 abbrev with-data : Entry → List ℤ → Entry
-with-data e vs = record { name = e .name; first = e .first; subscripted = e .subscripted; size = e .size; class = e .class; given = some vs }
+with-data e vs = record { name = e .name; first = e .first; extents = e .extents; size = e .size; class = e .class; given = some vs }
 
 -- a name that is none of the others
 others-kept : (x : List ℕ) (vs : List ℤ) (t : List Entry) → known x t ≡ false → map (give-to x vs) t ≡ t

@@ -11,13 +11,14 @@ use lib.IntN.{ℤ, pos}
 use Rattle.rules.specs.declared.Grouping.{Grouping}
 use Rattle.rules.specs.declared.Grouping.the-variants.{Iterations}
 use Rattle.syntax.specs.Bytes.{bytes, all, between}
-use Rattle.syntax.specs.Grammar.{number, Declared, one, array, Line, declare, close}
+use Rattle.syntax.specs.Grammar.{number, Declared, one, array, grid, Line, declare, close}
 use Rattle.syntax.specs.Known.{Entry, declaredSize, total, entries, cells, State, heading, after}
 use Rattle.syntax.specs.Conditions.{concat, inDeclared, inLine, rightly, small, names, limits, may-follow, singly}
 use Rattle.syntax.specs.Text.{initial, loaded}
 use Rattle.syntax.specs.Reader.{Parsed, next, wants, readDeclared, readDeclare, peek-in, skip-in}
 use Rattle.syntax.proofs.Spelling.{both-true}
 use Rattle.syntax.proofs.TestLaws.{both-hold}
+use Rattle.syntax.proofs.Table.{extents-few}
 use Rattle.syntax.proofs.TableLines.{total-append, entries-cells, entries-length}
 use Rattle.syntax.proofs.ReaderLaws.{next-assoc}
 use Rattle.code.specs.Instr.{words}
@@ -49,6 +50,7 @@ digits-right : (t : List Entry) (v : List ℕ) (ds : List Declared) → all (rig
 digits-right t v [] = refl
 digits-right t v (one x ∷ ds) = digits-right t v ds
 digits-right t v (array x d ∷ ds) = digits-right t v ds
+digits-right t v (grid x m n ∷ ds) = digits-right t v ds
 
 names-are : (st : State) (d : Declared) (ds : List Declared) → names st (declare d ds) ≡ apart (st .table) (d ∷ ds)
 unfolding names inLine
@@ -60,6 +62,13 @@ sizes-small (one x ∷ ds) h = sizes-small ds h
 sizes-small (array x d ∷ ds) h =
     let (p, q) = both-true (between 1 4096 (number d)) _ h in
     both-hold (le-leb (number d) 2147483647 (omega (arith, leb-true (number d) 4096 (both-true (leb 1 (number d)) _ p .1)))) (sizes-small ds q)
+sizes-small (grid x m n ∷ ds) h =
+    let z = number m * number n in
+    let (p, q) = both-true (between 1 4096 z) _ h in
+    let (a, b) = both-true (leb 1 z) _ p in
+    let most = leb-true z 4096 b in
+    let (k, l) = extents-few (number m ∷ number n ∷ []) (leb-true 1 z a) in
+    both-hold (le-leb (number m) 2147483647 (omega arith)) (both-hold (le-leb (number n) 2147483647 (omega arith)) (sizes-small ds q))
 
 -- what a test implies adds nothing to it
 pub implied : (a b : Bool) → (b ≡ true → a ≡ true) → a && b ≡ b

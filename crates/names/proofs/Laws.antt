@@ -12,11 +12,11 @@ use Rattle.rules.specs.Cells.{listed}
 use Rattle.rules.proofs.CellsLaws.{listed-length, listed-same}
 use Rattle.syntax.specs.Bytes.{same}
 use Rattle.rules.specs.Numbers.{class-number}
-use Rattle.syntax.specs.Known.{Entry, known, find, nowhere}
+use Rattle.syntax.specs.Known.{Entry, rows, columns, known, find, nowhere}
 use Rattle.syntax.proofs.Spelling.{same-true}
 use Rattle.lexer.proofs.Laws.{same-lengths}
 use Rattle.syntax.specs.Conditions.{isGiven}
-use Rattle.names.specs.Table.{wordAt, nameAt, Tabled, Found, Knows, Stands, isClaimed, countIn, factsAt, firstAt, lengthAt, sizeAt, nameWords, lengthWord, entryWords}
+use Rattle.names.specs.Table.{wordAt, nameAt, extentsOf, rowsAt, columnsAt, Tabled, Found, Knows, Stands, isClaimed, countIn, factsAt, firstAt, lengthAt, sizeAt, nameWords, lengthWord, entryWords}
 use Rattle.names.specs.declared.Named.{Named}
 
 -- ---- one name
@@ -109,6 +109,38 @@ module _ (T : List ℕ) (t : List Entry) (d : Tabled T t) (n : ℕ) (en : n ≡ 
 
 -- ---- what is known of a name
 
+-- the extents that two words stand for are those words
+pub first-extent : (m n : ℕ) → getD (extentsOf m n) 0 0 ≡ m
+first-extent zero zero = refl
+first-extent (suc m) zero = refl
+first-extent zero (suc n) = refl
+first-extent (suc m) (suc n) = refl
+
+pub second-extent : (m n : ℕ) → getD (extentsOf m n) 1 0 ≡ n
+second-extent zero zero = refl
+second-extent (suc m) zero = refl
+second-extent zero (suc n) = refl
+second-extent (suc m) (suc n) = refl
+
+-- how many they are
+pub extents-two : (m n : ℕ) → (n ≡ 0 → ⊥) → 2 ≡ length (extentsOf m n)
+extents-two m zero h = absurd (h refl)
+extents-two zero (suc n) h = refl
+extents-two (suc m) (suc n) h = refl
+
+pub extents-one : (m n : ℕ) → n ≡ 0 → (m ≡ 0 → ⊥) → 1 ≡ length (extentsOf m n)
+extents-one zero n e h = absurd (h refl)
+extents-one (suc m) n e h = ap (λ (k : ℕ). length (extentsOf (suc m) k)) (sym e)
+
+pub extents-none : (m n : ℕ) → n ≡ 0 → m ≡ 0 → 0 ≡ length (extentsOf m n)
+extents-none m n e f = sym (λ i. length (extentsOf (f i) (e i)))
+
+pub knows-rows : (t : List Entry) (w : List ℕ) (r : Named) → Knows t w r → r .rows ≡ rows (find w t)
+knows-rows t w r k = sym (first-extent (r .rows) (r .columns)) ∙ ap (λ (ns : List ℕ). getD ns 0 0) (k .extents)
+
+pub knows-columns : (t : List Entry) (w : List ℕ) (r : Named) → Knows t w r → r .columns ≡ columns (find w t)
+knows-columns t w r k = sym (second-extent (r .rows) (r .columns)) ∙ ap (λ (ns : List ℕ). getD ns 1 0) (k .extents)
+
 -- a word by the code's place
 pub word-place : (T : List ℕ) (i k : ℕ) → getD T (i * entryWords + k) 0 ≡ wordAt T i k
 word-place T i k = ap (λ (n : ℕ). getD T n 0) (omega arith)
@@ -118,7 +150,7 @@ module _ (T : List ℕ) (t : List Entry) (d : Tabled T t) (w : List ℕ) (i : �
   many = omega (arith, d .count, d .few)
 
   pub knows-none : countIn T ≤ i
-      → Knows t w (record { known = false; index = i; subscripted = false; given = false; claimed = false; class = 0; first = 0; size = 0 })
+      → Knows t w (record { known = false; index = i; rows = 0; columns = 0; given = false; claimed = false; class = 0; first = 0; size = 0 })
   knows-none h =
       let r = found-none T t d (countIn T) many w i f h in
       let e = sym (r .1) in
@@ -126,30 +158,32 @@ module _ (T : List ℕ) (t : List Entry) (d : Tabled T t) (w : List ℕ) (i : �
         known = sym (r .0);
         first = ap (λ (x : Entry). x .first) e;
         size = ap (λ (x : Entry). x .size) e;
-        subscripted = ap (λ (x : Entry). x .subscripted) e;
+        extents = ap (λ (x : Entry). x .extents) e;
         given = ap (λ (x : Entry). isGiven (x .given)) e;
         class = ap (λ (x : Entry). class-number (x .class)) e;
       }
 
-  pub stands-there : i < countIn T → (facts : ℕ) → facts ≡ factsAt T i → (r : Named) → r .index ≡ i → r .claimed ≡ eqb (facts / 4 % 2) 1 → Stands T t w r
+  pub stands-there : i < countIn T → (facts : ℕ) → facts ≡ factsAt T i → (r : Named) → r .index ≡ i → r .claimed ≡ eqb (facts / 2 % 2) 1 → Stands T t w r
   stands-there h facts ef r ei ec = record {
     within = omega (arith, many, ei);
     name = ap (λ (k : ℕ). getD t k nowhere .name) ei ∙ sym (d .rows i (omega (arith, many)) .name) ∙ sym (same-true w (nameAt T i) (f .there h));
-    claimed = ec ∙ ap (λ (n : ℕ). eqb (n / 4 % 2) 1) ef ∙ ap (isClaimed T) (sym ei);
+    claimed = ec ∙ ap (λ (n : ℕ). eqb (n / 2 % 2) 1) ef ∙ ap (isClaimed T) (sym ei);
   }
 
-  pub knows-there : i < countIn T → (facts first size : ℕ) → facts ≡ factsAt T i → first ≡ firstAt T i → size ≡ sizeAt T i
+  pub knows-there : i < countIn T → (facts first size rows columns : ℕ) → facts ≡ factsAt T i → first ≡ firstAt T i → size ≡ sizeAt T i
+      → rows ≡ rowsAt T i → columns ≡ columnsAt T i
       → Knows t w (record {
         known = true;
         index = i;
-        subscripted = eqb (facts % 2) 1;
-        given = eqb (facts / 2 % 2) 1;
-        claimed = eqb (facts / 4 % 2) 1;
-        class = facts / 8;
+        rows = rows;
+        columns = columns;
+        given = eqb (facts % 2) 1;
+        claimed = eqb (facts / 2 % 2) 1;
+        class = facts / 4;
         first = first;
         size = size;
       })
-  knows-there h facts first size ef ei es =
+  knows-there h facts first size rows columns ef ei es er ec =
       let r = found-there T t d (countIn T) many w i f h in
       let o = d .rows i (omega (arith, many)) in
       let e = sym (r .1) in
@@ -157,7 +191,7 @@ module _ (T : List ℕ) (t : List Entry) (d : Tabled T t) (w : List ℕ) (i : �
         known = sym (r .0);
         first = ei ∙ o .first ∙ ap (λ (x : Entry). x .first) e;
         size = es ∙ o .size ∙ ap (λ (x : Entry). x .size) e;
-        subscripted = ap (λ (n : ℕ). eqb (n % 2) 1) ef ∙ o .subscripted ∙ ap (λ (x : Entry). x .subscripted) e;
-        given = ap (λ (n : ℕ). eqb (n / 2 % 2) 1) ef ∙ o .given ∙ ap (λ (x : Entry). isGiven (x .given)) e;
-        class = ap (λ (n : ℕ). n / 8) ef ∙ o .class ∙ ap (λ (x : Entry). class-number (x .class)) e;
+        extents = (λ k. extentsOf (er k) (ec k)) ∙ o .extents ∙ ap (λ (x : Entry). x .extents) e;
+        given = ap (λ (n : ℕ). eqb (n % 2) 1) ef ∙ o .given ∙ ap (λ (x : Entry). isGiven (x .given)) e;
+        class = ap (λ (n : ℕ). n / 4) ef ∙ o .class ∙ ap (λ (x : Entry). class-number (x .class)) e;
       }

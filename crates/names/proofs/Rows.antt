@@ -14,15 +14,20 @@ use Rattle.rules.specs.Numbers.{class-number}
 use Rattle.rules.specs.Cells.{listed}
 use Rattle.rules.proofs.CellsLaws.{listed-length, listed-same}
 use Rattle.syntax.specs.Bytes.{same}
-use Rattle.syntax.specs.Known.{Entry, named, known, find, nowhere, with-data, give-to, with-class}
+use Rattle.syntax.specs.Known.{Entry, rows, columns, named, known, find, nowhere, with-data, give-to, with-class}
 use Rattle.syntax.specs.Conditions.{isGiven}
 use Rattle.syntax.specs.Sane.{Each}
 use Rattle.syntax.proofs.Table.{find-each}
 use Rattle.syntax.proofs.TestLaws.{neither-holds, same-refl, same-comm-false}
-use Rattle.names.specs.Table.{wordAt, nameAt, Row, Tabled, Put, declared, Added, Gave, class-to, Classed, CopiedIn, classAt, isClaimed, countIn, factsAt, firstAt, lengthAt, numberIn, sizeAt, tableWords, variableEntry, nameWords, lengthWord, firstWord, sizeWord, factsWord, entryWords, mostNames, numberWord}
-use Rattle.names.proofs.Laws.{set-elsewhere}
+use Rattle.names.specs.declared.Shape.{Shape}
+use Rattle.names.specs.Table.{wordAt, extentsOf, rowsAt, columnsAt, rowsWord, columnsWord, nameAt, Row, Tabled, Put, declared, Added, Gave, class-to, Classed, CopiedIn, classAt, isClaimed, countIn, factsAt, firstAt, lengthAt, numberIn, sizeAt, tableWords, variableEntry, nameWords, lengthWord, firstWord, sizeWord, factsWord, entryWords, mostNames, numberWord}
+use Rattle.names.proofs.Laws.{set-elsewhere, first-extent, second-extent}
 
 -- ---- one entry
+
+-- another entry with the same name, cells and extents
+abbrev Alike : Entry → Entry → Type 0
+Alike e e′ = (e′ .name ≡ e .name) × (e′ .first ≡ e .first) × (e′ .size ≡ e .size) × (e′ .extents ≡ e .extents)
 
 pub name-length : (T : List ℕ) (i : ℕ) → length (nameAt T i) ≡ lengthAt T i
 unfolding nameAt
@@ -40,13 +45,13 @@ module _ (T T′ : List ℕ) (i : ℕ) (e : Entry) (o : Row T i e) where
   short-word = omega (arith, name-length T i, ap length (o .name), o .short)
 
   -- all but the facts are as they were
-  pub row-with : (e′ : Entry) → ((k : ℕ) → k < factsWord → wordAt T′ i k ≡ wordAt T i k) → e′ .name ≡ e .name → e′ .first ≡ e .first → e′ .size ≡ e .size
-      → eqb (factsAt T′ i % 2) 1 ≡ e′ .subscripted → eqb (factsAt T′ i / 2 % 2) 1 ≡ isGiven (e′ .given) → classAt T′ i ≡ class-number (e′ .class) → Row T′ i e′
-  row-with e′ h en ef es hs hg hc = record {
+  pub row-with : (e′ : Entry) → ((k : ℕ) → k < factsWord → wordAt T′ i k ≡ wordAt T i k) → Alike e e′
+      → eqb (factsAt T′ i % 2) 1 ≡ isGiven (e′ .given) → classAt T′ i ≡ class-number (e′ .class) → Row T′ i e′
+  row-with e′ h (en, ef, es, ex) hg hc = record {
     name = name-kept T T′ i short-word (λ k l. h k (omega arith)) ∙ o .name ∙ sym en;
     first = h firstWord (omega arith) ∙ o .first ∙ sym ef;
     size = h sizeWord (omega arith) ∙ o .size ∙ sym es;
-    subscripted = hs;
+    extents = ap₂ extentsOf (h rowsWord (omega arith)) (h columnsWord (omega arith)) ∙ o .extents ∙ sym ex;
     given = hg;
     class = hc;
     short = omega (arith, o .short, ap length en);
@@ -56,10 +61,9 @@ module _ (T T′ : List ℕ) (i : ℕ) (e : Entry) (o : Row T i e) where
   pub row-kept : ((k : ℕ) → k < entryWords → wordAt T′ i k ≡ wordAt T i k) → Row T′ i e
   row-kept h =
       let f = h factsWord (omega arith) in
-      row-with e (λ k l. h k (omega arith)) refl refl refl
-      (ap (λ (n : ℕ). eqb (n % 2) 1) f ∙ o .subscripted)
-      (ap (λ (n : ℕ). eqb (n / 2 % 2) 1) f ∙ o .given)
-      (ap (λ (n : ℕ). n / 8) f ∙ o .class)
+      row-with e (λ k l. h k (omega arith)) (refl, refl, refl, refl)
+      (ap (λ (n : ℕ). eqb (n % 2) 1) f ∙ o .given)
+      (ap (λ (n : ℕ). n / 4) f ∙ o .class)
 
 -- ---- the facts of one entry
 
@@ -67,10 +71,6 @@ pub getD-map : {A B : Type 0} (f : A → B) (l : List A) (i : ℕ) (d : A) (d′
 getD-map f [] i d d′ h = absurd (omega arith)
 getD-map f (x ∷ xs) zero d d′ h = refl
 getD-map f (x ∷ xs) (suc i) d d′ h = getD-map f xs i d d′ (omega arith)
-
--- a change of entries that leaves name, first cell and size alone
-abbrev Alike : Entry → Entry → Type 0
-Alike e e′ = (e′ .name ≡ e .name) × (e′ .first ≡ e .first) × (e′ .size ≡ e .size) × (e′ .subscripted ≡ e .subscripted)
 
 module _ (T : List ℕ) (i facts : ℕ) (b : i < mostNames) where
   abbrev with-facts : List ℕ
@@ -91,13 +91,11 @@ module _ (T : List ℕ) (i facts : ℕ) (b : i < mostNames) where
   -- the table with other facts for entry i stands for the names with another entry i
   module _ (t : List Entry) (d : Tabled T t) (h : i < length t) (f : Entry → Entry) (a : (e : Entry) → Alike e (f e))
       (others : (j : ℕ) → j < length t → (j ≡ i → ⊥) → f (getD t j nowhere) ≡ getD t j nowhere)
-      (hs : eqb (facts % 2) 1 ≡ f (getD t i nowhere) .subscripted) (hg : eqb (facts / 2 % 2) 1 ≡ isGiven (f (getD t i nowhere) .given))
-      (hc : facts / 8 ≡ class-number (f (getD t i nowhere) .class)) where
+      (hg : eqb (facts % 2) 1 ≡ isGiven (f (getD t i nowhere) .given)) (hc : facts / 4 ≡ class-number (f (getD t i nowhere) .class)) where
     row-of : (j : ℕ) → j < length t → Row with-facts j (f (getD t j nowhere))
     row-of j l = elim (ℕ-discrete j i) [
       | yes q ↦ simp q (let w = facts-here (d .long) in let e = getD t i nowhere in
-          row-with T with-facts i e (d .rows i h) (f e) rest-kept (a e .0) (a e .1) (a e .2)
-          (ap (λ (n : ℕ). eqb (n % 2) 1) w ∙ hs) (ap (λ (n : ℕ). eqb (n / 2 % 2) 1) w ∙ hg) (ap (λ (n : ℕ). n / 8) w ∙ hc))
+          row-with T with-facts i e (d .rows i h) (f e) rest-kept (a e) (ap (λ (n : ℕ). eqb (n % 2) 1) w ∙ hg) (ap (λ (n : ℕ). n / 4) w ∙ hc))
       | no n ↦ simp (others j l n) (row-kept T with-facts j (getD t j nowhere) (d .rows j l) (λ k m. others-kept j k m n))
     ]
 
@@ -122,25 +120,24 @@ module _ (T : List ℕ) (i facts : ℕ) (b : i < mostNames) where
               let g = at-map j m in
               let o = d .bounded j m in
               omega (arith, ap (λ (x : Entry). x .first) g, a e .1, o, ap (λ (x : Entry). x .size) g, a e .2);
+          narrow = λ j l.
+              let m : j < length t = omega (arith, n) in
+              let x = ap (λ (x : Entry). x .extents) (at-map j m) ∙ a (getD t j nowhere) .3 in
+              let o = d .narrow j m in
+              (omega (arith, ap (λ (ns : List ℕ). getD ns 0 0) x, o .0), omega (arith, ap (λ (ns : List ℕ). getD ns 1 0) x, o .1));
         }
 
 -- ---- data, clauses
 
 -- the parts of the facts
-given-facts : (q r : ℕ) → r < 2 → ((q * 4 + 2 + r) % 2 ≡ r) × ((q * 4 + 2 + r) / 2 % 2 ≡ 1) × ((q * 4 + 2 + r) / 4 ≡ q)
-given-facts q r h = (omega arith, omega arith, omega arith)
+given-facts : (f : ℕ) → ((f / 2 * 2 + 1) % 2 ≡ 1) × ((f / 2 * 2 + 1) / 2 ≡ f / 2) × ((f / 2 * 2 + 1) / 4 ≡ f / 4)
+given-facts f = (omega arith, omega arith, omega arith)
 
-given-class : (f : ℕ) → (f / 4 * 4 + 2 + f % 2) / 8 ≡ f / 8
-given-class f = omega arith
+claimed-facts : (c f : ℕ) → ((c * 4 + 2 + f % 2) % 2 ≡ f % 2) × ((c * 4 + 2 + f % 2) / 2 % 2 ≡ 1) × ((c * 4 + 2 + f % 2) / 4 ≡ c)
+claimed-facts c f = (omega arith, omega arith, omega arith)
 
-claimed-facts : (c f : ℕ)
-    → ((c * 8 + 4 + f % 4) % 2 ≡ f % 2) × ((c * 8 + 4 + f % 4) / 2 % 2 ≡ f / 2 % 2) × ((c * 8 + 4 + f % 4) / 4 % 2 ≡ 1)
-    × ((c * 8 + 4 + f % 4) / 8 ≡ c)
-claimed-facts c f = (omega arith, omega arith, omega arith, omega arith)
-
-copied-facts : (c f : ℕ)
-    → ((c * 8 + f % 8) % 2 ≡ f % 2) × ((c * 8 + f % 8) / 2 % 2 ≡ f / 2 % 2) × ((c * 8 + f % 8) / 4 % 2 ≡ f / 4 % 2) × ((c * 8 + f % 8) / 8 ≡ c)
-copied-facts c f = (omega arith, omega arith, omega arith, omega arith)
+copied-facts : (c f : ℕ) → ((c * 4 + f % 4) % 2 ≡ f % 2) × ((c * 4 + f % 4) / 2 % 2 ≡ f / 2 % 2) × ((c * 4 + f % 4) / 4 ≡ c)
+copied-facts c f = (omega arith, omega arith, omega arith)
 
 untouched : (b : Bool) (x e : Entry) → b ≡ false → cond b x e ≡ e
 untouched b x e h = ap (λ (y : Bool). cond y x e) h
@@ -154,7 +151,7 @@ module _ (T : List ℕ) (i : ℕ) (b : i < mostNames) (facts : ℕ) (ef : facts 
     | no p ↦ same-comm-false (getD t j nowhere .name) (getD t i nowhere .name) (d .distinct i j (omega arith) l)
   ]
 
-  pub gave : Gave T i (set T (i * entryWords + factsWord) (facts / 4 * 4 + 2 + facts % 2))
+  pub gave : Gave T i (set T (i * entryWords + factsWord) (facts / 2 * 2 + 1))
   gave = record {
     variable = variable-kept T i _ b;
     table = λ t vs d h.
@@ -162,22 +159,18 @@ module _ (T : List ℕ) (i : ℕ) (b : i < mostNames) (facts : ℕ) (ef : facts 
         let o = d .rows i h in
         let here : named (e .name) e ≡ true = same-refl (e .name) in
         let g = ap (λ (x : Bool). cond x (with-data vs e) e) here in
-        let q = given-facts (facts / 4) (facts % 2) (omega arith) in
-        let n0 = q .0 ∙ ap (λ (n : ℕ). n % 2) ef in
-        let n1 = q .1 in
-        let n2 = given-class facts ∙ ap (λ (n : ℕ). n / 8) ef in
-        tabled-with T i (facts / 4 * 4 + 2 + facts % 2) b t d h (give-to (e .name) vs)
+        let q = given-facts facts in
+        tabled-with T i (facts / 2 * 2 + 1) b t d h (give-to (e .name) vs)
         (λ x. kept (e .name) vs x (named (e .name) x))
         (λ j l n. untouched _ _ (getD t j nowhere) (other-name t d h j l n))
-        (ap (λ (n : ℕ). eqb n 1) n0 ∙ o .subscripted ∙ sym (ap (λ (x : Entry). x .subscripted) g))
-        (ap (λ (n : ℕ). eqb n 1) n1 ∙ sym (ap (λ (x : Entry). isGiven (x .given)) g))
-        (n2 ∙ o .class ∙ sym (ap (λ (x : Entry). class-number (x .class)) g));
+        (ap (λ (n : ℕ). eqb n 1) (q .0) ∙ sym (ap (λ (x : Entry). isGiven (x .given)) g))
+        (q .2 ∙ ap (λ (n : ℕ). n / 4) ef ∙ o .class ∙ sym (ap (λ (x : Entry). class-number (x .class)) g));
     unclaimed = λ h n u j l. elim (ℕ-discrete j i) [
       | yes q ↦
-          let low : factsAt T i < 4 = subst (λ (k : ℕ). factsAt T k < 4) q (u j l) in
-          subst (λ (k : ℕ). factsAt (set T (i * entryWords + factsWord) (facts / 4 * 4 + 2 + facts % 2)) k < 4) (sym q)
-          (omega (arith, facts-here T i (facts / 4 * 4 + 2 + facts % 2) b h, ef, low))
-      | no m ↦ omega (arith, others-kept T i (facts / 4 * 4 + 2 + facts % 2) b j factsWord (omega arith) m, u j l)
+          let low : factsAt T i < 2 = subst (λ (k : ℕ). factsAt T k < 2) q (u j l) in
+          subst (λ (k : ℕ). factsAt (set T (i * entryWords + factsWord) (facts / 2 * 2 + 1)) k < 2) (sym q)
+          (omega (arith, facts-here T i (facts / 2 * 2 + 1) b h, ef, low))
+      | no m ↦ omega (arith, others-kept T i (facts / 2 * 2 + 1) b j factsWord (omega arith) m, u j l)
     ];
   }
     where
@@ -186,48 +179,43 @@ module _ (T : List ℕ) (i : ℕ) (b : i < mostNames) (facts : ℕ) (ef : facts 
       kept x vs e false = (refl, refl, refl, refl)
 
   -- facts that differ in the class, and in whether the name stands in a clause
-  class-tabled : (other class : ℕ) → other % 2 ≡ facts % 2 → other / 2 % 2 ≡ facts / 2 % 2 → other / 8 ≡ class
+  class-tabled : (other class : ℕ) → other % 2 ≡ facts % 2 → other / 4 ≡ class
       → (t : List Entry) (k : Class) → class ≡ class-number k → Tabled T t → i < length t
       → Tabled (set T (i * entryWords + factsWord) other) (map (class-to (getD t i nowhere .name) k) t)
-  class-tabled other class q0 q1 q3 t k ek d h =
+  class-tabled other class q0 q1 t k ek d h =
       let e = getD t i nowhere in
       let o = d .rows i h in
       let here : named (e .name) e ≡ true = same-refl (e .name) in
       let g = ap (λ (x : Bool). cond x (with-class k e) e) here in
-      let n0 = q0 ∙ ap (λ (n : ℕ). n % 2) ef in
-      let n1 = q1 ∙ ap (λ (n : ℕ). n / 2 % 2) ef in
       tabled-with T i other b t d h (class-to (e .name) k)
       (λ x. kept (e .name) k x (named (e .name) x))
       (λ j l n. untouched _ _ (getD t j nowhere) (other-name t d h j l n))
-      (ap (λ (n : ℕ). eqb n 1) n0 ∙ o .subscripted ∙ sym (ap (λ (x : Entry). x .subscripted) g))
-      (ap (λ (n : ℕ). eqb n 1) n1 ∙ o .given ∙ sym (ap (λ (x : Entry). isGiven (x .given)) g))
-      (q3 ∙ ek ∙ sym (ap (λ (x : Entry). class-number (x .class)) g))
+      (ap (λ (n : ℕ). eqb n 1) (q0 ∙ ap (λ (n : ℕ). n % 2) ef) ∙ o .given ∙ sym (ap (λ (x : Entry). isGiven (x .given)) g))
+      (q1 ∙ ek ∙ sym (ap (λ (x : Entry). class-number (x .class)) g))
     where
       kept : (x : List ℕ) (c : Class) (e : Entry) (y : Bool) → Alike e (cond y (with-class c e) e)
       kept x c e true = (refl, refl, refl, refl)
       kept x c e false = (refl, refl, refl, refl)
 
-  pub classed : (class : ℕ) → Classed T i class (set T (i * entryWords + factsWord) (class * 8 + 4 + facts % 4))
+  pub classed : (class : ℕ) → Classed T i class (set T (i * entryWords + factsWord) (class * 4 + 2 + facts % 2))
   classed class = record {
     variable = variable-kept T i _ b;
-    here = λ l. ap (λ (n : ℕ). eqb (n / 4 % 2) 1) (facts-here T i (class * 8 + 4 + facts % 4) b l) ∙ ap (λ (n : ℕ). eqb n 1) (claimed-facts class facts .2);
-    others = λ j n. others-kept T i (class * 8 + 4 + facts % 4) b j factsWord (omega arith) n;
-    table =
-        let q = claimed-facts class facts in
-        class-tabled (class * 8 + 4 + facts % 4) class (q .0) (q .1) (q .3);
+    here = λ l. ap (λ (n : ℕ). eqb (n / 2 % 2) 1) (facts-here T i (class * 4 + 2 + facts % 2) b l) ∙ ap (λ (n : ℕ). eqb n 1) (claimed-facts class facts .1);
+    others = λ j n. others-kept T i (class * 4 + 2 + facts % 2) b j factsWord (omega arith) n;
+    table = let q = claimed-facts class facts in class-tabled (class * 4 + 2 + facts % 2) class (q .0) (q .2);
   }
 
-  pub copied-in : CopiedIn T i (set T (i * entryWords + factsWord) (3 * 8 + facts % 8))
+  pub copied-in : CopiedIn T i (set T (i * entryWords + factsWord) (3 * 4 + facts % 4))
   copied-in = record {
     variable = variable-kept T i _ b;
     claimed = λ l j. elim (ℕ-discrete j i) [
       | yes x ↦
-          ap (isClaimed (set T (i * entryWords + factsWord) (3 * 8 + facts % 8))) x
-          ∙ ap (λ (n : ℕ). eqb (n / 4 % 2) 1) (facts-here T i (3 * 8 + facts % 8) b l)
-          ∙ ap (λ (n : ℕ). eqb n 1) (copied-facts 3 facts .2 ∙ ap (λ (n : ℕ). n / 4 % 2) ef) ∙ ap (isClaimed T) (sym x)
-      | no x ↦ ap (λ (n : ℕ). eqb (n / 4 % 2) 1) (others-kept T i (3 * 8 + facts % 8) b j factsWord (omega arith) x)
+          ap (isClaimed (set T (i * entryWords + factsWord) (3 * 4 + facts % 4))) x
+          ∙ ap (λ (n : ℕ). eqb (n / 2 % 2) 1) (facts-here T i (3 * 4 + facts % 4) b l)
+          ∙ ap (λ (n : ℕ). eqb n 1) (copied-facts 3 facts .1 ∙ ap (λ (n : ℕ). n / 2 % 2) ef) ∙ ap (isClaimed T) (sym x)
+      | no x ↦ ap (λ (n : ℕ). eqb (n / 2 % 2) 1) (others-kept T i (3 * 4 + facts % 4) b j factsWord (omega arith) x)
     ];
-    table = λ t d h. let q = copied-facts 3 facts in class-tabled (3 * 8 + facts % 8) 3 (q .0) (q .1) (q .3) t copied refl d h;
+    table = λ t d h. let q = copied-facts 3 facts in class-tabled (3 * 4 + facts % 4) 3 (q .0) (q .2) t copied refl d h;
   }
 
 -- ---- a name more
@@ -242,68 +230,97 @@ unknown-at w [] h i l = absurd (omega arith)
 unknown-at w (x ∷ t) h zero l = neither-holds (same w (x .name)) (known w t) h .0
 unknown-at w (x ∷ t) h (suc i) l = unknown-at w t (neither-holds (same w (x .name)) (known w t) h .1) i (omega arith)
 
-module _ (T w : List ℕ) (n first size : ℕ) (sub : Bool) (T₁ : List ℕ) (p : Put T n w T₁) (en : n ≡ countIn T) (bn : n < mostNames)
-    (short : length w ≤ nameWords) (facts : ℕ) (ef : facts ≡ cond sub 1 0) where
+-- the word of an entry that is written, and another
+word-set : (T : List ℕ) (i k v : ℕ) → i * entryWords + k < length T → wordAt (set T (i * entryWords + k) v) i k ≡ v
+word-set T i k v h = ap (λ (p : ℕ). getD (set T (i * entryWords + k) v) p 0) (omega arith) ∙ getD-set-same T (i * entryWords + k) v 0 h
+
+word-other : (T : List ℕ) (i k j v : ℕ) → (j ≡ k → ⊥) → wordAt (set T (i * entryWords + k) v) i j ≡ wordAt T i j
+word-other T i k j v n = set-elsewhere T (i * entryWords + k) (entryWords * i + j) v (λ e. n (omega arith))
+
+module _ (T w : List ℕ) (n first : ℕ) (z : Shape) (T₁ : List ℕ) (p : Put T n w T₁) (en : n ≡ countIn T) (bn : n < mostNames) (short : length w ≤ nameWords) where
   abbrev T₂ : List ℕ
   T₂ = set T₁ (n * entryWords + firstWord) first
 
   abbrev T₃ : List ℕ
-  T₃ = set T₂ (n * entryWords + sizeWord) size
+  T₃ = set T₂ (n * entryWords + sizeWord) (z .size)
 
   abbrev T₄ : List ℕ
-  T₄ = set T₃ (n * entryWords + factsWord) facts
+  T₄ = set T₃ (n * entryWords + rowsWord) (z .rows)
+
+  abbrev T₅ : List ℕ
+  T₅ = set T₄ (n * entryWords + columnsWord) (z .columns)
+
+  abbrev T₆ : List ℕ
+  T₆ = set T₅ (n * entryWords + factsWord) 0
 
   abbrev more-names : List ℕ
-  more-names = set T₄ numberWord (n + 1)
+  more-names = set T₆ numberWord (n + 1)
 
   long₂ : length T₂ ≡ length T₁
   long₂ = length-set T₁ (n * entryWords + firstWord) first
 
   long₃ : length T₃ ≡ length T₁
-  long₃ = length-set T₂ (n * entryWords + sizeWord) size ∙ long₂
+  long₃ = length-set T₂ (n * entryWords + sizeWord) (z .size) ∙ long₂
 
   long₄ : length T₄ ≡ length T₁
-  long₄ = length-set T₃ (n * entryWords + factsWord) facts ∙ long₃
+  long₄ = length-set T₃ (n * entryWords + rowsWord) (z .rows) ∙ long₃
+
+  long₅ : length T₅ ≡ length T₁
+  long₅ = length-set T₄ (n * entryWords + columnsWord) (z .columns) ∙ long₄
+
+  long₆ : length T₆ ≡ length T₁
+  long₆ = length-set T₅ (n * entryWords + factsWord) 0 ∙ long₅
 
   more-long : length more-names ≡ length T₁
-  more-long = length-set T₄ numberWord (n + 1) ∙ long₄
+  more-long = length-set T₆ numberWord (n + 1) ∙ long₆
 
   -- of the words only these changed
-  elsewhere : (q : ℕ) → (q ≡ n * entryWords + firstWord → ⊥) → (q ≡ n * entryWords + sizeWord → ⊥) → (q ≡ n * entryWords + factsWord → ⊥)
-      → (q ≡ numberWord → ⊥) → getD more-names q 0 ≡ getD T₁ q 0
-  elsewhere q a b c d =
-      set-elsewhere T₄ numberWord q (n + 1) d ∙ set-elsewhere T₃ (n * entryWords + factsWord) q facts c
-      ∙ set-elsewhere T₂ (n * entryWords + sizeWord) q size b ∙ set-elsewhere T₁ (n * entryWords + firstWord) q first a
+  elsewhere : (q : ℕ) → (n * entryWords + firstWord ≤ q → q < n * entryWords + entryWords → ⊥) → (q ≡ numberWord → ⊥) → getD more-names q 0 ≡ getD T₁ q 0
+  elsewhere q a d =
+      let off : (k : ℕ) → firstWord ≤ k → k < entryWords → q ≡ n * entryWords + k → ⊥ = λ k h l e. a (omega arith) (omega arith) in
+      set-elsewhere T₆ numberWord q (n + 1) d
+      ∙ set-elsewhere T₅ (n * entryWords + factsWord) q 0 (off factsWord (omega arith) (omega arith))
+      ∙ set-elsewhere T₄ (n * entryWords + columnsWord) q (z .columns) (off columnsWord (omega arith) (omega arith))
+      ∙ set-elsewhere T₃ (n * entryWords + rowsWord) q (z .rows) (off rowsWord (omega arith) (omega arith))
+      ∙ set-elsewhere T₂ (n * entryWords + sizeWord) q (z .size) (off sizeWord (omega arith) (omega arith))
+      ∙ set-elsewhere T₁ (n * entryWords + firstWord) q first (off firstWord (omega arith) (omega arith))
+
+  -- the number of names is written after the entry
+  entry-stays : (k : ℕ) → k < entryWords → wordAt more-names n k ≡ wordAt T₆ n k
+  entry-stays k h = set-elsewhere T₆ numberWord (entryWords * n + k) (n + 1) (omega arith)
 
   -- and these are
   module _ (l : tableWords ≤ length T₁) where
     first-here : firstAt more-names n ≡ first
     first-here =
-        let q : entryWords * n + firstWord ≡ n * entryWords + firstWord = omega arith in
-        set-elsewhere T₄ numberWord (entryWords * n + firstWord) (n + 1) (omega arith)
-        ∙ set-elsewhere T₃ (n * entryWords + factsWord) (entryWords * n + firstWord) facts (omega arith)
-        ∙ set-elsewhere T₂ (n * entryWords + sizeWord) (entryWords * n + firstWord) size (omega arith)
-        ∙ ap (λ (p : ℕ). getD T₂ p 0) q ∙ getD-set-same T₁ (n * entryWords + firstWord) first 0 (omega arith)
+        entry-stays firstWord (omega arith) ∙ word-other T₅ n factsWord firstWord 0 (omega arith) ∙ word-other T₄ n columnsWord firstWord (z .columns) (omega arith)
+        ∙ word-other T₃ n rowsWord firstWord (z .rows) (omega arith) ∙ word-other T₂ n sizeWord firstWord (z .size) (omega arith)
+        ∙ word-set T₁ n firstWord first (omega arith)
 
-    size-here : sizeAt more-names n ≡ size
+    size-here : sizeAt more-names n ≡ z .size
     size-here =
-        let q : entryWords * n + sizeWord ≡ n * entryWords + sizeWord = omega arith in
-        set-elsewhere T₄ numberWord (entryWords * n + sizeWord) (n + 1) (omega arith)
-        ∙ set-elsewhere T₃ (n * entryWords + factsWord) (entryWords * n + sizeWord) facts (omega arith)
-        ∙ ap (λ (p : ℕ). getD T₃ p 0) q ∙ getD-set-same T₂ (n * entryWords + sizeWord) size 0 (omega (arith, long₂))
+        entry-stays sizeWord (omega arith) ∙ word-other T₅ n factsWord sizeWord 0 (omega arith) ∙ word-other T₄ n columnsWord sizeWord (z .columns) (omega arith)
+        ∙ word-other T₃ n rowsWord sizeWord (z .rows) (omega arith) ∙ word-set T₂ n sizeWord (z .size) (omega (arith, long₂))
 
-    facts-there : factsAt more-names n ≡ facts
-    facts-there =
-        let q : entryWords * n + factsWord ≡ n * entryWords + factsWord = omega arith in
-        set-elsewhere T₄ numberWord (entryWords * n + factsWord) (n + 1) (omega arith)
-        ∙ ap (λ (p : ℕ). getD T₄ p 0) q ∙ getD-set-same T₃ (n * entryWords + factsWord) facts 0 (omega (arith, long₃))
+    rows-here : rowsAt more-names n ≡ z .rows
+    rows-here =
+        entry-stays rowsWord (omega arith) ∙ word-other T₅ n factsWord rowsWord 0 (omega arith) ∙ word-other T₄ n columnsWord rowsWord (z .columns) (omega arith)
+        ∙ word-set T₃ n rowsWord (z .rows) (omega (arith, long₃))
+
+    columns-here : columnsAt more-names n ≡ z .columns
+    columns-here =
+        entry-stays columnsWord (omega arith) ∙ word-other T₅ n factsWord columnsWord 0 (omega arith)
+        ∙ word-set T₄ n columnsWord (z .columns) (omega (arith, long₄))
+
+    facts-there : factsAt more-names n ≡ 0
+    facts-there = entry-stays factsWord (omega arith) ∙ word-set T₅ n factsWord 0 (omega (arith, long₅))
 
     count-here : numberIn more-names ≡ n + 1
-    count-here = getD-set-same T₄ numberWord (n + 1) 0 (omega (arith, long₄))
+    count-here = getD-set-same T₆ numberWord (n + 1) 0 (omega (arith, long₆))
 
   module _ (t : List Entry) (d : Tabled T t) (f : length t < mostNames) (u : known w t ≡ false) where
     abbrev e : Entry
-    e = declared w first size sub
+    e = declared w first z
 
     at-end : n ≡ length t
     at-end = omega (arith, d .count)
@@ -316,7 +333,7 @@ module _ (T w : List ℕ) (n first size : ℕ) (sub : Bool) (T₁ : List ℕ) (p
 
     old : (i : ℕ) → i < length t → Row more-names i (getD t i nowhere)
     old i l = row-kept T more-names i (getD t i nowhere) (d .rows i l) (λ k m.
-        elsewhere (entryWords * i + k) (omega (arith, at-end)) (omega (arith, at-end)) (omega (arith, at-end)) (omega (arith, at-end))
+        elsewhere (entryWords * i + k) (λ a b. omega (arith, at-end)) (omega (arith, at-end))
         ∙ p .before (entryWords * i + k) (omega (arith, at-end)))
 
     new : Row more-names n e
@@ -327,27 +344,15 @@ module _ (T w : List ℕ) (n first size : ℕ) (sub : Bool) (T₁ : List ℕ) (p
         record {
           name =
               name-kept T₁ more-names n (omega (arith, g, ap length x))
-              (λ k m. elsewhere (entryWords * n + k) (omega arith) (omega arith) (omega arith) (omega arith))
+              (λ k m. elsewhere (entryWords * n + k) (λ a b. omega arith) (omega arith))
               ∙ x;
           first = first-here long₁;
           size = size-here long₁;
-          subscripted = ap (λ (q : ℕ). eqb (q % 2) 1) (fh ∙ ef) ∙ is-sub sub;
-          given = ap (λ (q : ℕ). eqb (q / 2 % 2) 1) (fh ∙ ef) ∙ not-given sub;
-          class = ap (λ (q : ℕ). q / 8) (fh ∙ ef) ∙ in-none sub;
+          extents = ap₂ extentsOf (rows-here long₁) (columns-here long₁);
+          given = ap (λ (q : ℕ). eqb (q % 2) 1) fh;
+          class = ap (λ (q : ℕ). q / 4) fh;
           short = short;
         }
-      where
-        is-sub : (b : Bool) → eqb (cond b 1 0 % 2) 1 ≡ b
-        is-sub true = refl
-        is-sub false = refl
-
-        not-given : (b : Bool) → eqb (cond b 1 0 / 2 % 2) 1 ≡ false
-        not-given true = refl
-        not-given false = refl
-
-        in-none : (b : Bool) → cond b 1 0 / 8 ≡ 0
-        in-none true = refl
-        in-none false = refl
 
     -- an entry is an old one or the new one
     each : (P : ℕ → Entry → Type 0) → ((i : ℕ) → i < length t → P i (getD t i nowhere)) → P n e → (i : ℕ) → i < length (t ++ (e ∷ []))
@@ -358,8 +363,8 @@ module _ (T w : List ℕ) (n first size : ℕ) (sub : Bool) (T₁ : List ℕ) (p
           (subst (P (length t)) (sym (getD-append-seam t e [] nowhere)) (subst (λ (j : ℕ). P j e) at-end h))
     ]
 
-    pub tabled-more : first + size ≤ 4096 → Tabled more-names (t ++ (e ∷ []))
-    tabled-more b = record {
+    pub tabled-more : first + z .size ≤ 4096 → z .rows ≤ 4096 → z .columns ≤ 4096 → Tabled more-names (t ++ (e ∷ []))
+    tabled-more b r c = record {
       long = omega (arith, more-long, long₁);
       count = count-here long₁ ∙ omega (arith, at-end, many);
       few = omega (arith, many);
@@ -369,35 +374,31 @@ module _ (T w : List ℕ) (n first size : ℕ) (sub : Bool) (T₁ : List ℕ) (p
           (λ l. ap (λ (x : Entry). same w (x .name)) (getD-left t (e ∷ []) i (omega (arith, at-end))) ∙ unknown-at w t u i (omega (arith, at-end)))
           j m l;
       bounded = each (λ i x. x .first + x .size ≤ 4096) (d .bounded) b;
+      narrow = each (λ i x. (rows x ≤ 4096) × (columns x ≤ 4096)) (d .narrow) (omega (arith, first-extent (z .rows) (z .columns)), omega (arith, second-extent (z .rows) (z .columns)));
     }
 
-  pub added : Added T w first size sub more-names
+  pub added : Added T w first z more-names
   added = record {
     full = λ h. absurd (omega arith);
-    variable = λ h. name-kept T more-names variableEntry h (λ k m. elsewhere (entryWords * variableEntry + k) (omega arith) (omega arith)
-        (omega arith) (omega arith)
+    variable = λ h. name-kept T more-names variableEntry h (λ k m. elsewhere (entryWords * variableEntry + k) (λ a b. omega arith) (omega arith)
         ∙ p .after (entryWords * variableEntry + k) (omega arith));
-    table = λ t d f u b. tabled-more t d f u b;
+    table = λ t d f u b r c. tabled-more t d f u b r c;
     unclaimed = λ t d f v j l. elim (ℕ-discrete j n) [
-      | yes q ↦ subst (λ (k : ℕ). factsAt more-names k < 4) (sym q) (omega (arith, facts-there (omega (arith, p .long, d .long)), ef, one-at-most sub))
+      | yes q ↦ subst (λ (k : ℕ). factsAt more-names k < 2) (sym q) (omega (arith, facts-there (omega (arith, p .long, d .long))))
       | no m ↦
           let kept =
-          elsewhere (entryWords * j + factsWord) (omega arith) (omega arith) (omega arith) (omega (arith, d .count))
+          elsewhere (entryWords * j + factsWord) (λ a b. omega (arith, d .count)) (omega (arith, d .count))
           ∙ p .before (entryWords * j + factsWord) (omega (arith, d .count)) in
           omega (arith, kept, v j (omega (arith, d .count)))
     ];
   }
-    where
-      one-at-most : (b : Bool) → cond b 1 0 < 2
-      one-at-most true = omega arith
-      one-at-most false = omega arith
 
 -- a full table
-pub full : (T w : List ℕ) (first size : ℕ) (sub : Bool) → mostNames ≤ countIn T → Added T w first size sub T
-full T w first size sub h = record {
+pub full : (T w : List ℕ) (first : ℕ) (z : Shape) → mostNames ≤ countIn T → Added T w first z T
+full T w first z h = record {
   full = λ _. refl;
   variable = λ _. refl;
-  table = λ t d f u b. absurd (omega (arith, d .count));
+  table = λ t d f u b r c. absurd (omega (arith, d .count));
   unclaimed = λ t d f v. absurd (omega (arith, d .count));
 }
 
@@ -410,6 +411,11 @@ each-entry P (e ∷ t) h = (h 0 (omega arith), each-entry P t (λ i l. h (suc i)
 pub find-bounded : (T w : List ℕ) (t : List Entry) → Tabled T t → find w t .first + find w t .size ≤ 4096
 find-bounded T w t d = find-each (λ e. e .first + e .size ≤ 4096) w t (omega arith) (each-entry (λ e. e .first + e .size ≤ 4096) t (d .bounded))
 
+pub find-narrow : (T w : List ℕ) (t : List Entry) → Tabled T t → (rows (find w t) ≤ 4096) × (columns (find w t) ≤ 4096)
+find-narrow T w t d =
+    find-each (λ e. (rows e ≤ 4096) × (columns e ≤ 4096)) w t (omega arith, omega arith)
+    (each-entry (λ e. (rows e ≤ 4096) × (columns e ≤ 4096)) t (d .narrow))
+
 -- ---- the loop's variable
 
 module _ (T w T′ : List ℕ) (p : Put T variableEntry w T′) where
@@ -421,6 +427,7 @@ module _ (T w T′ : List ℕ) (p : Put T variableEntry w T′) where
     rows = λ i l. row-kept T T′ i (getD t i nowhere) (d .rows i l) (λ k m. p .before (entryWords * i + k) (omega (arith, d .few)));
     distinct = d .distinct;
     bounded = d .bounded;
+    narrow = d .narrow;
   }
 
   pub variable-short : length w ≤ nameWords → tableWords ≤ length T → lengthAt T′ variableEntry ≤ nameWords

@@ -3,7 +3,7 @@ use mathlib.Core.Path.{_≡_}
 use mathlib.Core.Bool.{Bool, true, false, cond}
 use mathlib.Core.List.{List, [], _∷_, _++_, map}
 use mathlib.Core.Option.{none}
-use Prim.Native.Nat.{ℕ, _+_, _*_, _/_, _%_, _≤_, _<_, min}
+use Prim.Native.Nat.{ℕ, zero, suc, _+_, _*_, _/_, _%_, _≤_, _<_, min}
 use lib.Dec.{eqb}
 use lib.ListN.{length, getD}
 use lib.IntN.{ℤ}
@@ -11,13 +11,14 @@ use Rattle.rules.specs.Loop.{Class, shared, copied}
 use Rattle.rules.specs.Numbers.{class-number}
 use Rattle.rules.specs.Cells.{listed}
 use Rattle.syntax.specs.Bytes.{same}
-use Rattle.syntax.specs.Known.{Entry, named, known, find, nowhere, give-to, with-class}
+use Rattle.syntax.specs.Known.{Entry, rows as rowsOf, columns as columnsOf, named, known, find, nowhere, give-to, with-class}
 use Rattle.syntax.specs.Conditions.{isGiven}
 use Rattle.names.specs.declared.Named.{Named}
+use Rattle.names.specs.declared.Shape.{Shape}
 
 -- ---- the layout, in words
 
--- an entry: room for the bytes of its name, one to a word, then how many bytes, the first cell, how many cells, and facts
+-- an entry: room for the bytes of its name, one to a word, then how many bytes, the first cell, how many cells, two extents, and facts
 abbrev pub nameWords : ℕ
 nameWords = 32
 
@@ -30,11 +31,17 @@ firstWord = 33
 abbrev pub sizeWord : ℕ
 sizeWord = 34
 
+abbrev pub rowsWord : ℕ
+rowsWord = 35
+
+abbrev pub columnsWord : ℕ
+columnsWord = 36
+
 abbrev pub factsWord : ℕ
-factsWord = 35
+factsWord = 37
 
 abbrev pub entryWords : ℕ
-entryWords = 36
+entryWords = 38
 
 -- the table
 abbrev pub mostNames : ℕ
@@ -44,10 +51,10 @@ abbrev pub variableEntry : ℕ
 variableEntry = 16
 
 abbrev pub numberWord : ℕ
-numberWord = 612
+numberWord = 646
 
 abbrev pub tableWords : ℕ
-tableWords = 613
+tableWords = 647
 
 -- the word at a place of entry i
 abbrev pub wordAt : List ℕ → ℕ → ℕ → ℕ
@@ -62,15 +69,28 @@ firstAt T i = wordAt T i firstWord
 abbrev pub sizeAt : List ℕ → ℕ → ℕ
 sizeAt T i = wordAt T i sizeWord
 
+abbrev pub rowsAt : List ℕ → ℕ → ℕ
+rowsAt T i = wordAt T i rowsWord
+
+abbrev pub columnsAt : List ℕ → ℕ → ℕ
+columnsAt T i = wordAt T i columnsWord
+
 abbrev pub factsAt : List ℕ → ℕ → ℕ
 factsAt T i = wordAt T i factsWord
 
--- facts: 1 it takes a subscript, 2 it was given data, 4 it stands in a clause, 8 times the number of its class
+-- the extents that two words stand for: 0 is none
+abbrev pub extentsOf : ℕ → ℕ → List ℕ
+extentsOf zero zero = []
+extentsOf (suc m) zero = suc m ∷ []
+extentsOf zero (suc n) = zero ∷ suc n ∷ []
+extentsOf (suc m) (suc n) = suc m ∷ suc n ∷ []
+
+-- facts: 1 it was given data, 2 it stands in a clause, 4 times the number of its class
 abbrev pub isClaimed : List ℕ → ℕ → Bool
-isClaimed T i = eqb (factsAt T i / 4 % 2) 1
+isClaimed T i = eqb (factsAt T i / 2 % 2) 1
 
 abbrev pub classAt : List ℕ → ℕ → ℕ
-classAt T i = factsAt T i / 8
+classAt T i = factsAt T i / 4
 
 -- the number of names, and how many of them are looked at
 abbrev pub numberIn : List ℕ → ℕ
@@ -93,8 +113,8 @@ pub record Row (T : List ℕ) (i : ℕ) (e : Entry) : Type 0 where
   pub name : nameAt T i ≡ e .name
   pub first : firstAt T i ≡ e .first
   pub size : sizeAt T i ≡ e .size
-  pub subscripted : eqb (factsAt T i % 2) 1 ≡ e .subscripted
-  pub given : eqb (factsAt T i / 2 % 2) 1 ≡ isGiven (e .given)
+  pub extents : extentsOf (rowsAt T i) (columnsAt T i) ≡ e .extents
+  pub given : eqb (factsAt T i % 2) 1 ≡ isGiven (e .given)
   pub class : classAt T i ≡ class-number (e .class)
   pub short : length (e .name) ≤ nameWords
 
@@ -106,10 +126,11 @@ pub record Tabled (T : List ℕ) (t : List Entry) : Type 0 where
   pub rows : (i : ℕ) → i < length t → Row T i (getD t i nowhere)
   pub distinct : (i j : ℕ) → i < j → j < length t → same (getD t j nowhere .name) (getD t i nowhere .name) ≡ false
   pub bounded : (i : ℕ) → i < length t → getD t i nowhere .first + getD t i nowhere .size ≤ 4096
+  pub narrow : (i : ℕ) → i < length t → (rowsOf (getD t i nowhere) ≤ 4096) × (columnsOf (getD t i nowhere) ≤ 4096)
 
 -- none of the first n names stands in a clause, and each is shared
 abbrev pub Unclaimed : List ℕ → ℕ → Type 0
-Unclaimed T n = (i : ℕ) → i < n → factsAt T i < 4
+Unclaimed T n = (i : ℕ) → i < n → factsAt T i < 2
 
 -- i is the first entry with the name w, of n entries; n where there is none
 pub record Found (T : List ℕ) (n : ℕ) (w : List ℕ) (i : ℕ) : Type 0 where
@@ -126,14 +147,15 @@ pub record Put (T : List ℕ) (i : ℕ) (w : List ℕ) (T′ : List ℕ) : Type 
   pub after : (p : ℕ) → entryWords * i + firstWord ≤ p → getD T′ p 0 ≡ getD T p 0
 
 -- a declared name
-abbrev pub declared : List ℕ → ℕ → ℕ → Bool → Entry
-declared w first size sub = record { name = w; first = first; subscripted = sub; size = size; class = shared; given = none }
+abbrev pub declared : List ℕ → ℕ → Shape → Entry
+declared w first z = record { name = w; first = first; extents = extentsOf (z .rows) (z .columns); size = z .size; class = shared; given = none }
 
 -- T′ is T with a name more, or T where it is full
-pub record Added (T w : List ℕ) (first size : ℕ) (sub : Bool) (T′ : List ℕ) : Type 0 where
+pub record Added (T w : List ℕ) (first : ℕ) (z : Shape) (T′ : List ℕ) : Type 0 where
   pub full : mostNames ≤ numberIn T → T′ ≡ T
   pub variable : lengthAt T variableEntry ≤ nameWords → variableOf T′ ≡ variableOf T
-  pub table : (t : List Entry) → Tabled T t → length t < mostNames → known w t ≡ false → first + size ≤ 4096 → Tabled T′ (t ++ (declared w first size sub ∷ []))
+  pub table : (t : List Entry) → Tabled T t → length t < mostNames → known w t ≡ false → first + z .size ≤ 4096 → z .rows ≤ 4096 → z .columns ≤ 4096
+      → Tabled T′ (t ++ (declared w first z ∷ []))
   pub unclaimed : (t : List Entry) → Tabled T t → length t < mostNames → Unclaimed T (length t) → Unclaimed T′ (length t + 1)
 
 -- T′ is T with data given to entry i
@@ -164,7 +186,7 @@ pub record Knows (t : List Entry) (w : List ℕ) (r : Named) : Type 0 where
   pub known : r .known ≡ known w t
   pub first : r .first ≡ find w t .first
   pub size : r .size ≡ find w t .size
-  pub subscripted : r .subscripted ≡ find w t .subscripted
+  pub extents : extentsOf (r .rows) (r .columns) ≡ find w t .extents
   pub given : r .given ≡ isGiven (find w t .given)
   pub class : r .class ≡ class-number (find w t .class)
 

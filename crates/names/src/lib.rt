@@ -2,40 +2,52 @@
 ghost use mathlib.Core.Path.{_≡_};
 ghost use mathlib.Core.Bool.{true};
 ghost use mathlib.Core.List.{List};
-ghost use Prim.Native.Nat.{_≤_, _<_, _+_, _*_, _/_, _%_};
+ghost use Prim.Native.Nat.{_≤_, _<_, _+_, _*_, _/_};
 ghost use lib.ListN.{length};
 ghost use Rattle.syntax.specs.Bytes.{same};
 ghost use Rattle.syntax.specs.Known.{Entry};
-ghost use Rattle.names.specs.Table.{nameWords, entryWords, mostNames, variableEntry, wordAt, lengthAt, firstAt, sizeAt, classAt, nameAt, Tabled, Found, Knows, Stands, Put, Added, Gave, Classed, CopiedIn, countIn};
+ghost use Rattle.names.specs.Table.{extentsOf, nameWords, entryWords, mostNames, variableEntry, wordAt, lengthAt, firstAt, sizeAt, classAt, nameAt, Tabled, Found, Knows, Stands, Put, Added, Gave, Classed, CopiedIn, countIn};
 
-// The layout, in words. Of an entry: the bytes of its name from 0 on, how many bytes, the first cell, how many cells, facts.
+// The layout, in words. Of an entry: the bytes of its name from 0 on, how many bytes, the first cell, how many cells, its two extents, facts.
 const LENGTH: usize = 32;
 
 const FIRST: usize = 33;
 
 const SIZE: usize = 34;
 
-const FACTS: usize = 35;
+const ROWS: usize = 35;
 
-const ENTRY: usize = 36;
+const COLUMNS: usize = 36;
+
+const FACTS: usize = 37;
+
+const ENTRY: usize = 38;
 
 // Of the table: at most MOST names, one entry more for the loop's variable, and the number of names.
 pub const MOST: usize = 16;
 
 pub const VARIABLE: usize = 16;
 
-const NUMBER: usize = 612;
+const NUMBER: usize = 646;
 
-pub const WORDS: usize = 613;
+pub const WORDS: usize = 647;
 
 pub type Table = [u32; WORDS];
 
-// What is known of a name: whether it is declared and where it stands in the table; whether it takes a subscript, was given data and stands in a
-// clause; the number of its class; its first cell and how many it has.
+// What a declaration says of a name: how many cells it has, and its extents. A single cell has none, an array one, a grid two; 0 stands where there is none.
+pub struct Shape {
+    pub size: u32,
+    pub rows: u32,
+    pub columns: u32,
+}
+
+// What is known of a name: whether it is declared and where it stands in the table; its extents; whether it was given data and stands in a clause; the
+// number of its class; its first cell and how many it has.
 pub struct Named {
     pub known: bool,
     pub index: usize,
-    pub subscripted: bool,
+    pub rows: u32,
+    pub columns: u32,
     pub given: bool,
     pub claimed: bool,
     pub class: u32,
@@ -102,7 +114,20 @@ pub fn class_of(table: &Table, i: usize) -> u32
     requires { ⌜ i ≤ variableEntry ⌝ }
     ensures { λ r. ⌜ r ≡ classAt (now (table .entry)) i ⌝ }
 {
-    table[ENTRY * i + FACTS] / 8
+    table[ENTRY * i + FACTS] / 4
+}
+
+// How many subscripts a name of these extents takes.
+pub fn subscripts_of(rows: u32, columns: u32) -> u32
+    ensures { λ r. ⌜ r ≡ length (extentsOf rows columns) ⌝ }
+{
+    if columns != 0 {
+        return 2;
+    }
+    if rows != 0 {
+        return 1;
+    }
+    0
 }
 
 // ---- names
@@ -162,7 +187,8 @@ pub fn find(table: &Table, w: &[u8]) -> Named
         return Named {
             known: false,
             index: i,
-            subscripted: false,
+            rows: 0,
+            columns: 0,
             given: false,
             claimed: false,
             class: rules::SHARED,
@@ -175,10 +201,11 @@ pub fn find(table: &Table, w: &[u8]) -> Named
     Named {
         known: true,
         index: i,
-        subscripted: facts % 2 == 1,
-        given: facts / 2 % 2 == 1,
-        claimed: facts / 4 % 2 == 1,
-        class: facts / 8,
+        rows: table[base + ROWS],
+        columns: table[base + COLUMNS],
+        given: facts % 2 == 1,
+        claimed: facts / 2 % 2 == 1,
+        class: facts / 4,
         first: table[base + FIRST],
         size: table[base + SIZE],
     }
@@ -198,10 +225,10 @@ pub fn put_name(table: &mut Table, i: usize, w: &[u8])
     table[base + LENGTH] = k as u32;
 }
 
-// A name more, with its first cell, how many cells it has, and whether it takes a subscript. A full table is left as it is.
-pub fn add(table: &mut Table, w: &[u8], first: u32, size: u32, subscripted: bool)
+// A name more, with its first cell and its shape. A full table is left as it is.
+pub fn add(table: &mut Table, w: &[u8], first: u32, shape: Shape)
     requires { ⌜ length (now w) ≤ nameWords ⌝ }
-    ensures { λ _. ⌜ Added (now (table .entry)) (now (w .entry)) first size subscripted (now (table .exit)) ⌝ }
+    ensures { λ _. ⌜ Added (now (table .entry)) (now (w .entry)) first shape (now (table .exit)) ⌝ }
 {
     let n = count(table);
     if MOST <= n {
@@ -210,16 +237,18 @@ pub fn add(table: &mut Table, w: &[u8], first: u32, size: u32, subscripted: bool
     put_name(table, n, w);
     let base = n * ENTRY;
     table[base + FIRST] = first;
-    table[base + SIZE] = size;
-    table[base + FACTS] = if subscripted { 1 } else { 0 };
+    table[base + SIZE] = shape.size;
+    table[base + ROWS] = shape.rows;
+    table[base + COLUMNS] = shape.columns;
+    table[base + FACTS] = 0;
     table[NUMBER] = n as u32 + 1;
 }
 
 // The facts of a name, and that it was given data.
 fn with_data(facts: u32) -> u32
-    ensures { λ r. ⌜ r ≡ facts / 4 * 4 + 2 + facts % 2 ⌝ }
+    ensures { λ r. ⌜ r ≡ facts / 2 * 2 + 1 ⌝ }
 {
-    facts / 4 * 4 + 2 + facts % 2
+    facts / 2 * 2 + 1
 }
 
 // Entry i was given data.
@@ -237,7 +266,7 @@ pub fn classify(table: &mut Table, i: usize, class: u32)
     ensures { λ _. ⌜ Classed (now (table .entry)) i class (now (table .exit)) ⌝ }
 {
     let base = i * ENTRY;
-    table[base + FACTS] = class * 8 + 4 + table[base + FACTS] % 4;
+    table[base + FACTS] = class * 4 + 2 + table[base + FACTS] % 2;
 }
 
 // Entry i is copied in (RULES 1.7 d).
@@ -246,5 +275,5 @@ pub fn copy_in(table: &mut Table, i: usize)
     ensures { λ _. ⌜ CopiedIn (now (table .entry)) i (now (table .exit)) ⌝ }
 {
     let base = i * ENTRY;
-    table[base + FACTS] = rules::COPIED * 8 + table[base + FACTS] % 8;
+    table[base + FACTS] = rules::COPIED * 4 + table[base + FACTS] % 4;
 }

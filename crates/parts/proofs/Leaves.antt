@@ -1,6 +1,6 @@
 -- Factors of one token: a literal, and a name without a subscript.
 use mathlib.Core.Path.{_≡_, refl, sym, _∙_, ap, subst}
-use mathlib.Core.Bool.{Bool, false, cond}
+use mathlib.Core.Bool.{Bool, cond}
 use mathlib.Core.List.{List, [], _∷_}
 use Prim.Native.Nat.{ℕ, suc, _+_, min, max}
 use native.Mathlib.Decide.{decLe}
@@ -18,12 +18,14 @@ use Rattle.lexer.specs.Lex.{kind-number, part, Lexed}
 use Rattle.names.specs.Table.{variableOf, Tabled}
 use Rattle.parts.specs.Answer.{rank-of, Reads, Within}
 use Rattle.parts.specs.Parts.{textAt, Emits, Ranked, readsOf, Fetches, pushes, literalRank, Pushes, Loads}
+use Rattle.parts.specs.declared.Fetch.{Fetch}
+use Rattle.parts.specs.declared.Fetch.the-variants.{Cell}
 use Rattle.parts.specs.declared.Got.{Got}
 use Rattle.parts.specs.declared.Got.the-variants.{Done}
 use Rattle.parts.proofs.Laws.{Since, since-none, since-rank, since-emit, reads-done}
 
 -- the words of a read are those of its instruction
-pub fetches-emits : (T s : List ℕ) (at line : ℕ) (b : Bool) (g : Got) (m a : List ℕ) (r : Got) → Fetches T s at line b g m a r → (t : List Entry) → Tabled T t
+pub fetches-emits : (T s : List ℕ) (at line : ℕ) (b : Fetch) (g : Got) (m a : List ℕ) (r : Got) → Fetches T s at line b g m a r → (t : List Entry) → Tabled T t
     → Emits 1 (words (readsOf t (variableOf T) line (textAt s at) b ∷ [])) g m a r
 unfolding words
 fetches-emits T s at line b g m a r h t d = subst (λ (ws : List ℕ). Emits 1 ws g m a r) (λ i. h .right t d .0 i ∷ h .right t d .1 i ∷ []) (h .emits)
@@ -62,16 +64,16 @@ module _ {s : List ℕ} {at : ℕ} {t : Tok} (l : Lexed s at t) where
       }
 
   pub name-loads : (kind-number (t .kind) ≡ 0 → ⊥) → (T : List ℕ) (place most line q : ℕ) (b a : List ℕ) (r : Got)
-      → Fetches T s at line false (Done (t .stop) place q) b a r → Ranked T (textAt s at) false most q → Loads T s at line place most b a r
+      → Fetches T s at line Cell (Done (t .stop) place q) b a r → Ranked T (textAt s at) 0 most q → Loads T s at line place most b a r
   unfolding Emits
   name-loads nz T place most line q b a r h ra = record {
     reads = λ e d.
         let v = variableOf T in
         let x = textAt s at in
-        let em = fetches-emits T s at line false (Done (t .stop) place q) b a r h e d in
-        reads-token (λ y. readsOf e v line y false ∷ [])
-        (λ y. rank-of e v (refers y false)) place most b a r x
-        (since-rank (since-emit (since-none place most b) (readsOf e v line x false ∷ []) (em .1)) _ (ra e d))
+        let em = fetches-emits T s at line Cell (Done (t .stop) place q) b a r h e d in
+        reads-token (λ y. readsOf e v line y Cell ∷ [])
+        (λ y. rank-of e v (refers y 0)) place most b a r x
+        (since-rank (since-emit (since-none place most b) (readsOf e v line x Cell ∷ []) (em .1)) _ (ra e d))
         refl (omega arith) (em .0);
     within = token-within nz place q r (h .emits .0);
   }

@@ -63,6 +63,13 @@ module _ (s : List ℕ) (at depth place : ℕ) (b : List ℕ) (ready : Ready s a
       let w = within-done s at place lo g n p q h e in
       record { inside = w .1; shallow = omega (arith, ready .shallow); short = ready .short; room = omega (arith, ready .room, ready .inside) }
 
+  -- and past a sign that follows
+  pub ready-past : (lo : ℕ) (g : Got) (n p q from : ℕ) (m : List ℕ) → at ≤ lo → Within s at place lo g → g ≡ Done n p q → n ≤ from → from ≤ length s
+      → length m ≡ length b → Ready s from depth p m
+  ready-past lo g n p q from m le h e nf fs em =
+      let w = within-done s at place lo g n p q h e in
+      record { inside = fs; shallow = omega (arith, ready .shallow); short = ready .short; room = omega (arith, ready .room, ready .inside) }
+
   pub ready-later : (j from depth′ : ℕ) (m : List ℕ) → at + j ≤ from → from ≤ length s → depth′ ≤ depth + j → length m ≡ length b → Ready s from depth′ place m
   ready-later j from depth′ m le le′ d em =
       record { inside = le′; shallow = omega (arith, ready .shallow); short = ready .short; room = omega (arith, ready .room) }

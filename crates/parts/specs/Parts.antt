@@ -10,10 +10,10 @@ use Rattle.syntax.specs.declared.Function.{Function}
 use Rattle.syntax.specs.declared.Function.the-variants.{Rdiv, Max}
 use Rattle.syntax.specs.Bytes.{letter, digit, same, sign}
 use Rattle.syntax.specs.Grammar.{number, Lead, bare, plus, minus}
-use Rattle.syntax.specs.Known.{Entry, find}
+use Rattle.syntax.specs.Known.{Entry, rows, columns, find}
 use Rattle.syntax.specs.Conditions.{refers, digits, small}
 use Rattle.syntax.specs.Reader.{done, is, kind, text, sees, says, isDigits, peek-in, skip-in}
-use Rattle.code.specs.Instr.{Instr, push, push-v, load, load-at, operation, argument}
+use Rattle.code.specs.Instr.{Instr, push, push-v, load, load-at, flatten, operation, argument}
 use Rattle.names.specs.Table.{variableOf, Tabled}
 use Rattle.parts.specs.Answer.{rank-of, Reads, Within}
 use Rattle.parts.specs.declared.Got.{Got}
@@ -24,6 +24,8 @@ use Rattle.parts.specs.declared.Joined.{Joined}
 use Rattle.parts.specs.declared.Beginning.{Beginning}
 use Rattle.parts.specs.declared.Beginning.the-variants.{Nothing, Literal, Bracket, Call, Name, Element}
 use Rattle.parts.specs.declared.Begun.{Begun}
+use Rattle.parts.specs.declared.Fetch.{Fetch}
+use Rattle.parts.specs.declared.Fetch.the-variants.{Cell, Indexed, Place}
 use Rattle.parts.specs.declared.Words.{Words}
 
 -- ---- tokens
@@ -120,20 +122,22 @@ pub data Sealed (c : ℕ) (s : List ℕ) : Got → Got → Type 0 where
 
 -- ---- names
 
--- r is the rank of a name, with a subscript or without
-abbrev pub Ranks : List ℕ → List ℕ → Bool → ℕ → Type 0
-Ranks T w b r = (t : List Entry) → Tabled T t → r ≡ rank-of t (variableOf T) (refers w b)
+-- r is the rank of a name with k subscripts
+abbrev pub Ranks : List ℕ → List ℕ → ℕ → ℕ → Type 0
+Ranks T w k r = (t : List Entry) → Tabled T t → r ≡ rank-of t (variableOf T) (refers w k)
 
 -- r is the highest rank with it
-abbrev pub Ranked : List ℕ → List ℕ → Bool → ℕ → ℕ → Type 0
-Ranked T w b most r = (t : List Entry) → Tabled T t → r ≡ max most (rank-of t (variableOf T) (refers w b))
+abbrev pub Ranked : List ℕ → List ℕ → ℕ → ℕ → ℕ → Type 0
+Ranked T w k most r = (t : List Entry) → Tabled T t → r ≡ max most (rank-of t (variableOf T) (refers w k))
 
--- the instruction that reads the cell of a name, with a subscript or without
-abbrev pub readsOf : List Entry → List ℕ → ℕ → List ℕ → Bool → Instr
-readsOf t v line x b = cond b (load-at (find x t .first) (find x t .size) line) (cond (same x v) push-v (load (find x t .first)))
+-- the instruction of a name: the read of its cell, that of an element, the place of a grid's two subscripts
+abbrev pub readsOf : List Entry → List ℕ → ℕ → List ℕ → Fetch → Instr
+readsOf t v line x Cell = cond (same x v) push-v (load (find x t .first))
+readsOf t v line x Indexed = load-at (find x t .first) (find x t .size) line
+readsOf t v line x Place = flatten (rows (find x t)) (columns (find x t)) line
 
 -- w are the words of that instruction
-abbrev pub Worded : List ℕ → ℕ → List ℕ → Bool → Words → Type 0
+abbrev pub Worded : List ℕ → ℕ → List ℕ → Fetch → Words → Type 0
 Worded T line x b w =
     (t : List Entry) → Tabled T t
     → (w .operation ≡ operation (readsOf t (variableOf T) line x b)) × (w .argument ≡ argument (readsOf t (variableOf T) line x b))
@@ -141,6 +145,10 @@ Worded T line x b w =
 -- a first cell and a length in one argument, where both are within the limits
 abbrev pub spanOf : ℕ → ℕ → ℕ
 spanOf first size = cond (leb first 4096 && leb size 4096) (first + 4096 * size) 0
+
+-- two extents in one argument, where both are within the limits
+abbrev pub extentsArgument : ℕ → ℕ → ℕ
+extentsArgument m n = cond (leb m 4096 && leb n 4096) (m + 8192 * n) 0
 
 -- ---- instructions after what was read
 
@@ -154,8 +162,8 @@ unfoldable pub Emits : ℕ → List ℕ → Got → List ℕ → List ℕ → Go
 Emits k ws Broken before after r = r ≡ Broken
 Emits k ws (Done n p d) before after r = (r ≡ Done n (p + k) d) × (after ≡ sets before (2 * p) ws)
 
--- the read of the name at a place, after what was read
-pub record Fetches (T s : List ℕ) (at line : ℕ) (b : Bool) (g : Got) (before after : List ℕ) (r : Got) : Type 0 where
+-- the instruction of the name at a place, after what was read
+pub record Fetches (T s : List ℕ) (at line : ℕ) (b : Fetch) (g : Got) (before after : List ℕ) (r : Got) : Type 0 where
   pub words : Words
   pub right : Worded T line (textAt s at) b words
   pub emits : Emits 1 (words .operation ∷ words .argument ∷ []) g before after r
@@ -177,6 +185,6 @@ pub record Pushes (s : List ℕ) (at place most : ℕ) (before after : List ℕ)
 -- a name without a subscript at a place
 pub record Loads (T s : List ℕ) (at line place most : ℕ) (before after : List ℕ) (r : Got) : Type 0 where
   pub reads : (t : List Entry) → Tabled T t
-      → Reads (λ x. readsOf t (variableOf T) line x false ∷ []) (λ x. rank-of t (variableOf T) (refers x false)) s
+      → Reads (λ x. readsOf t (variableOf T) line x Cell ∷ []) (λ x. rank-of t (variableOf T) (refers x 0)) s
       (done (textAt s at) (skip-in (drop at s))) place most before after r
   pub within : Within s at place (suc at) r

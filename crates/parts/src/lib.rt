@@ -9,10 +9,11 @@ ghost use Rattle.syntax.specs.Bytes.{same};
 ghost use Rattle.code.specs.Instr.{add, subtract, multiply, divide, operation as operationOf, words};
 ghost use Rattle.code.specs.Compile.{codeLead, calls};
 ghost use Rattle.lexer.specs.Lex.{part};
-ghost use Rattle.parts.specs.Parts.{kindAt, textAt, Sign, leadBy, chosen, Joins, calledAt, Begins, Inside, Sealed, Ranks, Ranked, Worded, spanOf, Room, Emits, Fetches, Pushes, Loads};
+ghost use Rattle.parts.specs.Parts.{kindAt, textAt, Sign, leadBy, chosen, Joins, calledAt, Begins, Inside, Sealed, Ranks, Ranked, Worded, spanOf, extentsArgument, Room, Emits, Fetches, Pushes, Loads};
 ghost use Rattle.names.specs.Table.{nameWords};
 use code::ADD;
 use code::DIVIDE;
+use code::FLATTEN;
 use code::LINE;
 use code::LOAD;
 use code::LOAD_AT;
@@ -33,6 +34,7 @@ use names::Table;
 use names::VARIABLE;
 use names::find;
 use names::is_named;
+use names::subscripts_of;
 use syntax::Function;
 
 // What a reader answers: the next place of the line and of the code, and the highest rank so far (0 in order, 1 over a limit, 2 a wrong name).
@@ -70,6 +72,13 @@ pub struct Begun {
     pub next: usize,
 }
 
+// What is emitted for a name: the read of its cell; that of an element, whose subscript is pending; the place of a grid's two subscripts, which are pending.
+pub enum Fetch {
+    Cell,
+    Indexed,
+    Place,
+}
+
 // The two words of an instruction.
 struct Words {
     operation: u32,
@@ -98,34 +107,34 @@ fn literal_rank(n: u32) -> u32
     if n <= 2147483647 { 0 } else { 1 }
 }
 
-// The rank of a name, with a subscript or without.
-fn name_rank(table: &Table, w: &[u8], subscript: bool) -> u32
+// The rank of a name with so many subscripts.
+fn name_rank(table: &Table, w: &[u8], subscripts: u32) -> u32
     requires { ⌜ length (now w) ≤ nameWords ⌝ }
-    ensures { λ r. ⌜ Ranks (now (table .entry)) (now (w .entry)) subscript r ⌝ }
+    ensures { λ r. ⌜ Ranks (now (table .entry)) (now (w .entry)) subscripts r ⌝ }
 {
     if is_named(table, VARIABLE, w) {
-        return if subscript { 2 } else { 0 };
+        return if subscripts == 0 { 0 } else { 2 };
     }
     let n = find(table, w);
     if !n.known {
         return 2;
     }
-    if n.subscripted {
-        if subscript { 0 } else { 2 }
+    if subscripts == subscripts_of(n.rows, n.columns) {
+        0
     } else {
-        if subscript { 2 } else { 0 }
+        2
     }
 }
 
 // The highest rank, with that of the name at a place.
-pub fn named(s: &[u8], at: usize, rank: u32, table: &Table, subscript: bool) -> u32
+pub fn named(s: &[u8], at: usize, rank: u32, table: &Table, subscripts: u32) -> u32
     requires { ⌜ (at ≤ length (now s)) × (kindAt (now s) at ≡ 1) ⌝ }
-    ensures { λ r. ⌜ Ranked (now (table .entry)) (textAt (now (s .entry)) at) subscript rank r ⌝ }
+    ensures { λ r. ⌜ Ranked (now (table .entry)) (textAt (now (s .entry)) at) subscripts rank r ⌝ }
 {
     let t = token(s, at);
     let a = t.start;
     let e = t.stop;
-    larger(rank, name_rank(table, &s[a..e], subscript))
+    larger(rank, name_rank(table, &s[a..e], subscripts))
 }
 
 // ---- signs
@@ -344,19 +353,41 @@ pub fn span(first: u32, size: u32) -> u32
     first + code::ELEMENT * size
 }
 
-// The instruction that reads the cell of a name, with a subscript or without.
-fn read_of(table: &Table, w: &[u8], line: u32, subscript: bool) -> Words
+// Two extents in one argument. A table of names within the limits has no others.
+fn extents(rows: u32, columns: u32) -> u32
+    ensures { λ r. ⌜ r ≡ extentsArgument rows columns ⌝ }
+{
+    if 4096 < rows {
+        return 0;
+    }
+    if 4096 < columns {
+        return 0;
+    }
+    rows + code::EXTENT * columns
+}
+
+// The instruction of a name.
+fn read_of(table: &Table, w: &[u8], line: u32, fetch: Fetch) -> Words
     requires { ⌜ (length (now w) ≤ nameWords) × (line ≤ 2049) ⌝ }
-    ensures { λ r. ⌜ Worded (now (table .entry)) line (now (w .entry)) subscript r ⌝ }
+    ensures { λ r. ⌜ Worded (now (table .entry)) line (now (w .entry)) fetch r ⌝ }
 {
     let n = find(table, w);
     let first = n.first;
     let size = n.size;
-    if subscript {
-        return Words {
-            operation: LOAD_AT + LINE * line,
-            argument: span(first, size),
-        };
+    match fetch {
+        Fetch::Indexed => {
+            return Words {
+                operation: LOAD_AT + LINE * line,
+                argument: span(first, size),
+            };
+        }
+        Fetch::Place => {
+            return Words {
+                operation: FLATTEN + LINE * line,
+                argument: extents(n.rows, n.columns),
+            };
+        }
+        Fetch::Cell => {}
     }
     if is_named(table, VARIABLE, w) {
         return Words {
@@ -370,7 +401,7 @@ fn read_of(table: &Table, w: &[u8], line: u32, subscript: bool) -> Words
     }
 }
 
-// Writes the read of the name at a place after what was read.
+// Writes the instruction of the name at a place after what was read.
 pub fn then_read(
     s: &[u8],
     at: usize,
@@ -378,15 +409,15 @@ pub fn then_read(
     table: &Table,
     code: &mut [u32],
     g: Got,
-    subscript: bool,
+    fetch: Fetch,
 ) -> Got
     requires { ⌜ (at ≤ length (now s)) × (kindAt (now s) at ≡ 1) × (line ≤ 2049) × Room 1 g (now code) ⌝ }
-    ensures { λ r. ⌜ Fetches (now (table .entry)) (now (s .entry)) at line subscript g (now (code .entry)) (now (code .exit)) r ⌝ }
+    ensures { λ r. ⌜ Fetches (now (table .entry)) (now (s .entry)) at line fetch g (now (code .entry)) (now (code .exit)) r ⌝ }
 {
     let t = token(s, at);
     let a = t.start;
     let e = t.stop;
-    let i = read_of(table, &s[a..e], line, subscript);
+    let i = read_of(table, &s[a..e], line, fetch);
     let operation = i.operation;
     let argument = i.argument;
     then_emit(g, code, operation, argument)
@@ -430,7 +461,7 @@ pub fn variable(
 {
     let t = token(s, at);
     let stop = t.stop;
-    let worse = named(s, at, rank, table, false);
+    let worse = named(s, at, rank, table, 0);
     then_read(
         s,
         at,
@@ -442,6 +473,6 @@ pub fn variable(
             place,
             rank: worse,
         },
-        false,
+        Fetch::Cell,
     )
 }

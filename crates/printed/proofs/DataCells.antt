@@ -51,7 +51,7 @@ filled-grows x vs [] = omega arith
 filled-grows x vs (e ∷ es) = go (named x e) (isGiven (e .given)) refl (filled-grows x vs es)
   where
     to : Entry
-    to = record { name = e .name; first = e .first; subscripted = e .subscripted; size = e .size; class = e .class; given = some vs }
+    to = record { name = e .name; first = e .first; extents = e .extents; size = e .size; class = e .class; given = some vs }
 
     go : (c g : Bool) → isGiven (e .given) ≡ g → filled-cells es ≤ filled-cells (map (give-to x vs) es)
         → cond g (e .size) 0 + filled-cells es ≤ cond (isGiven (cond c to e .given)) (cond c to e .size) 0 + filled-cells (map (give-to x vs) es)
@@ -67,7 +67,7 @@ filled-give x vs [] h = omega arith
 filled-give x vs (e ∷ es) h = go (named x e) h (filled-give x vs es)
   where
     to : Entry
-    to = record { name = e .name; first = e .first; subscripted = e .subscripted; size = e .size; class = e .class; given = some vs }
+    to = record { name = e .name; first = e .first; extents = e .extents; size = e .size; class = e .class; given = some vs }
 
     go : (c : Bool) → isGiven (cond c e (find x es) .given) ≡ false
         → (isGiven (find x es .given) ≡ false → filled-cells es + find x es .size ≤ filled-cells (map (give-to x vs) es))

@@ -5,9 +5,9 @@ use mathlib.Core.List.{List, [], _∷_, _++_, map}
 use Prim.Native.Nat.{ℕ}
 use Prim.Native.String.{String}
 use Rattle.syntax.specs.Bytes.{all, bytes, lines, run, token-size, tokens-after, trimmed}
-use Rattle.syntax.specs.Grammar.{number-from, showMore, show, showTerms, showTerm, showFactors, showFactor, showRef, showClauses, showLine}
+use Rattle.syntax.specs.Grammar.{number-from, showMore, show, showTerms, showTerm, showFactors, showFactor, showRef, showSubscripts, showClauses, showLine}
 use Rattle.syntax.specs.Known.{find, then-do, values, class-in, after}
-use Rattle.syntax.specs.Conditions.{mentions, inTerms, inTerm, inFactors, inFactor, inRef, inLine, names, limits, stands}
+use Rattle.syntax.specs.Conditions.{mentions, inTerms, inTerm, inFactors, inFactor, inRef, inSubscripts, inLine, names, limits, stands}
 use Rattle.syntax.specs.Reader.{readExpr, readTerms, readTerm, readFactors, readFactor, readRef, readMore, readDeclare, readGive, readClauses, readDirective, readLoop, readAssign, readWhen, readEnd, readStart, readLine, parse}
 use Rattle.syntax.specs.Text.{Verdict, refused, good, judged, judge-line, judge, read}
 use Rattle.syntax.specs.Follows.{spoken}
@@ -48,6 +48,14 @@ under clauses = text ("integer a, b" ∷ clauses ∷ "do i = 1, 0" ∷ []) ++ by
 abbrev printed-under : String → List ℕ
 printed-under clauses = text ("integer a , b" ∷ clauses ∷ "do i = 1 , 0" ∷ "end do" ∷ [])
 
+-- a loop with one statement, after this line
+abbrev with-statement : String → String → List ℕ
+with-statement declared statement = text (declared ∷ "!$omp parallel do num_threads(1)" ∷ "do i=1,2" ∷ statement ∷ "end do" ∷ [])
+
+abbrev printed-statement : String → String → List ℕ
+printed-statement declared statement =
+    text (declared ∷ "!$omp parallel do num_threads ( 1 )" ∷ "do i = 1 , 2" ∷ statement ∷ "end do" ∷ [])
+
 -- a text and its printed form
 pub rows : List (List ℕ × List ℕ)
 rows =
@@ -75,12 +83,27 @@ rows =
     )
     ∷ (under "!$omp parallel do num_threads(1) shared(a) shared(b)", printed-under "!$omp parallel do num_threads ( 1 ) shared ( a ) shared ( b )")
     ∷ (under "!$omp parallel do shared(b, a) num_threads(1)", printed-under "!$omp parallel do shared ( b , a ) num_threads ( 1 )")
+    -- grids (Point 9): extents and subscripts, each in its place
+    ∷ (
+      with-statement "integer g(02,3)" "g(1,02) = g(2, 1)+1",
+      printed-statement "integer g ( 2 , 3 )" "g ( 1 , 2 ) = g ( 2 , 1 ) + 1",
+    )
+    ∷ (
+      with-statement "Integer g(3,002),h(01,1)" "G( 02,1 )=g(01, 2)+h(1,g(i,i))",
+      printed-statement "integer g ( 3 , 2 ) , h ( 1 , 1 )" "g ( 2 , 1 ) = g ( 1 , 2 ) + h ( 1 , g ( i , i ) )",
+    )
+    ∷ (
+      above ("integer g(2,2)" ∷ "data g/3*04,-1/" ∷ []) "do i=1,2" "end do",
+      printed-above ("integer g ( 2 , 2 )" ∷ "data g / 4 , 4 , 4 , - 1 /" ∷ []) "do i = 1 , 2",
+    )
+    ∷ (with-statement "integer g(2,2)" "g(1, 2)=0", printed-statement "integer g ( 2 , 2 )" "g ( 1 , 2 ) = 0")
+    ∷ (with-statement "integer g(2,2)" "g(2, 1)=0", printed-statement "integer g ( 2 , 2 )" "g ( 2 , 1 ) = 0")
     ∷ []
 
 pub rows-printed : map (λ r. form (r .0)) rows ≡ map (λ r. r .1) rows
 unfolding everything everything-printed rows lines run token-size tokens-after trimmed number-from showMore show showTerms showTerm showFactors showFactor
-    showRef showClauses showLine readExpr readTerms readTerm readFactors readFactor readRef readMore readDeclare readGive readClauses readDirective readLoop
-    readAssign readWhen readEnd readStart readLine parse spoken shortest written-out plain kept after-blanks programOf form
+    showRef showSubscripts showClauses showLine readExpr readTerms readTerm readFactors readFactor readRef readMore readDeclare readGive readClauses
+    readDirective readLoop readAssign readWhen readEnd readStart readLine parse spoken shortest written-out plain kept after-blanks programOf form
 rows-printed = refl
 
 -- the theorems are about them: each is accepted
@@ -90,6 +113,6 @@ is-good (good s) = true
 
 pub rows-accepted : all (λ r. is-good (read (r .0))) rows ≡ true
 unfolding everything everything-printed rows lines run token-size tokens-after trimmed number-from find then-do values class-in after mentions inTerms inTerm
-    inFactors inFactor inRef inLine names limits stands readExpr readTerms readTerm readFactors readFactor readRef readMore readDeclare readGive readClauses
-    readDirective readLoop readAssign readWhen readEnd readStart readLine parse judged judge-line judge read
+    inFactors inFactor inRef inSubscripts inLine names limits stands readExpr readTerms readTerm readFactors readFactor readRef readMore readDeclare readGive
+    readClauses readDirective readLoop readAssign readWhen readEnd readStart readLine parse judged judge-line judge read
 rows-accepted = refl

@@ -125,7 +125,7 @@ formed-heard (give x i is) c h = data-heard x (once i) (written-out (i ∷ is))
 formed-heard (direct cs) c h = record { spoken = refl; sound = refl }
 formed-heard (loop v l m k n) c h = record { spoken = refl; sound = refl }
 formed-heard (inside (assign (single x) e)) c h = word-heard x _ (h .0 .proper .0)
-formed-heard (inside (assign (element x i) e)) c h = word-heard x _ (h .0 .proper .0)
+formed-heard (inside (assign (element x is) e)) c h = word-heard x _ (h .0 .proper .0)
 formed-heard (inside (when a r b)) c h = record { spoken = refl; sound = refl }
 formed-heard (inside otherwise) c h = record { spoken = refl; sound = refl }
 formed-heard (inside (end-if j)) c h = record { spoken = refl; sound = refl }

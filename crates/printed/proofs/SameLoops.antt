@@ -4,7 +4,7 @@ use mathlib.Core.Path.{_≡_, refl, sym, _∙_, ap, ap₂, subst₂}
 use mathlib.Core.Bool.{Bool, true, false, cond, _&&_, not}
 use mathlib.Core.List.{List, [], _∷_, map}
 use mathlib.Core.Option.{Option, none, some}
-use Prim.Native.Nat.{ℕ, zero, suc, _+_, _-_}
+use Prim.Native.Nat.{ℕ, zero, suc, _+_, _-_, _*_}
 use lib.Dec.{leb}
 use lib.IntN.{ℤ, pos, negsuc, _+ℤ_}
 use Rattle.int32.specs.Integers.{sum, difference, product, larger, quotient, related}
@@ -16,12 +16,12 @@ use Rattle.rules.specs.Serial.{Result, along, from, serial}
 use Rattle.syntax.specs.declared.Function.{Function}
 use Rattle.syntax.specs.declared.Function.the-variants.{Rdiv, Max}
 use Rattle.syntax.specs.Bytes.{choose, same, Token, name, other-word, digits, sign, equal}
-use Rattle.syntax.specs.Grammar.{number, Lead, bare, plus, minus, Expr, expr, Terms, no-terms, terms, Term, term, Factors, no-factors, factors, Factor, literal, cell, call, brackets, Ref, single, element, showRef}
-use Rattle.syntax.specs.Known.{Entry, State, Stmts, find, cells}
-use Rattle.syntax.specs.Meaning.{zeros-aside, alike, reference, unled, followed, multiplied, summand, times, multiplicand, alone, compared, rival, repeated, same-ref, is-reduction, operator-at, is-update, second-of, remainder, led, located, divides, called, isVariable, eval, evalTerms, evalTerm, evalFactors, evalFactor, place, assigned, exec, class-of, loopOf}
+use Rattle.syntax.specs.Grammar.{number, Lead, bare, plus, minus, Expr, expr, Terms, no-terms, terms, Term, term, Factors, no-factors, factors, Factor, literal, cell, call, brackets, Ref, single, element, Subscripts, subscript, subscripts, showRef}
+use Rattle.syntax.specs.Known.{Entry, rows, columns, State, Stmts, find, cells}
+use Rattle.syntax.specs.Meaning.{zeros-aside, alike, reference, unled, followed, multiplied, summand, times, multiplicand, alone, compared, rival, repeated, same-ref, is-reduction, operator-at, is-update, second-of, remainder, led, located, in-grid, divides, called, isVariable, eval, evalTerms, evalTerm, evalFactors, evalFactor, place, cell-of, assigned, exec, class-of, loopOf}
 use Rattle.int32.specs.Integers as integers
 use Rattle.printed.specs.Form.{zeros-gone}
-use Rattle.printed.specs.Restated.{shortExpr, shortTerms, shortTerm, shortFactors, shortFactor, shortRef, SameStmts, SameKnown, SameTree, reads, writes, updates, faults, ends, SameLoop, SameResult, no-fault, one-fault}
+use Rattle.printed.specs.Restated.{shortExpr, shortTerms, shortTerm, shortFactors, shortFactor, shortRef, shortSubscripts, SameStmts, SameKnown, SameTree, reads, writes, updates, faults, ends, SameLoop, SameResult, no-fault, one-fault}
 use Rattle.printed.specs.Restated as restated
 use Rattle.printed.proofs.ShortLines.{ref-short}
 use Rattle.printed.proofs.ZeroLaws.{number-shortest, no-zeros-shortest, show-short-ref}
@@ -158,6 +158,11 @@ located-same i j first size (pos n) {f} {g} h = go (leb 1 n && leb n size)
     go false = faults
 located-same i j first size (negsuc n) h = faults
 
+in-grid-same : (i j first m n : ℕ) (y z : ℤ) {f g : ℕ → Act} → ((c : ℕ) → SameTree (f c) (g c))
+    → SameTree (in-grid i first m n y z f) (in-grid j first m n y z g)
+unfolding in-grid
+in-grid-same i j first m n y z h = located-same i j first m y (λ c. located-same i j 0 n z (λ d. h (c + d * m)))
+
 divides-same : (i j : ℕ) (op : ℤ → ℤ → ℤ) (a b : ℤ) {f g : ℤ → Act} → ((y : ℤ) → SameTree (f y) (g y))
     → SameTree (divides i op a b f) (divides j op a b g)
 unfolding divides
@@ -181,10 +186,10 @@ module _ (t : List Entry) (v : List ℕ) (x : ℤ) (i j : ℕ) where
   variable-short : (r : Ref) → isVariable t v x (shortRef r) ≡ isVariable t v x r
   unfolding shortRef
   variable-short (single y) = refl
-  variable-short (element y e) = refl
+  variable-short (element y is) = refl
 
   mutual
-    unfolding eval evalTerms evalTerm evalFactors evalFactor place shortExpr shortTerms shortTerm shortFactors shortFactor shortRef
+    unfolding eval evalTerms evalTerm evalFactors evalFactor place cell-of shortExpr shortTerms shortTerm shortFactors shortFactor shortRef shortSubscripts
 
     expr-same : (e : Expr) {f g : ℤ → Act} → ((y : ℤ) → SameTree (f y) (g y)) → SameTree (eval t v x i e f) (eval t v x j (shortExpr e) g)
     expr-same (expr l a as′) h = term-same a (λ y. terms-same as′ (led l y) h)
@@ -212,7 +217,12 @@ module _ (t : List Entry) (v : List ℕ) (x : ℤ) (i j : ℕ) where
 
     place-same : (r : Ref) {f g : ℕ → Act} → ((c : ℕ) → SameTree (f c) (g c)) → SameTree (place t v x i r f) (place t v x j (shortRef r) g)
     place-same (single y) h = h (find y t .first)
-    place-same (element y e) h = expr-same e (λ n. located-same i j (find y t .first) (find y t .size) n h)
+    place-same (element y is) h = cell-same (find y t) is h
+
+    cell-same : (y : Entry) (is : Subscripts) {f g : ℕ → Act} → ((c : ℕ) → SameTree (f c) (g c))
+        → SameTree (cell-of t v x i y is f) (cell-of t v x j y (shortSubscripts is) g)
+    cell-same y (subscript e) h = expr-same e (λ n. located-same i j (y .first) (y .size) n h)
+    cell-same y (subscripts e f) h = expr-same e (λ m. expr-same f (λ n. in-grid-same i j (y .first) (rows y) (columns y) m n h))
 
   assigned-same : (r : Ref) (e : Expr) {a b : Act} → SameTree a b → SameTree (assigned t v x i r e a) (assigned t v x j (shortRef r) (shortExpr e) b)
   unfolding assigned

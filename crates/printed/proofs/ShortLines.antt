@@ -7,16 +7,16 @@ use Prim.Native.Nat.{ℕ, suc, _+_}
 use lib.Dec.{ltb}
 use lib.IntN.{ℤ}
 use lib.ListN.{length, replicate, length-map}
-use Rattle.rules.specs.Loop.{Class, reduction}
+use Rattle.rules.specs.Loop.{Class, shared, reduction}
 use Rattle.syntax.specs.declared.ClauseKind.{ClauseKind}
 use Rattle.syntax.specs.declared.ClauseKind.the-variants.{Shared, Lastprivate, Firstprivate, Reduction}
 use Rattle.syntax.specs.Bytes.{all, any, same, between}
-use Rattle.syntax.specs.Grammar.{number, Expr, expr, Terms, no-terms, terms, Term, term, Factors, no-factors, factors, Factor, literal, cell, call, brackets, Ref, single, element, Declared, one, array, Item, item, Clause, clause, threads, static, assign, when, otherwise, end-if, Line, declare, give, direct, loop, inside, end-do, close}
-use Rattle.syntax.specs.Known.{Entry, declaredName, declaredSize, signed, copies, values, total, entries, threads-in, processors-by, statics-in, names-in, in-lastprivate, in-firstprivate, reduced-in, class-in, classify, with-class}
-use Rattle.syntax.specs.Conditions.{Mention, digits, refers, opens, mentions, inTerms, inTerm, inFactors, inFactor, inRef, inDeclared, inItem, concat, inLine, refName}
+use Rattle.syntax.specs.Grammar.{number, Expr, expr, Terms, no-terms, terms, Term, term, Factors, no-factors, factors, Factor, literal, cell, call, brackets, Ref, single, element, Subscripts, subscript, subscripts, Declared, one, array, grid, Item, item, Clause, clause, threads, static, assign, when, otherwise, end-if, Line, declare, give, direct, loop, inside, end-do, close}
+use Rattle.syntax.specs.Known.{Entry, declaredName, declaredExtents, cellsOf, declaredSize, entryOf, signed, copies, values, total, entries, threads-in, processors-by, statics-in, names-in, in-lastprivate, in-firstprivate, reduced-in, class-in, classify, with-class}
+use Rattle.syntax.specs.Conditions.{Mention, digits, refers, opens, mentions, inTerms, inTerm, inFactors, inFactor, inRef, inSubscripts, countOf, inDeclared, inItem, concat, inLine, refName}
 use Rattle.syntax.proofs.TestLaws.{all-append}
 use Rattle.printed.specs.Form.{shortest}
-use Rattle.printed.specs.Restated.{shortExpr, shortTerms, shortTerm, shortFactors, shortFactor, shortRef, shortDeclared, shortItem, shortClause, short}
+use Rattle.printed.specs.Restated.{shortExpr, shortTerms, shortTerm, shortFactors, shortFactor, shortRef, shortSubscripts, shortDeclared, shortItem, shortClause, short}
 use Rattle.printed.proofs.ZeroLaws.{number-shortest}
 use Rattle.printed.proofs.PlainLaws.{copies-short}
 
@@ -26,6 +26,11 @@ threads-short (clause k x xs ∷ cs) = threads-short cs
 threads-short (threads p ∷ cs) = ap (λ (ps : List (List ℕ)). shortest p ∷ ps) (threads-short cs)
 threads-short (static ∷ cs) = threads-short cs
 
+count-short : (is : Subscripts) → countOf (shortSubscripts is) ≡ countOf is
+unfolding shortSubscripts
+count-short (subscript e) = refl
+count-short (subscripts e f) = refl
+
 -- ---- what a line mentions, under a test that leading zeros don't change
 
 module _ (p : Mention → Bool) (h : (d : List ℕ) → p (digits (shortest d)) ≡ p (digits d)) where
@@ -33,7 +38,7 @@ module _ (p : Mention → Bool) (h : (d : List ℕ) → p (digits (shortest d)) 
   both a b c d x y = all-append p a b ∙ ap₂ (λ (u v : Bool). u && v) x y ∙ sym (all-append p c d)
 
   mutual
-    unfolding mentions inTerms inTerm inFactors inFactor inRef shortExpr shortTerms shortTerm shortFactors shortFactor shortRef
+    unfolding mentions inTerms inTerm inFactors inFactor inRef inSubscripts shortExpr shortTerms shortTerm shortFactors shortFactor shortRef shortSubscripts
 
     expr-all : (n : ℕ) (e : Expr) → all p (mentions n (shortExpr e)) ≡ all p (mentions n e)
     expr-all n (expr l t ts) = both (inTerm n (shortTerm t)) (inTerms n (shortTerms ts)) (inTerm n t) (inTerms n ts) (term-all n t) (terms-all n ts)
@@ -62,12 +67,18 @@ module _ (p : Mention → Bool) (h : (d : List ℕ) → p (digits (shortest d)) 
 
     ref-all : (n : ℕ) (e : Ref) → all p (inRef n (shortRef e)) ≡ all p (inRef n e)
     ref-all n (single x) = refl
-    ref-all n (element x e) = ap (λ (c : Bool). p (refers x true) && (p (opens (suc n)) && c)) (expr-all (suc n) e)
+    ref-all n (element x is) =
+        ap₂ (λ (k : ℕ) (c : Bool). p (refers x k) && (p (opens (suc n)) && c)) (count-short is) (subscripts-all (suc n) is)
+
+    subscripts-all : (n : ℕ) (is : Subscripts) → all p (inSubscripts n (shortSubscripts is)) ≡ all p (inSubscripts n is)
+    subscripts-all n (subscript e) = expr-all n e
+    subscripts-all n (subscripts e f) = both (mentions n (shortExpr e)) (mentions n (shortExpr f)) (mentions n e) (mentions n f) (expr-all n e) (expr-all n f)
 
   declared-all : (ds : List Declared) → all p (concat inDeclared (map shortDeclared ds)) ≡ all p (concat inDeclared ds)
   declared-all [] = refl
   declared-all (one x ∷ ds) = declared-all ds
   declared-all (array x d ∷ ds) = ap₂ (λ (u v : Bool). u && v) (h d) (declared-all ds)
+  declared-all (grid x m n ∷ ds) = ap₂ (λ (u v : Bool). u && v) (h m) (ap₂ (λ (u v : Bool). u && v) (h n) (declared-all ds))
 
   items-all : (is : List Item) → all p (concat inItem (map shortItem is)) ≡ all p (concat inItem is)
   items-all [] = refl
@@ -94,13 +105,18 @@ module _ (p : Mention → Bool) (h : (d : List ℕ) → p (digits (shortest d)) 
 
 -- ---- numbers that a line gives
 
+extents-short : (d : Declared) → declaredExtents (shortDeclared d) ≡ declaredExtents d
+extents-short (one x) = refl
+extents-short (array x d) = ap (λ (k : ℕ). k ∷ []) (number-shortest d)
+extents-short (grid x m n) = ap₂ (λ (j k : ℕ). j ∷ k ∷ []) (number-shortest m) (number-shortest n)
+
 size-short : (d : Declared) → declaredSize (shortDeclared d) ≡ declaredSize d
-size-short (one x) = refl
-size-short (array x d) = number-shortest d
+size-short d = ap cellsOf (extents-short d)
 
 name-short : (d : Declared) → declaredName (shortDeclared d) ≡ declaredName d
 name-short (one x) = refl
 name-short (array x d) = refl
+name-short (grid x m n) = refl
 
 pub names-short : (ds : List Declared) → map declaredName (map shortDeclared ds) ≡ map declaredName ds
 names-short [] = refl
@@ -115,13 +131,16 @@ pub between-short : (ds : List Declared)
 between-short [] = refl
 between-short (d ∷ ds) = ap₂ (λ (n : ℕ) (b : Bool). between 1 4096 n && b) (size-short d) (between-short ds)
 
-and-entry : (e : Entry) {xs ys : List Entry} → xs ≡ ys → e ∷ xs ≡ e ∷ ys
-and-entry e h = ap (λ (es : List Entry). e ∷ es) h
+entry-short : (c : ℕ) (d : Declared) → entryOf c (shortDeclared d) ≡ entryOf c d
+entry-short c d =
+    ap₂ (λ (x : List ℕ) (ns : List ℕ). record { name = x; first = c; extents = ns; size = cellsOf ns; class = shared; given = none })
+    (name-short d) (extents-short d)
 
 pub entries-short : (c : ℕ) (ds : List Declared) → entries c (map shortDeclared ds) ≡ entries c ds
 entries-short c [] = refl
-entries-short c (one x ∷ ds) = and-entry _ (entries-short (c + 1) ds)
-entries-short c (array x d ∷ ds) = rw (number-shortest d) (and-entry _ (entries-short (c + number d) ds))
+entries-short c (d ∷ ds) =
+    ap₂ (λ (e : Entry) (es : List Entry). e ∷ es) (entry-short c d)
+    (ap (λ (n : ℕ). entries (c + n) (map shortDeclared ds)) (size-short d) ∙ entries-short (c + declaredSize d) ds)
 
 pub total-short : (is : List Item) → total copies (map shortItem is) ≡ total copies is
 total-short [] = refl
@@ -141,7 +160,7 @@ values-short (item (some r) l d ∷ is) =
 pub ref-short : (r : Ref) → refName (shortRef r) ≡ refName r
 unfolding shortRef
 ref-short (single x) = refl
-ref-short (element x e) = refl
+ref-short (element x is) = refl
 
 -- ---- clauses
 

@@ -15,11 +15,11 @@ use Rattle.syntax.specs.declared.ClauseKind.the-variants.{Shared, Lastprivate, 
 use Rattle.syntax.specs.declared.Function.{Function}
 use Rattle.syntax.specs.declared.Function.the-variants.{Rdiv, Max}
 use Rattle.syntax.specs.Bytes.{Token, name, other-word, digits, sign}
-use Rattle.syntax.specs.Grammar.{number, number-from, Lead, bare, plus, minus, Expr, expr, Terms, no-terms, terms, Term, term, Factors, no-factors, factors, Factor, literal, cell, call, brackets, Ref, single, element, Declared, one, array, Item, item, Clause, clause, threads, static, Statement, assign, when, otherwise, end-if, Line, declare, give, direct, loop, inside, end-do, close, sg, wd, showName, showDigits, showLead, showRel, showMore, showFunction, show, showTerms, showTerm, showFactors, showFactor, showRef, showDeclared, showSigned, showItem, showOperator, showKind, showClause, showClauses, showStatement, showLine}
+use Rattle.syntax.specs.Grammar.{number, number-from, Lead, bare, plus, minus, Expr, expr, Terms, no-terms, terms, Term, term, Factors, no-factors, factors, Factor, literal, cell, call, brackets, Ref, single, element, Subscripts, subscript, subscripts, Declared, one, array, grid, Item, item, Clause, clause, threads, static, Statement, assign, when, otherwise, end-if, Line, declare, give, direct, loop, inside, end-do, close, sg, wd, showName, showDigits, showLead, showRel, showMore, showFunction, show, showTerms, showTerm, showFactors, showFactor, showRef, showSubscripts, showDeclared, showSigned, showItem, showOperator, showKind, showClause, showClauses, showStatement, showLine}
 use Rattle.syntax.specs.Meaning.{no-zeros}
 use Rattle.syntax.proofs.TestLaws.{choose-each}
 use Rattle.printed.specs.Form.{shortest, zeros-gone}
-use Rattle.printed.specs.Restated.{shortExpr, shortTerms, shortTerm, shortFactors, shortFactor, shortRef, shortDeclared, shortItem, shortClause, shortStatement, short}
+use Rattle.printed.specs.Restated.{shortExpr, shortTerms, shortTerm, shortFactors, shortFactor, shortRef, shortSubscripts, shortDeclared, shortItem, shortClause, shortStatement, short}
 
 -- ---- digits
 
@@ -100,7 +100,8 @@ function-gone Rdiv = token _ nothing
 function-gone Max = token _ nothing
 
 mutual
-  unfolding show showTerms showTerm showFactors showFactor showRef shortExpr shortTerms shortTerm shortFactors shortFactor shortRef
+  unfolding show showTerms showTerm showFactors showFactor showRef showSubscripts shortExpr shortTerms shortTerm shortFactors shortFactor shortRef
+      shortSubscripts
 
   expr-gone : (e : Expr) → Gone (show e) (show (shortExpr e))
   expr-gone (expr l t ts) = joins (lead-gone l) (joins (term-gone t) (terms-gone ts))
@@ -126,7 +127,11 @@ mutual
 
   ref-gone : (e : Ref) → Gone (showRef e) (showRef (shortRef e))
   ref-gone (single x) = token _ nothing
-  ref-gone (element x e) = token _ (token _ (joins (expr-gone e) (token _ nothing)))
+  ref-gone (element x is) = token _ (token _ (joins (subscripts-gone is) (token _ nothing)))
+
+  subscripts-gone : (is : Subscripts) → Gone (showSubscripts is) (showSubscripts (shortSubscripts is))
+  subscripts-gone (subscript e) = expr-gone e
+  subscripts-gone (subscripts e f) = joins (expr-gone e) (token _ (expr-gone f))
 
 -- ---- lines
 
@@ -144,6 +149,7 @@ names-gone (x ∷ xs) = token _ (token _ (names-gone xs))
 declared-gone : (d : Declared) → Gone (showDeclared d) (showDeclared (shortDeclared d))
 declared-gone (one x) = token _ nothing
 declared-gone (array x d) = itself (showDeclared (array x d))
+declared-gone (grid x m n) = itself (showDeclared (grid x m n))
 
 item-gone : (i : Item) → Gone (showItem i) (showItem (shortItem i))
 item-gone (item none l d) = signed-gone l d

@@ -1,5 +1,5 @@
 -- RULES 1.15 e (document 02, Point 8): the printed form as a text of its own: its lines' syntax, and what it is to say the same: the same names with their
--- cells, classes and data, the same P, grouping and bounds, and the same statements but for their lines' numbers and the leading zeros of literals.
+-- cells, extents, classes and data, the same P, grouping and bounds, and the same statements but for their lines' numbers and the leading zeros of literals.
 use mathlib.Core.Path.{_≡_}
 use mathlib.Core.List.{List, [], _∷_, map}
 use mathlib.Core.Option.{Option, none, some}
@@ -9,7 +9,7 @@ use Rattle.int32.specs.declared.Relation.{Relation}
 use Rattle.rules.specs.Loop.{Loop, Act, read, write, update, fault, done}
 use Rattle.rules.specs.Serial.{Outcome, finished, failed, Result}
 use Rattle.rules.specs.Answer.{Answer, passed, rerun, faulted, Ending}
-use Rattle.syntax.specs.Grammar.{Expr, expr, Terms, no-terms, terms, Term, term, Factors, no-factors, factors, Factor, literal, cell, call, brackets, Ref, single, element, Declared, one, array, Item, item, Clause, clause, threads, static, Statement, assign, when, otherwise, end-if, Line, declare, give, direct, loop, inside, end-do, close}
+use Rattle.syntax.specs.Grammar.{Expr, expr, Terms, no-terms, terms, Term, term, Factors, no-factors, factors, Factor, literal, cell, call, brackets, Ref, single, element, Subscripts, subscript, subscripts, Declared, one, array, grid, Item, item, Clause, clause, threads, static, Statement, assign, when, otherwise, end-if, Line, declare, give, direct, loop, inside, end-do, close}
 use Rattle.syntax.specs.Known.{State, Stmts, stop, set, if-then, if-else}
 use Rattle.syntax.specs.Follows.{Program}
 use Rattle.printed.specs.Form.{shortest, plain, kept}
@@ -39,11 +39,16 @@ unfoldable mutual
 
   pub shortRef : Ref → Ref
   shortRef (single x) = single x
-  shortRef (element x e) = element x (shortExpr e)
+  shortRef (element x is) = element x (shortSubscripts is)
+
+  pub shortSubscripts : Subscripts → Subscripts
+  shortSubscripts (subscript e) = subscript (shortExpr e)
+  shortSubscripts (subscripts e f) = subscripts (shortExpr e) (shortExpr f)
 
 abbrev pub shortDeclared : Declared → Declared
 shortDeclared (one x) = one x
 shortDeclared (array x d) = array x (shortest d)
+shortDeclared (grid x m n) = grid x (shortest m) (shortest n)
 
 abbrev pub shortRepeat : Option (List ℕ) → Option (List ℕ)
 shortRepeat none = none

@@ -1,6 +1,5 @@
 -- The example of RULES 11 of what is printed, and the ends of the range of a cell.
 use mathlib.Core.Path.{_≡_, refl}
-use mathlib.Core.Bool.{true}
 use mathlib.Core.List.{List, [], _∷_, _++_}
 use mathlib.Core.Option.{none}
 use Prim.Native.Nat.{ℕ}
@@ -13,7 +12,7 @@ use Rattle.answers.specs.declared.Ran.the-variants.{Passed, Faulted}
 use Rattle.printing.specs.Printed.{digits, signed, newline, comment, values, later, data-lines, report}
 
 abbrev entry : String → ℕ → Entry
-entry x c = record { name = bytes x; first = c; subscripted = true; size = 4; class = shared; given = none }
+entry x c = record { name = bytes x; first = c; extents = 4 ∷ []; size = 4; class = shared; given = none }
 
 abbrev cells : List ℤ
 cells = pos 20 ∷ pos 10 ∷ pos 40 ∷ pos 30 ∷ pos 2 ∷ pos 1 ∷ pos 4 ∷ pos 3 ∷ []

@@ -9,7 +9,7 @@ use borrow.Author.Tests.{leb-true}
 use lib.Dec.{leb, eqb}
 use lib.ListN.{length, getD, take}
 use Rattle.syntax.specs.Bytes.{choose, all, lower, printable, letter, digit, lines, Token, name, other-word, digits, sign, bytesOf, token-size, token-of, tokens-after, tokens, skipped-line, sound-line}
-use Rattle.syntax.specs.Grammar.{Declared, one, array, assign, when, otherwise, end-if, Line, declare, give, direct, loop, inside, end-do, close, showDeclared, showMore, showLine}
+use Rattle.syntax.specs.Grammar.{Declared, one, array, grid, assign, when, otherwise, end-if, Line, declare, give, direct, loop, inside, end-do, close, showDeclared, showMore, showLine}
 use Rattle.syntax.specs.Known.{Entry, Open, State, nothing, nowhere, named, cells, declaredName, declaredSize, entries, values, give-to, classify, otherwise-after, end-if-after, after}
 use Rattle.syntax.specs.Text.{read, good}
 use Rattle.syntax.specs.Follows.{Program, spoken, shown, learnt}
@@ -95,6 +95,7 @@ PlainDeclared d = Plain (declaredName d)
 declared-plain : (d : Declared) → Each PlainToken (showDeclared d) → PlainDeclared d
 declared-plain (one x) h = h .0
 declared-plain (array x d) h = h .0
+declared-plain (grid x m n) h = h .0
 
 more-plain : (ds : List Declared) → Each PlainToken (showMore showDeclared ds) → Each PlainDeclared ds
 unfolding showMore
@@ -121,7 +122,7 @@ after-plain k (give x i is) s h t = each-map (λ e. Plain (e .name)) (λ e. Plai
         (record {
           name = e .name;
           first = e .first;
-          subscripted = e .subscripted;
+          extents = e .extents;
           size = e .size;
           class = e .class;
           given = some (values (i ∷ is));

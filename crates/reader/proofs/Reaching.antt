@@ -53,6 +53,7 @@ module _ (T : List ℕ) (I : List ℤ) (C O : List ℕ) (h : Fresh T I C) where
     rows = λ i b. absurd (omega arith);
     distinct = λ i j a b. absurd (omega arith);
     bounded = λ i b. absurd (omega arith);
+    narrow = λ i b. absurd (omega arith);
   }
 
   nameless : variableOf T ≡ []

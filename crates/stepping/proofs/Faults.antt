@@ -10,7 +10,7 @@ use lib.IntN.{ℤ, pos, negsuc}
 use Rattle.int32.specs.Integers.{quotient, rdiv, related, same}
 use Rattle.rules.specs.Loop.{Act, read, write, update, fault, done}
 use Rattle.syntax.specs.Bytes.{choose}
-use Rattle.syntax.specs.Meaning.{located, divides}
+use Rattle.syntax.specs.Meaning.{located, in-grid, divides}
 use Rattle.code.specs.Instr.{Instr, room, with1, with2, perform, resume}
 use Rattle.code.specs.Instr as instr
 
@@ -50,6 +50,10 @@ unfolding located
 located-numbered line first size (pos n) k h = choose-numbered (leb 1 n && leb n size) _ _ (h _) (omega arith)
 located-numbered line first size (negsuc n) k h = omega arith
 
+in-grid-numbered : (line first m n : ℕ) (i j : ℤ) (k : ℕ → Act) → ((c : ℕ) → Numbered (k c)) → Numbered (in-grid line first m n i j k)
+unfolding in-grid
+in-grid-numbered line first m n i j k h = located-numbered line first m i _ (λ c. located-numbered line 0 n j _ (λ d. h _))
+
 divides-numbered : (line : ℕ) (f : ℤ → ℤ → ℤ) (x y : ℤ) (k : ℤ → Act) → ((z : ℤ) → Numbered (k z)) → Numbered (divides line f x y k)
 unfolding divides
 divides-numbered line f x y k h = choose-numbered (same y (pos 0)) _ _ (omega arith) (h _)
@@ -79,6 +83,7 @@ perform-numbered (instr.update c) on past s v h p = with1-numbered s _ (λ x t. 
 perform-numbered (instr.update-at b n l) on past s v h p = with2-numbered s _ (λ i x t. located-numbered l b n i _ (λ c. h t))
 perform-numbered (instr.jump-unless r n) on past s v h p = with2-numbered s _ (λ x y t. cond-numbered (related r x y) _ _ (h t) (p n t))
 perform-numbered (instr.jump n) on past s v h p = p n s
+perform-numbered (instr.flatten m n l) on past s v h p = with2-numbered s _ (λ i j t. in-grid-numbered l 0 m n i j _ (λ c. h _))
 perform-numbered instr.end on past s v h p = tt
 
 pub resume-numbered : (code : List Instr) (p : ℕ) (s : List ℤ) (v : ℤ) → Numbered (resume code p s v)

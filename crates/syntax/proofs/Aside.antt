@@ -7,17 +7,17 @@ use Prim.Native.Nat.{ℕ, _+_, _-_, _*_, _≤_}
 use native.Mathlib.Omega.{arith}
 use lib.Dec.{eqb}
 use lib.IntN.{ℤ, pos}
-use lib.ListN.{length}
+use lib.ListN.{length, getD}
 use borrow.Author.Tests.{eqb-true}
 use Rattle.int32.specs.Integers.{quotient, product, sum, difference}
 use Rattle.rules.specs.Loop.{Act, read}
 use Rattle.syntax.specs.declared.Function.{Function}
 use Rattle.syntax.specs.declared.Function.the-variants.{Rdiv, Max}
 use Rattle.syntax.specs.Bytes.{choose, Token, sign, equal}
-use Rattle.syntax.specs.Grammar.{number-from, number, Lead, bare, plus, minus, Expr, expr, Terms, no-terms, terms, Term, term, Factors, no-factors, factors, Factor, literal, cell, call, brackets, Ref, single, element, showLead, showFunction, show, showTerms, showTerm, showFactors, showFactor, showRef}
+use Rattle.syntax.specs.Grammar.{number-from, number, Lead, bare, plus, minus, Expr, expr, Terms, no-terms, terms, Term, term, Factors, no-factors, factors, Factor, literal, cell, call, brackets, Ref, single, element, Subscripts, subscript, subscripts, showLead, showFunction, show, showTerms, showTerm, showFactors, showFactor, showRef, showSubscripts}
 use Rattle.syntax.specs.Known.{Entry, find}
 use Rattle.syntax.specs.Conditions.{refName}
-use Rattle.syntax.specs.Meaning.{no-zeros, zeros-aside, alike, led, located, divides, called, isVariable, eval, evalTerms, evalTerm, evalFactors, evalFactor, place}
+use Rattle.syntax.specs.Meaning.{no-zeros, zeros-aside, alike, led, located, in-grid, divides, called, isVariable, eval, evalTerms, evalTerm, evalFactors, evalFactor, place, cell-of}
 use Rattle.syntax.specs.Reader.{done, readRef, first, rest}
 use Rattle.syntax.specs.Spelled.{Spells}
 use Rattle.syntax.proofs.Spelling.{both-true, is-true}
@@ -49,12 +49,16 @@ unfoldable mutual
 
   pub asideRef : Ref → Ref
   asideRef (single x) = single x
-  asideRef (element x e) = element x (aside e)
+  asideRef (element x is) = element x (asideSubscripts is)
+
+  pub asideSubscripts : Subscripts → Subscripts
+  asideSubscripts (subscript e) = subscript (aside e)
+  asideSubscripts (subscripts e f) = subscripts (aside e) (aside f)
 
 pub name-aside : (r : Ref) → refName r ≡ refName (asideRef r)
 unfolding asideRef
 name-aside (single x) = refl
-name-aside (element x e) = refl
+name-aside (element x is) = refl
 
 -- its tokens are those of the other, their zeros aside
 signs-stay : (o : Bool) (a b : List ℕ) → map zeros-aside (cond o (sign a ∷ []) (sign b ∷ [])) ≡ cond o (sign a ∷ []) (sign b ∷ [])
@@ -71,7 +75,7 @@ lead-stays plus = refl
 lead-stays minus = refl
 
 mutual
-  unfolding aside asideTerms asideTerm asideFactors asideFactor asideRef show showTerms showTerm showFactors showFactor showRef
+  unfolding aside asideTerms asideTerm asideFactors asideFactor asideRef asideSubscripts show showTerms showTerm showFactors showFactor showRef showSubscripts
 
   show-aside : (e : Expr) → show (aside e) ≡ map zeros-aside (show e)
   show-aside (expr l t ts) = simp (map-append, lead-stays l, show-aside-term t, show-aside-terms ts)
@@ -95,7 +99,11 @@ mutual
 
   show-aside-ref : (r : Ref) → showRef (asideRef r) ≡ map zeros-aside (showRef r)
   show-aside-ref (single x) = refl
-  show-aside-ref (element x e) = simp (map-append, show-aside e)
+  show-aside-ref (element x is) = simp (map-append, show-aside-subscripts is)
+
+  show-aside-subscripts : (is : Subscripts) → showSubscripts (asideSubscripts is) ≡ map zeros-aside (showSubscripts is)
+  show-aside-subscripts (subscript e) = show-aside e
+  show-aside-subscripts (subscripts e f) = simp (map-append, show-aside e, show-aside f)
 
 -- tokens that are alike are the same, zeros aside
 equal-true : (t u : Token) → equal t u ≡ true → t ≡ u
@@ -136,15 +144,16 @@ zeros-number (b ∷ d) = go (eqb b 48) refl (zeros-number d)
 pub record SameCells (t u : List Entry) : Type 0 where
   pub first : (y : List ℕ) → find y t .first ≡ find y u .first
   pub size : (y : List ℕ) → find y t .size ≡ find y u .size
+  pub extents : (y : List ℕ) → find y t .extents ≡ find y u .extents
 
 module _ (t u : List Entry) (v : List ℕ) (x : ℤ) (line : ℕ) (h : SameCells t u) where
   variable-aside : (r : Ref) → isVariable t v x r ≡ isVariable u v x (asideRef r)
   unfolding asideRef
   variable-aside (single y) = refl
-  variable-aside (element y e) = refl
+  variable-aside (element y is) = refl
 
   mutual
-    unfolding eval evalTerms evalTerm evalFactors evalFactor place aside asideTerms asideTerm asideFactors asideFactor asideRef
+    unfolding eval evalTerms evalTerm evalFactors evalFactor place cell-of aside asideTerms asideTerm asideFactors asideFactor asideRef asideSubscripts
 
     pub eval-aside : (e : Expr) (k : ℤ → Act) → eval t v x line e k ≡ eval u v x line (aside e) k
     eval-aside (expr l a as′) k =
@@ -173,5 +182,12 @@ module _ (t u : List Entry) (v : List ℕ) (x : ℤ) (line : ℕ) (h : SameCells
 
     pub place-aside : (r : Ref) (k : ℕ → Act) → place t v x line r k ≡ place u v x line (asideRef r) k
     place-aside (single y) k = ap k (h .first y)
-    place-aside (element y e) k =
+    place-aside (element y is) k = cell-aside y is k
+
+    cell-aside : (y : List ℕ) (is : Subscripts) (k : ℕ → Act) → cell-of t v x line (find y t) is k ≡ cell-of u v x line (find y u) (asideSubscripts is) k
+    cell-aside y (subscript e) k =
         eval-aside e _ ∙ ap (eval u v x line (aside e)) (λ i z. located line (h .first y i) (h .size y i) z k)
+    cell-aside y (subscripts e f) k =
+        eval-aside e _ ∙ ap (eval u v x line (aside e)) (λ i z.
+        (eval-aside f _
+        ∙ ap (eval u v x line (aside f)) (λ j w. in-grid line (h .first y j) (getD (h .extents y j) 0 0) (getD (h .extents y j) 1 0) z w k)) i)

@@ -5,7 +5,7 @@ use mathlib.Core.Path.{_≡_, refl, sym, _∙_, ap, subst}
 use mathlib.Core.Bool.{Bool, true, false, cond, _&&_, _||_}
 use mathlib.Core.List.{List, [], _∷_, map}
 use mathlib.Core.Option.{Option, none, some}
-use Prim.Native.Nat.{ℕ, _+_, _-_, _≤_, _<_}
+use Prim.Native.Nat.{ℕ, _+_, _-_, _*_, _≤_, _<_}
 use native.Mathlib.Omega.{arith}
 use lib.Dec.{leb}
 use lib.IntN.{ℤ, pos, negsuc, _+ℤ_}
@@ -15,24 +15,26 @@ use Rattle.int32.specs.Integers.{product, quotient, related}
 use Rattle.rules.specs.declared.Grouping.the-variants.{Iterations}
 use Rattle.rules.specs.declared.Operator.{Operator}
 use Rattle.rules.specs.Operation.{operation}
-use Rattle.rules.specs.Loop.{Act, read, write, update, fault, done, Class, shared, operator, Loop}
+use Rattle.rules.specs.Loop.{Act, read, write, update, done, Class, shared, operator, Loop}
 use Rattle.rules.specs.Serial.{serial}
 use Rattle.rules.specs.Merge.{pairs, written-cells}
 use Rattle.rules.proofs.Likewise.{Like, like-done, like-write, like-comes, like-update, like-serial, Comes, comes-value, comes-fault, comes-read, comes-then, traced-cells, traced-pairs}
 use Rattle.syntax.specs.declared.Function.{Function}
 use Rattle.syntax.specs.declared.Function.the-variants.{Rdiv, Max}
 use Rattle.syntax.specs.Bytes.{choose, same}
-use Rattle.syntax.specs.Grammar.{Expr, expr, Terms, no-terms, terms, Term, term, Factors, no-factors, factors, Factor, literal, cell, call, brackets, Ref, single, element, showRef}
-use Rattle.syntax.specs.Known.{Entry, named, known, find, cells, with-class, class-in, classify, State, Stmts, stop, set, if-then, if-else}
+use Rattle.syntax.specs.Grammar.{Expr, expr, Terms, no-terms, terms, Term, term, Factors, no-factors, factors, Factor, literal, cell, call, brackets, Ref, single, element, Subscripts, subscript, subscripts, showRef}
+use Rattle.syntax.specs.Known.{Entry, rows, columns, named, known, find, cells, with-class, class-in, classify, State, Stmts, stop, set, if-then, if-else}
 use Rattle.syntax.specs.Conditions.{refName}
 use Rattle.syntax.specs.Text.{read as accepts, good}
-use Rattle.syntax.specs.Meaning.{alike, is-reduction, same-ref, repeated, operator-at, is-update, remainder, led, located, divides, called, isVariable, eval, evalTerms, evalTerm, evalFactors, evalFactor, place, assigned, exec, class-of, loopOf}
+use Rattle.syntax.specs.Meaning.{alike, is-reduction, same-ref, repeated, operator-at, is-update, remainder, led, located, in-grid, divides, called, isVariable, eval, evalTerms, evalTerm, evalFactors, evalFactor, place, cell-of, assigned, exec, class-of, loopOf}
 use Rattle.syntax.proofs.Spelling.{both-true, same-true}
 use Rattle.syntax.proofs.TestLaws.{choose-each}
 use Rattle.syntax.proofs.Sane.{accepted-sane, accepted-finished}
 use Rattle.syntax.proofs.TableLines.{classify-cells}
 use Rattle.syntax.specs.Sane.{SaneTable}
-use Rattle.syntax.proofs.ProperLoop.{update-reduces, Meant, meant, meant-first}
+use Rattle.syntax.proofs.ProperLoop.{update-reduces, Meant, meant-at, meant-first}
+use Rattle.syntax.proofs.Placing.{located-alike, in-grid-alike}
+use Rattle.syntax.proofs.Table.{find-grid}
 use Rattle.syntax.proofs.Forms.{repeats-of}
 use Rattle.syntax.proofs.Added.{added}
 use Rattle.syntax.proofs.Aside.{asideRef, name-aside, alike-aside, SameCells, eval-aside, place-aside}
@@ -69,7 +71,11 @@ find-unclaused y (e ∷ t) = go (named y e) (find-unclaused y t)
     go false h = h
 
 same-places : (t : List Entry) → SameCells (unclaused t) t
-same-places t = record { first = λ y. ap (λ (e : Entry). e .first) (find-unclaused y t); size = λ y. ap (λ (e : Entry). e .size) (find-unclaused y t) }
+same-places t = record {
+  first = λ y. ap (λ (e : Entry). e .first) (find-unclaused y t);
+  size = λ y. ap (λ (e : Entry). e .size) (find-unclaused y t);
+  extents = λ y. ap (λ (e : Entry). e .extents) (find-unclaused y t);
+}
 
 -- ---- what an expression comes to
 
@@ -83,6 +89,10 @@ module _ (t : List Entry) (v : List ℕ) (x : ℤ) (line : ℕ) (m : ℕ → ℤ
   located-comes first size (pos n) = either-comes (leb 1 n && leb n size) _ _ (comes-value m (first + (n - 1))) (comes-fault m 9 line)
   located-comes first size (negsuc n) = comes-fault m 9 line
 
+  in-grid-comes : (first a b : ℕ) (i j : ℤ) → Comes m (in-grid line first a b i j)
+  unfolding in-grid
+  in-grid-comes first a b i j = comes-then (located-comes first a i) (λ c. comes-then (located-comes 0 b j) (λ d. comes-value m (c + d * a)))
+
   divides-comes : (f : ℤ → ℤ → ℤ) (a b : ℤ) → Comes m (divides line f a b)
   unfolding divides
   divides-comes f a b = either-comes (integers.same b (pos 0)) _ _ (comes-fault m 10 line) (comes-value m (f a b))
@@ -93,7 +103,7 @@ module _ (t : List Entry) (v : List ℕ) (x : ℤ) (line : ℕ) (m : ℕ → ℤ
   called-comes Max a b = comes-value m _
 
   mutual
-    unfolding eval evalTerms evalTerm evalFactors evalFactor place
+    unfolding eval evalTerms evalTerm evalFactors evalFactor place cell-of
 
     eval-comes : (e : Expr) → Comes m (eval t v x line e)
     eval-comes (expr l a as′) = comes-then (term-comes a) (λ y. terms-come as′ (led l y))
@@ -119,12 +129,16 @@ module _ (t : List Entry) (v : List ℕ) (x : ℤ) (line : ℕ) (m : ℕ → ℤ
 
     place-comes : (r : Ref) → Comes m (place t v x line r)
     place-comes (single y) = comes-value m _
-    place-comes (element y e) = comes-then (eval-comes e) (λ i. located-comes _ _ i)
+    place-comes (element y is) = cell-comes (find y t) is
+
+    cell-comes : (y : Entry) (is : Subscripts) → Comes m (cell-of t v x line y is)
+    cell-comes y (subscript e) = comes-then (eval-comes e) (λ i. located-comes _ _ i)
+    cell-comes y (subscripts e f) = comes-then (eval-comes e) (λ i. comes-then (eval-comes f) (λ j. in-grid-comes _ _ _ i j))
 
 -- ---- the same over both tables
 
 own-places : (t : List Entry) → SameCells t t
-own-places t = record { first = λ y. refl; size = λ y. refl }
+own-places t = record { first = λ y. refl; size = λ y. refl; extents = λ y. refl }
 
 module _ (t : List Entry) (v : List ℕ) (x : ℤ) (line : ℕ) where
   same-value : (e : Expr) (k : ℤ → Act) → eval (unclaused t) v x line e k ≡ eval t v x line e k
@@ -141,23 +155,14 @@ module _ (t : List Entry) (v : List ℕ) (x : ℤ) (line : ℕ) where
 -- ---- what is done with the cell of a reference, by what is known of that cell
 
 module _ (t : List Entry) (v : List ℕ) (x : ℤ) (line : ℕ) (h : SaneTable t) (filled : 0 < cells t) where
-  located-same : (y : List ℕ) (i : ℤ) (k k′ : ℕ → Act) → ((c : ℕ) → Meant t y c → k c ≡ k′ c)
-      → located line (find y t .first) (find y t .size) i k ≡ located line (find y t .first) (find y t .size) i k′
-  unfolding located
-  located-same y (pos n) k k′ q = by-test (leb 1 n && leb n (find y t .size)) refl
-    where
-      by-test : (b : Bool) → leb 1 n && leb n (find y t .size) ≡ b
-          → choose b (λ _. k (find y t .first + (n - 1))) (λ _. fault 9 line) ≡ choose b (λ _. k′ (find y t .first + (n - 1))) (λ _. fault 9 line)
-      by-test true e =
-          let (a, b) = both-true (leb 1 n) (leb n (find y t .size)) e in
-          q _ (meant t h y _ (omega arith) (omega (arith, leb-true 1 n a, leb-true n (find y t .size) b)))
-      by-test false e = refl
-  located-same y (negsuc n) k k′ q = refl
-
   place-same : (r : Ref) (k k′ : ℕ → Act) → ((c : ℕ) → Meant t (refName r) c → k c ≡ k′ c) → place t v x line r k ≡ place t v x line r k′
-  unfolding place
+  unfolding place cell-of
   place-same (single y) k k′ q = q _ (meant-first t h filled y)
-  place-same (element y e) k k′ q = ap (eval t v x line e) (λ j i. located-same y i k k′ q j)
+  place-same (element y (subscript e)) k k′ q =
+      ap (eval t v x line e) (λ i z. located-alike line _ _ _ z k k′ (λ d b. q _ (meant-at t h y d b)) i)
+  place-same (element y (subscripts e f)) k k′ q =
+      ap (eval t v x line e) (λ i z. ap (eval t v x line f) (λ j w.
+      in-grid-alike line _ _ (rows (find y t)) (columns (find y t)) z w k k′ (λ d b. q _ (meant-at t h y d (omega (arith, find-grid y t h)))) j) i)
 
 -- ---- a reduction's name is not the loop's variable
 
@@ -172,7 +177,7 @@ unknown-nowhere y (e ∷ t) h = go (named y e) (unknown-nowhere y t) h
 
 module _ (t : List Entry) (v : List ℕ) (sane : SaneTable t) (filled : 0 < cells t) (undeclared : known v t ≡ false) where
   not-variable : (x : ℤ) (q : Ref) → is-reduction (find (refName q) t .class) ≡ true → isVariable t v x q ≡ false
-  not-variable x (element y e) h = refl
+  not-variable x (element y is) h = refl
   not-variable x (single y) h = go (same y v) refl
     where
       go : (b : Bool) → same y v ≡ b → b ≡ false

@@ -16,10 +16,10 @@ use Rattle.rules.specs.declared.Operator.the-variants.{Sum, Product, Maximum}
 use Rattle.syntax.specs.declared.ClauseKind.{ClauseKind}
 use Rattle.syntax.specs.declared.ClauseKind.the-variants.{Shared, Lastprivate, Firstprivate, Reduction}
 use Rattle.syntax.specs.Bytes.{bytes, Token, digits, sign, word-of}
-use Rattle.syntax.specs.Grammar.{Lead, bare, plus, minus, Expr, expr, Ref, single, element, Declared, one, array, Item, item, Clause, clause, threads, static, assign, when, otherwise, end-if, Line, declare, give, direct, loop, inside, end-do, close, showLead, showRel, showMore, showList, showName, show, showRef, showDeclared, showSigned, showItem, showOperator, showKind, showClause, showClauses, showLine}
+use Rattle.syntax.specs.Grammar.{Lead, bare, plus, minus, Expr, expr, Ref, single, element, Declared, one, array, grid, Item, item, Clause, clause, threads, static, assign, when, otherwise, end-if, Line, declare, give, direct, loop, inside, end-do, close, showLead, showRel, showMore, showList, showName, show, showRef, showDeclared, showSigned, showItem, showOperator, showKind, showClause, showClauses, showLine}
 use Rattle.syntax.specs.Reader.{done, Reader, kind, is, sees, says, readName, isDigits, given, operatorOf, readOperator, readMore, readDeclared, readDeclare, readSigned, readItem, readGive, readKind, readNames, readClause, readClauses, readDirective, readLoop, readAssign, readWhen, readEnd, readStart, readLine, first, rest, syntaxOf, parse}
 use Rattle.syntax.specs.Spelled.{Spells, here, token}
-use Rattle.syntax.proofs.CompleteExpr.{cond-true, yes-choose, no-choose, binds, and-no, Low, Top, Unsigned, splits, expect-it, want-it, name-it, digits-it, lead-it, rel-it, close-ends, completes}
+use Rattle.syntax.proofs.CompleteExpr.{cond-true, yes-choose, no-choose, binds, and-no, Low, Top, Unsigned, splits, expect-it, want-it, name-it, digits-it, lead-it, rel-it, close-ends, closed, completes}
 use Rattle.syntax.proofs.TestLaws.{both-hold}
 
 module _ {S : Type 0} (peek : S → Option Token) (skip : S → S) where
@@ -57,7 +57,12 @@ module _ {S : Type 0} (peek : S → Option Token) (skip : S → S) where
   declared-it (one x) s u (token e here) p = binds _ (name-it peek skip (token e here)) (no-choose _ _ p refl)
   declared-it (array x d) s u (token e (token e2 (token e3 (token e4 here)))) p =
       binds _ (name-it peek skip (token e here)) (yes-choose _ _ (ap (is (sign (bytes "("))) e2)
-      (binds _ (digits-it peek skip (token e3 here)) (binds _ (expect-it peek skip ")" (token e4 here)) refl)))
+      (binds _ (digits-it peek skip (token e3 here))
+      (no-choose _ _ (ap (is (sign (bytes ","))) e4) (binds _ (expect-it peek skip ")" (token e4 here)) refl))))
+  declared-it (grid x m n) s u (token e (token e2 (token e3 (token e4 (token e5 (token e6 here)))))) p =
+      binds _ (name-it peek skip (token e here)) (yes-choose _ _ (ap (is (sign (bytes "("))) e2)
+      (binds _ (digits-it peek skip (token e3 here)) (yes-choose _ _ (ap (is (sign (bytes ","))) e4)
+      (binds _ (digits-it peek skip (token e5 here)) (binds _ (expect-it peek skip ")" (token e6 here)) refl)))))
 
   declare-it : (f : ℕ) (d : Declared) (ds : List Declared) (s u : S) → length (showLine (declare d ds)) ≤ f → Sp s (showLine (declare d ds)) u
       → peek u ≡ none → readDeclare peek skip f s ≡ done (declare d ds) u
@@ -112,16 +117,13 @@ module _ {S : Type 0} (peek : S → Option Token) (skip : S → S) where
       (slash-ends h3 .1)) refl))
       (binds _ (expect-it peek skip "/" h3) refl))))
 
-  closed : {s u : S} → Sp s (sign (bytes ")") ∷ []) u → sees peek skip "," s ≡ false
-  closed (token e here) = ap (is (sign (bytes ","))) e
-
   names-it : (f : ℕ) (k : ClauseKind) (x : List ℕ) (xs : List (List ℕ)) (s u : S) → length xs < f
       → Sp s (showList showName x xs ++ (sign (bytes ")") ∷ [])) u
       → readNames peek skip f k s ≡ done (clause k x xs) u
   names-it f k x xs s u b (token e h) =
       splits peek skip (showMore showName xs) h λ m h1 h2.
       binds _ (name-it peek skip (token e here))
-      (binds _ (more-it (readName peek skip) showName (λ _. Unit {0}) tt (λ a s u h _. name-it peek skip h) f xs (skip s) m b h1 tt (closed h2))
+      (binds _ (more-it (readName peek skip) showName (λ _. Unit {0}) tt (λ a s u h _. name-it peek skip h) f xs (skip s) m b h1 tt (closed peek skip h2))
       (binds _ (expect-it peek skip ")" h2) refl))
 
   -- no clause with names begins with `num_threads` or `schedule`

@@ -1,6 +1,6 @@
 -- Tokens and expressions that are spelled as the grammar says, and do not go on, are read: with fuel for three calls a token. Over any kind of
 -- place.
-use mathlib.Core.Path.{_≡_, refl, _∙_, ap}
+use mathlib.Core.Path.{_≡_, refl, sym, _∙_, ap, subst}
 use mathlib.Core.Bool.{Bool, true, false, cond, _&&_, _||_}
 use mathlib.Core.List.{List, [], _∷_, _++_}
 use mathlib.Core.Option.{Option, some}
@@ -14,8 +14,8 @@ use Rattle.int32.specs.declared.Relation.the-variants.{Equal, Unequal, Less, At
 use Rattle.syntax.specs.declared.Function.{Function}
 use Rattle.syntax.specs.declared.Function.the-variants.{Rdiv, Max}
 use Rattle.syntax.specs.Bytes.{choose, bytes, Token, name, other-word, digits, sign, word-of}
-use Rattle.syntax.specs.Grammar.{Lead, bare, plus, minus, Expr, expr, Terms, no-terms, terms, Term, term, Factors, no-factors, factors, Factor, literal, cell, call, brackets, Ref, single, element, showLead, showRel, show, showTerms, showTerm, showFactors, showFactor, showRef}
-use Rattle.syntax.specs.Reader.{Parsed, done, Reader, next, kind, text, is, expects, wants, readName, readDigits, given, relOf, readRel, readLead, readPair, readExpr, readTerms, readTerm, readFactors, readFactor, readRef}
+use Rattle.syntax.specs.Grammar.{Lead, bare, plus, minus, Expr, expr, Terms, no-terms, terms, Term, term, Factors, no-factors, factors, Factor, literal, cell, call, brackets, Ref, single, element, Subscripts, subscript, subscripts, showLead, showRel, show, showTerms, showTerm, showFactors, showFactor, showRef, showSubscripts}
+use Rattle.syntax.specs.Reader.{Parsed, done, Reader, next, kind, text, is, sees, expects, wants, readName, readDigits, given, relOf, readRel, readLead, readPair, readSubscripts, readExpr, readTerms, readTerm, readFactors, readFactor, readRef}
 use Rattle.syntax.specs.Spelled.{Spells, here, token}
 use Rattle.syntax.proofs.Spelling.{spells-split}
 use Rattle.syntax.proofs.TestLaws.{same-refl}
@@ -101,7 +101,7 @@ module _ {S : Type 0} (peek : S → Option Token) (skip : S → S) where
   unfolding showFactor showRef
   factor-begins (literal d) ys (token e h) = (ap (is (sign (bytes "+"))) e, ap (is (sign (bytes "-"))) e)
   factor-begins (cell (single x)) ys (token e h) = (ap (is (sign (bytes "+"))) e, ap (is (sign (bytes "-"))) e)
-  factor-begins (cell (element x i)) ys (token e h) = (ap (is (sign (bytes "+"))) e, ap (is (sign (bytes "-"))) e)
+  factor-begins (cell (element x j)) ys (token e h) = (ap (is (sign (bytes "+"))) e, ap (is (sign (bytes "-"))) e)
   factor-begins (call Rdiv a b) ys (token e h) = (ap (is (sign (bytes "+"))) e, ap (is (sign (bytes "-"))) e)
   factor-begins (call Max a b) ys (token e h) = (ap (is (sign (bytes "+"))) e, ap (is (sign (bytes "-"))) e)
   factor-begins (brackets i) ys (token e h) = (ap (is (sign (bytes "+"))) e, ap (is (sign (bytes "-"))) e)
@@ -192,6 +192,13 @@ module _ {S : Type 0} (peek : S → Option Token) (skip : S → S) where
   comma-ends : {s u : S} → Sp s (sign (bytes ",") ∷ []) u → Top (peek s)
   comma-ends (token e here) = rw e ((refl, refl), refl)
 
+  -- which of the two stands here
+  pub closed : {s u : S} → Sp s (sign (bytes ")") ∷ []) u → sees peek skip "," s ≡ false
+  closed (token e here) = ap (is (sign (bytes ","))) e
+
+  comma : {s u : S} → Sp s (sign (bytes ",") ∷ []) u → (sees peek skip "," s ≡ true) × (skip s ≡ u)
+  comma (token e here) = (ap (is (sign (bytes ","))) e, refl)
+
   -- the two arguments of a function, and its brackets
   pair-it : (f : ℕ) → Completes f → (g : Function) (a c : Expr) (s u : S) → 3 * length (show a) + 4 ≤ f → 3 * length (show c) + 4 ≤ f
       → Sp s (sign (bytes "(") ∷ (show a ++ (sign (bytes ",") ∷ (show c ++ (sign (bytes ")") ∷ []))))) u
@@ -234,15 +241,28 @@ module _ {S : Type 0} (peek : S → Option Token) (skip : S → S) where
       no-choose _ _ (ap (λ o. eqb (kind o) 3) e) (yes-choose _ _ (ap (is (sign (bytes "("))) e)
       (binds _ (i .expr j (skip s) m1 (omega arith) h1 (close-ends h2)) (binds _ (expect-it ")" h2) refl)))
 
+  -- one subscript or two, and the bracket
+  subscripts-it : (f : ℕ) → Completes f → (j : Subscripts) (s m u : S) → 3 * length (showSubscripts j) + 4 ≤ f → Sp s (showSubscripts j) m
+      → Sp m (sign (bytes ")") ∷ []) u → readSubscripts peek skip (readExpr peek skip f) s ≡ done j u
+  unfolding showSubscripts
+  subscripts-it f i (subscript e) s m u b h k =
+      binds _ (i .expr e s m b h (close-ends k)) (no-choose _ _ (closed k) (binds _ (expect-it ")" k) refl))
+  subscripts-it f i (subscripts e g) s m u b h k =
+      splits (show e) h λ m1 h1 r1.
+      splits (sign (bytes ",") ∷ []) r1 λ m2 h2 h3.
+      let c = length-append (show e) (sign (bytes ",") ∷ show g) in
+      let (a, q) = comma h2 in
+      binds _ (i .expr e s m1 (omega arith) h1 (comma-ends h2)) (yes-choose _ _ a
+      (binds _ (i .expr g (skip m1) m (omega arith) (subst (λ r. Sp r (show g) m) (sym q) h3) (close-ends k)) (binds _ (expect-it ")" k) refl)))
+
   ref-it : (f : ℕ) → Completes f → (e : Ref) (s u : S) → 3 * length (showRef e) + 1 ≤ suc f → Sp s (showRef e) u → Low (peek u)
       → readRef peek skip (suc f) s ≡ done e u
   unfolding readRef showRef
   ref-it f i (single x) s u b (token e here) p = binds _ (name-it (token e here)) (no-choose _ _ p refl)
   ref-it f i (element x j) s u b (token e (token e2 h)) p =
-      splits (show j) h λ m1 h1 h2.
-      let c = length-append (show j) (sign (bytes ")") ∷ []) in
-      binds _ (name-it (token e here)) (yes-choose _ _ (ap (is (sign (bytes "("))) e2)
-      (binds _ (i .expr j (skip (skip s)) m1 (omega arith) h1 (close-ends h2)) (binds _ (expect-it ")" h2) refl)))
+      splits (showSubscripts j) h λ m1 h1 h2.
+      let c = length-append (showSubscripts j) (sign (bytes ")") ∷ []) in
+      binds _ (name-it (token e here)) (yes-choose _ _ (ap (is (sign (bytes "("))) e2) (binds _ (subscripts-it f i j (skip (skip s)) m1 u (omega arith) h1 h2) refl))
 
   pub completes : (f : ℕ) → Completes f
   completes zero = record {

@@ -1,5 +1,7 @@
 -- What is accepted.
 pub mod Theorem
+-- Loops over grids by computing.
+pub mod GridExamples
 -- Readers one after another.
 pub mod ReaderLaws
 -- The argument: what is spelled by tokens from place to place, what a reader has met, what it reads, the places of a line's bytes, whole texts,
@@ -21,6 +23,7 @@ pub mod Clauseless
 -- What holds of every accepted text: all that its lines made known, its loop, the cells that Load fills, its tokens against its bytes.
 pub mod Sane
 pub mod ProperLoop
+pub mod Placing
 pub mod Loaded
 pub mod TokenCount
 -- The argument: laws of the tests, the order of lines, the table and the lines that change it, the loop's values, the statements.

@@ -1,12 +1,11 @@
 -- The loop of an accepted text is proper: its statements access only cells of the table and update only those of reduction names.
 -- One induction over expressions and statements serves both: it carries any property of what is still done that such accesses keep.
 use mathlib.Core.Path.{_≡_, refl, sym, _∙_, subst}
-use mathlib.Core.Bool.{true, _&&_}
+use mathlib.Core.Bool.{true}
 use mathlib.Core.List.{List}
 use Prim.Native.Nat.{ℕ, _+_, _≤_, _<_}
 use native.Mathlib.Omega.{arith}
-use lib.Dec.{leb}
-use lib.IntN.{ℤ, pos, negsuc, _+ℤ_}
+use lib.IntN.{ℤ, pos, _+ℤ_}
 use borrow.Author.Tests.{leb-true}
 use Rattle.int32.specs.declared.Relation.{Relation}
 use Rattle.int32.specs.Integers.{quotient, related}
@@ -17,16 +16,17 @@ use Rattle.rules.proofs.BlocksLaws.{tested-proper}
 use Rattle.syntax.specs.declared.Function.{Function}
 use Rattle.syntax.specs.declared.Function.the-variants.{Rdiv, Max}
 use Rattle.syntax.specs.Bytes.{choose}
-use Rattle.syntax.specs.Grammar.{Expr, expr, Terms, no-terms, terms, Term, term, Factors, no-factors, factors, Factor, literal, cell, call, brackets, Ref, single, element}
+use Rattle.syntax.specs.Grammar.{Expr, expr, Terms, no-terms, terms, Term, term, Factors, no-factors, factors, Factor, literal, cell, call, brackets, Ref, single, element, Subscripts, subscript, subscripts}
 use Rattle.syntax.specs.Known.{Entry, find, cells, State, Stmts, stop, set, if-then, if-else}
 use Rattle.syntax.specs.Conditions.{refName, finished}
 use Rattle.syntax.specs.Text.{read as accepts, good}
-use Rattle.syntax.specs.Meaning.{is-reduction, same-ref, repeated, operator-at, is-update, remainder, led, located, divides, called, isVariable, eval, evalTerms, evalTerm, evalFactors, evalFactor, place, assigned, exec, class-of, loopOf, partitionOf}
+use Rattle.syntax.specs.Meaning.{is-reduction, same-ref, repeated, operator-at, is-update, remainder, led, divides, called, isVariable, eval, evalTerms, evalTerm, evalFactors, evalFactor, place, cell-of, assigned, exec, class-of, loopOf, partitionOf}
 use Rattle.syntax.specs.Sane.{SaneEntry, SaneTable, Sane}
 use Rattle.syntax.proofs.Spelling.{both-true}
 use Rattle.syntax.proofs.TestLaws.{choose-each, each-weaken}
 use Rattle.syntax.proofs.Sane.{accepted-sane, accepted-finished}
-use Rattle.syntax.proofs.Table.{find-each, find-ends, find-first, class-of-found}
+use Rattle.syntax.proofs.Table.{find-each, find-ends, find-first, find-grid, class-of-found}
+use Rattle.syntax.proofs.Placing.{located-among, in-grid-among}
 use Rattle.int32.specs.Integers as integers
 
 -- "An update is an assignment to a cell of a reduction name"
@@ -57,6 +57,9 @@ module _ (t : List Entry) (h : SaneTable t) where
   pub meant : (x : List ℕ) (c : ℕ) → find x t .first ≤ c → c < find x t .first + find x t .size → Meant t x c
   meant x c p q = record { below = omega (arith, find-ends x t h); updated = λ o e. class-of-found x 0 t c (h .laid) p q ∙ e }
 
+  pub meant-at : (x : List ℕ) (d : ℕ) → d < find x t .size → Meant t x (find x t .first + d)
+  meant-at x d b = meant x _ (omega arith) (omega arith)
+
   pub meant-first : 0 < cells t → (x : List ℕ) → Meant t x (find x t .first)
   meant-first k x = record {
     below = find-first x t h k;
@@ -72,14 +75,6 @@ record Kept (t : List Entry) (P : Act → Type 0) : Type 0 where
   faults : (n line : ℕ) → P (fault n line)
 
 module _ (t : List Entry) (v : List ℕ) (x : ℤ) (h : SaneTable t) (filled : 0 < cells t) (P : Act → Type 0) (keep : Kept t P) where
-  located-kept : (line : ℕ) (y : List ℕ) (i : ℤ) (k : ℕ → Act) → ((c : ℕ) → Meant t y c → P (k c))
-      → P (located line (find y t .first) (find y t .size) i k)
-  unfolding located
-  located-kept line y (pos n) k q = choose-each P (leb 1 n && leb n (find y t .size)) _ _ (λ e.
-      let (a, b) = both-true (leb 1 n) (leb n (find y t .size)) e in
-      q _ (meant t h y _ (omega arith) (omega (arith, leb-true 1 n a, leb-true n (find y t .size) b)))) (λ _. keep .faults 9 line)
-  located-kept line y (negsuc n) k q = keep .faults 9 line
-
   divides-kept : (line : ℕ) (f : ℤ → ℤ → ℤ) (a b : ℤ) (k : ℤ → Act) → ((y : ℤ) → P (k y)) → P (divides line f a b k)
   unfolding divides
   divides-kept line f a b k q = choose-each P (integers.same b (pos 0)) _ _ (λ _. keep .faults 10 line) (λ _. q (f a b))
@@ -90,7 +85,7 @@ module _ (t : List Entry) (v : List ℕ) (x : ℤ) (h : SaneTable t) (filled : 0
   called-kept line Max a b k q = q _
 
   mutual
-    unfolding eval evalTerms evalTerm evalFactors evalFactor place
+    unfolding eval evalTerms evalTerm evalFactors evalFactor place cell-of
 
     eval-kept : (line : ℕ) (e : Expr) (k : ℤ → Act) → ((y : ℤ) → P (k y)) → P (eval t v x line e k)
     eval-kept line (expr l a as′) k q = evalTerm-kept line a _ (λ y. evalTerms-kept line as′ (led l y) k q)
@@ -117,7 +112,14 @@ module _ (t : List Entry) (v : List ℕ) (x : ℤ) (h : SaneTable t) (filled : 0
 
     place-kept : (line : ℕ) (r : Ref) (k : ℕ → Act) → ((c : ℕ) → Meant t (refName r) c → P (k c)) → P (place t v x line r k)
     place-kept line (single y) k q = q _ (meant-first t h filled y)
-    place-kept line (element y e) k q = eval-kept line e _ (λ i. located-kept line y i k q)
+    place-kept line (element y is) k q = cell-kept line y is k q
+
+    cell-kept : (line : ℕ) (y : List ℕ) (is : Subscripts) (k : ℕ → Act) → ((c : ℕ) → Meant t y c → P (k c)) → P (cell-of t v x line (find y t) is k)
+    cell-kept line y (subscript e) k q =
+        eval-kept line e _ (λ i. located-among P line (keep .faults 9 line) _ _ i k (λ d b. q _ (meant-at t h y d b)))
+    cell-kept line y (subscripts e f) k q =
+        eval-kept line e _ (λ i. eval-kept line f _ (λ j.
+        in-grid-among P line (keep .faults 9 line) _ _ _ i j k (λ d b. q _ (meant-at t h y d (omega (arith, find-grid y t h))))))
 
   assigned-kept : (line : ℕ) (r : Ref) (e : Expr) (a : Act) → P a → P (assigned t v x line r e a)
   unfolding assigned

@@ -40,10 +40,21 @@ module _ {S : Type 0} (peek : S → Option Token) (skip : S → S) where
       elim (chosen (sees peek skip "(" m1) _ _ k1) [
         | inl c ↦
             bound (readDigits peek skip (skip m1)) _ (c .1) λ d m2 h2 k2.
-            bound (expects peek skip ")" m2) _ k2 λ _ m3 h3 k3.
-            same-done (λ e u. Spells peek skip s (showDeclared e) u) k3
-            (name-sound peek skip s h1
-            ▸ (sees-sound peek skip "(" m1 (c .0) ▸ (digits-sound peek skip (skip m1) h2 ▸ expects-sound peek skip ")" m2 h3)))
+            elim (chosen (sees peek skip "," m2) _ _ k2) [
+              | inl e ↦
+                  bound (readDigits peek skip (skip m2)) _ (e .1) λ n m3 h3 k3.
+                  bound (expects peek skip ")" m3) _ k3 λ _ m4 h4 k4.
+                  same-done (λ e u. Spells peek skip s (showDeclared e) u) k4
+                  (name-sound peek skip s h1
+                  ▸ (sees-sound peek skip "(" m1 (c .0)
+                  ▸ (digits-sound peek skip (skip m1) h2
+                  ▸ (sees-sound peek skip "," m2 (e .0) ▸ (digits-sound peek skip (skip m2) h3 ▸ expects-sound peek skip ")" m3 h4)))))
+              | inr e ↦
+                  bound (expects peek skip ")" m2) _ (e .1) λ _ m3 h3 k3.
+                  same-done (λ e u. Spells peek skip s (showDeclared e) u) k3
+                  (name-sound peek skip s h1
+                  ▸ (sees-sound peek skip "(" m1 (c .0) ▸ (digits-sound peek skip (skip m1) h2 ▸ expects-sound peek skip ")" m2 h3)))
+            ]
         | inr c ↦ same-done (λ e u. Spells peek skip s (showDeclared e) u) (c .1) (name-sound peek skip s h1)
       ]
 

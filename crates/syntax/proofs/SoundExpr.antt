@@ -3,7 +3,7 @@
 use mathlib.Core.Path.{_≡_, refl}
 use mathlib.Core.Logic.{inl, inr}
 use mathlib.Core.Bool.{Bool, true, false, cond, _||_}
-use mathlib.Core.List.{List, [], _∷_}
+use mathlib.Core.List.{List, [], _∷_, _++_}
 use mathlib.Core.Option.{Option, none, some}
 use Prim.Native.Nat.{ℕ, zero, suc, _+_, _*_}
 use Prim.Native.String.{String}
@@ -13,8 +13,8 @@ use Rattle.int32.specs.declared.Relation.the-variants.{Equal, Unequal, Less, At
 use Rattle.syntax.specs.declared.Function.{Function}
 use Rattle.syntax.specs.declared.Function.the-variants.{Rdiv, Max}
 use Rattle.syntax.specs.Bytes.{bytes, Token, sign, word-of}
-use Rattle.syntax.specs.Grammar.{bare, plus, minus, expr, terms, term, factors, Factor, call, showLead, showRel, showFunction, show, showTerms, showTerm, showFactors, showFactor, showRef}
-use Rattle.syntax.specs.Reader.{Parsed, done, Reader, next, sees, says, expects, readName, isDigits, readDigits, given, readRel, readLead, readPair, readExpr, readTerms, readTerm, readFactors, readFactor, readRef}
+use Rattle.syntax.specs.Grammar.{bare, plus, minus, expr, terms, term, factors, Factor, call, showLead, showRel, showFunction, show, showTerms, showTerm, showFactors, showFactor, showRef, showSubscripts}
+use Rattle.syntax.specs.Reader.{Parsed, done, Reader, next, sees, says, expects, readName, isDigits, readDigits, given, readRel, readLead, readPair, readSubscripts, readExpr, readTerms, readTerm, readFactors, readFactor, readRef}
 use Rattle.syntax.specs.Spelled.{Spells, here}
 use Rattle.syntax.proofs.Spelling.{not-done, same-done, bound, chosen, is-true, _▸_, one-token, expects-sound, name-sound, digits-sound}
 
@@ -151,16 +151,32 @@ module _ {S : Type 0} (peek : S → Option Token) (skip : S → S) where
     ]
   ]
 
+  -- one subscript or two, and the bracket
+  subscripts-sound : (f : ℕ) → Sounds f → Sound (readSubscripts peek skip (readExpr peek skip f)) (λ is. showSubscripts is ++ (sign (bytes ")") ∷ []))
+  unfolding showSubscripts
+  subscripts-sound f i s u is h =
+      bound (readExpr peek skip f s) _ h λ e m2 h2 k2.
+      elim (chosen (sees peek skip "," m2) _ _ k2) [
+        | inl c ↦
+            bound (readExpr peek skip f (skip m2)) _ (c .1) λ g m3 h3 k3.
+            bound (expects peek skip ")" m3) _ k3 λ _ m4 h4 k4.
+            same-done (λ is u. Spells peek skip s (showSubscripts is ++ (sign (bytes ")") ∷ [])) u) k4
+            ((i .expr s m2 e h2 ▸ (sees-sound "," m2 (c .0) ▸ i .expr (skip m2) m3 g h3)) ▸ expects-sound peek skip ")" m3 h4)
+        | inr c ↦
+            bound (expects peek skip ")" m2) _ (c .1) λ _ m3 h3 k3.
+            same-done (λ is u. Spells peek skip s (showSubscripts is ++ (sign (bytes ")") ∷ [])) u) k3
+            (i .expr s m2 e h2 ▸ expects-sound peek skip ")" m2 h3)
+      ]
+
   ref-sound : (f : ℕ) → Sounds f → Sound (readRef peek skip (suc f)) showRef
   unfolding readRef showRef
   ref-sound f i s u a h =
       bound (readName peek skip s) _ h λ x m1 h1 k1.
       elim (chosen (sees peek skip "(" m1) _ _ k1) [
         | inl c ↦
-            bound (readExpr peek skip f (skip m1)) _ (c .1) λ e m2 h2 k2.
-            bound (expects peek skip ")" m2) _ k2 λ _ m3 h3 k3.
-            same-done (λ e u. Spells peek skip s (showRef e) u) k3
-            (name-sound peek skip s h1 ▸ (sees-sound "(" m1 (c .0) ▸ (i .expr (skip m1) m2 e h2 ▸ expects-sound peek skip ")" m2 h3)))
+            bound (readSubscripts peek skip (readExpr peek skip f) (skip m1)) _ (c .1) λ is m2 h2 k2.
+            same-done (λ e u. Spells peek skip s (showRef e) u) k2
+            (name-sound peek skip s h1 ▸ (sees-sound "(" m1 (c .0) ▸ subscripts-sound f i (skip m1) m2 is h2))
         | inr c ↦ same-done (λ e u. Spells peek skip s (showRef e) u) (c .1) (name-sound peek skip s h1)
       ]
 

@@ -3,15 +3,15 @@
 use mathlib.Core.Path.{_≡_, refl, sym, _∙_}
 use mathlib.Core.Bool.{Bool, true, false, cond, _&&_}
 use mathlib.Core.List.{List, [], _∷_}
-use Prim.Native.Nat.{ℕ, zero, suc, _+_, _≤_, _<_}
+use Prim.Native.Nat.{ℕ, zero, suc, _+_, _*_, _≤_, _<_}
 use native.Mathlib.Omega.{arith}
 use lib.Dec.{ltb, leb}
 use lib.ListN.{length, getD, take}
 use borrow.Author.Tests.{lt-ltb, le-ltb, le-leb}
-use Rattle.syntax.specs.Known.{Entry, named, nowhere, find, cells}
+use Rattle.syntax.specs.Known.{Entry, rows, columns, named, nowhere, find, cells, cellsOf}
 use Rattle.syntax.specs.Meaning.{class-of}
 use Rattle.syntax.specs.Sane.{Each, Laid, SaneEntry, SaneTable}
-use Rattle.syntax.proofs.TestLaws.{both-hold, cond-each}
+use Rattle.syntax.proofs.TestLaws.{both-hold, cond-each, each-weaken}
 use Rattle.syntax.proofs.Spelling.{same-true}
 
 pub cells-filled : (t : List Entry) → SaneTable t → 0 < length t → 0 < cells t
@@ -58,6 +58,34 @@ find-first x t h k = find-each (λ e. e .first < cells t) x t k (go 0 t (h .laid
     go : (c : ℕ) (es : List Entry) → Laid c es → Each SaneEntry es → c + cells es ≤ cells t → Each (λ e. e .first < cells t) es
     go c [] l s b = tt
     go c (e ∷ es) l s b = (omega (arith, l .0, s .0 .some-cells), go (c + e .size) es (l .1) (s .1) (omega arith))
+
+-- ---- the extents of the entry that a name finds
+
+-- what has no two extents has no columns
+rows-columns : (ns : List ℕ) → getD ns 0 0 * getD ns 1 0 ≤ cellsOf ns
+rows-columns [] = omega arith
+rows-columns (n ∷ []) = omega arith
+rows-columns (m ∷ n ∷ ns) = omega arith
+
+pub find-grid : (x : List ℕ) (t : List Entry) → SaneTable t → rows (find x t) * columns (find x t) ≤ find x t .size
+find-grid x t h = find-each (λ e. rows e * columns e ≤ e .size) x t (omega arith)
+    (each-weaken SaneEntry _ (λ e s. rw (← s .shaped) (rows-columns (e .extents))) t (h .sized))
+
+-- no more rows than cells, and no more columns
+pub extents-few : (ns : List ℕ) → 1 ≤ cellsOf ns → (getD ns 0 0 ≤ cellsOf ns) × (getD ns 1 0 ≤ cellsOf ns)
+extents-few [] h = (omega arith, omega arith)
+extents-few (n ∷ []) h = (omega arith, omega arith)
+extents-few (zero ∷ n ∷ ns) h = absurd (omega arith)
+extents-few (suc m ∷ zero ∷ ns) h = absurd (omega arith)
+extents-few (suc m ∷ suc n ∷ ns) h = (omega arith, omega arith)
+
+pub find-extents : (x : List ℕ) (t : List Entry) → SaneTable t → (rows (find x t) ≤ 4096) × (columns (find x t) ≤ 4096)
+find-extents x t h = find-each (λ e. (rows e ≤ 4096) × (columns e ≤ 4096)) x t (omega arith, omega arith) (each-weaken SaneEntry _ few t (h .sized))
+  where
+    few : (e : Entry) → SaneEntry e → (rows e ≤ 4096) × (columns e ≤ 4096)
+    few e s =
+        let (m, n) = extents-few (e .extents) (omega (arith, s .shaped, s .some-cells)) in
+        (omega (arith, s .shaped, s .few-cells), omega (arith, s .shaped, s .few-cells))
 
 -- ---- the cells of two names
 

@@ -56,7 +56,7 @@ entries-sane c [] h = tt
 entries-sane c (d ∷ ds) h =
     let (a, b) = both-true (between 1 4096 (declaredSize d)) (all (λ d. between 1 4096 (declaredSize d)) ds) h in
     let (p, q) = both-true (leb 1 (declaredSize d)) (leb (declaredSize d) 4096) a in (
-      record { some-cells = leb-true 1 (declaredSize d) p; few-cells = leb-true (declaredSize d) 4096 q; given = tt },
+      record { shaped = refl; some-cells = leb-true 1 (declaredSize d) p; few-cells = leb-true (declaredSize d) 4096 q; given = tt },
       entries-sane (c + declaredSize d) ds b,
     )
 
@@ -144,7 +144,7 @@ classify-shape cs = record { names = λ e. refl; firsts = λ e. refl; sizes = λ
 
 pub classify-sane : (cs : List Clause) (t : List Entry) → SaneTable t → SaneTable (map (classify cs) t)
 classify-sane cs t h = map-sane (classify cs) (classify-shape cs) t h
-    (each-map SaneEntry SaneEntry (classify cs) (λ e s. record { some-cells = s .some-cells; few-cells = s .few-cells; given = s .given }) t
+    (each-map SaneEntry SaneEntry (classify cs) (λ e s. record { shaped = s .shaped; some-cells = s .some-cells; few-cells = s .few-cells; given = s .given }) t
     (h .sized))
 
 give-shape : (x : List ℕ) (vs : List ℤ) → Shape (give-to x vs)
@@ -196,12 +196,12 @@ give-entries x vs [] d k f h = tt
 give-entries x vs (e ∷ es) d k f h = go (named x e) refl k (λ r. give-entries x vs es (different-parts (e .name) (map nameOf es) d .1) r f (h .1))
   where
     given : Entry
-    given = record { name = e .name; first = e .first; subscripted = e .subscripted; size = e .size; class = e .class; given = some vs }
+    given = record { name = e .name; first = e .first; extents = e .extents; size = e .size; class = e .class; given = some vs }
 
     go : (b : Bool) → named x e ≡ b → length vs ≡ cond b e (find x es) .size → (length vs ≡ find x es .size → Each SaneEntry (map (give-to x vs) es))
         → SaneEntry (cond b given e) × Each SaneEntry (map (give-to x vs) es)
     go true p q ih = (
-      record { some-cells = h .0 .some-cells; few-cells = h .0 .few-cells; given = (q, f) },
+      record { shaped = h .0 .shaped; some-cells = h .0 .some-cells; few-cells = h .0 .few-cells; given = (q, f) },
       give-others x vs es (rw (same-true x (e .name) p) (different-parts (e .name) (map nameOf es) d .0)) (h .1),
     )
     go false p q ih = (h .0, ih q)

@@ -1,22 +1,26 @@
 -- RULES 1.4, 1.12 and 1.13 (document 01, Services and answers): when a line that follows the grammar is good: its place in the text (number 2),
 -- its names (number 3) and the limits (number 4), by what the lines before it made known.
-use mathlib.Core.Bool.{Bool, true, false, cond, _&&_, _||_, not, Bool·beq}
+use mathlib.Core.Bool.{Bool, true, false, cond, _&&_, _||_, not}
 use mathlib.Core.List.{List, [], _∷_, _++_, map}
 use mathlib.Core.Option.{Option, none, some}
 use Prim.Native.Nat.{ℕ, suc, _+_}
 use lib.Dec.{ltb, leb, eqb}
 use lib.ListN.{length}
 use Rattle.syntax.specs.Bytes.{all, any, same, between}
-use Rattle.syntax.specs.Grammar.{number, Expr, expr, Terms, no-terms, terms, Term, term, Factors, no-factors, factors, Factor, literal, cell, call, brackets, Ref, single, element, Declared, one, array, Item, item, assign, when, otherwise, end-if, Line, declare, give, direct, loop, inside, end-do, close}
+use Rattle.syntax.specs.Grammar.{number, Expr, expr, Terms, no-terms, terms, Term, term, Factors, no-factors, factors, Factor, literal, cell, call, brackets, Ref, single, element, Subscripts, subscript, subscripts, Declared, one, array, grid, Item, item, assign, when, otherwise, end-if, Line, declare, give, direct, loop, inside, end-do, close}
 use Rattle.syntax.specs.Known.{Entry, Open, State, declaredName, declaredSize, total, signed, copies, iterations, cells, known, find, threads-in, statics-in, names-in, in-lastprivate, in-firstprivate, in-another}
 
 -- ---- what a line's names and limits are judged by
 
--- a literal, a reference with or without a subscript, a bracket with how many are then open together
+-- a literal, a reference with how many subscripts, a bracket with how many are then open together
 pub data Mention : Type 0 where
   digits : List ℕ → Mention
-  refers : List ℕ → Bool → Mention
+  refers : List ℕ → ℕ → Mention
   opens : ℕ → Mention
+
+abbrev pub countOf : Subscripts → ℕ
+countOf (subscript e) = 1
+countOf (subscripts e f) = 2
 
 -- n brackets are open around it
 unfoldable mutual
@@ -41,12 +45,17 @@ unfoldable mutual
   inFactor n (brackets e) = opens (suc n) ∷ mentions (suc n) e
 
   pub inRef : ℕ → Ref → List Mention
-  inRef n (single x) = refers x false ∷ []
-  inRef n (element x e) = refers x true ∷ opens (suc n) ∷ mentions (suc n) e
+  inRef n (single x) = refers x 0 ∷ []
+  inRef n (element x is) = refers x (countOf is) ∷ opens (suc n) ∷ inSubscripts (suc n) is
+
+  pub inSubscripts : ℕ → Subscripts → List Mention
+  inSubscripts n (subscript e) = mentions n e
+  inSubscripts n (subscripts e f) = mentions n e ++ mentions n f
 
 abbrev pub inDeclared : Declared → List Mention
 inDeclared (one x) = []
 inDeclared (array x d) = digits d ∷ []
+inDeclared (grid x m n) = digits m ∷ digits n ∷ []
 
 abbrev pub inItem : Item → List Mention
 inItem (item none l d) = digits d ∷ []
@@ -71,15 +80,16 @@ inLine close = []
 
 -- ---- 3: names
 
--- not "name unknown, ... a subscript missing, or on a single cell or v": t are the names and v is the loop's variable
+-- not "name unknown, ... a subscript missing, or on a single cell or v", nor, document 02, Point 9, "One subscript where two belong, or two for one": t are
+-- the names and v is the loop's variable
 abbrev pub rightly : List Entry → List ℕ → Mention → Bool
 rightly t v (digits d) = true
-rightly t v (refers x b) = cond (same x v) (not b) (known x t && Bool·beq b (find x t .subscripted))
+rightly t v (refers x k) = cond (same x v) (eqb k 0) (known x t && eqb k (length (find x t .extents)))
 rightly t v (opens n) = true
 
 abbrev pub refName : Ref → List ℕ
 refName (single x) = x
-refName (element x e) = x
+refName (element x is) = x
 
 abbrev pub isGiven : {A : Type 0} → Option A → Bool
 isGiven none = false
@@ -119,10 +129,10 @@ names s l = all (rightly (s .table) (s .variable)) (inLine l) && singly s l
 -- those of max too
 abbrev pub small : Mention → Bool
 small (digits d) = leb (number d) 2147483647
-small (refers x b) = true
+small (refers x k) = true
 small (opens n) = leb n 8
 
--- "names 16; array length 1 to 4,096; N to 4,096; P 1 to 8; n to 65,535; `if` depth 8"
+-- "names 16; array length 1 to 4,096; N to 4,096; P 1 to 8; n to 65,535; `if` depth 8"; Point 9: "m × n up to 4,096"
 abbrev pub bounds : State → Line → Bool
 bounds s (declare d ds) =
     leb (length (s .table) + length (d ∷ ds)) 16

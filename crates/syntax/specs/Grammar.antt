@@ -56,12 +56,18 @@ mutual
 
   pub data Ref : Type 0 where
     single : List ℕ → Ref
-    element : List ℕ → Expr → Ref
+    element : List ℕ → Subscripts → Ref
 
--- "`z` is one cell, `a(n)` is n cells"
+  -- document 02, Point 9: "cells `a(e, f)`": one or two
+  pub data Subscripts : Type 0 where
+    subscript : Expr → Subscripts
+    subscripts : Expr → Expr → Subscripts
+
+-- "`z` is one cell, `a(n)` is n cells"; Point 9: "Allow `a(m, n)`"
 pub data Declared : Type 0 where
   one : List ℕ → Declared
   array : List ℕ → List ℕ → Declared
+  grid : List ℕ → List ℕ → List ℕ → Declared
 
 -- "an item is a literal with optional sign, or `r*` before it for r copies"
 pub data Item : Type 0 where
@@ -162,11 +168,16 @@ unfoldable mutual
 
   pub showRef : Ref → List Token
   showRef (single x) = showName x
-  showRef (element x e) = showName x ⌢ sg "(" ⌢ show e ⌢ sg ")"
+  showRef (element x is) = showName x ⌢ sg "(" ⌢ showSubscripts is ⌢ sg ")"
+
+  pub showSubscripts : Subscripts → List Token
+  showSubscripts (subscript e) = show e
+  showSubscripts (subscripts e f) = show e ⌢ sg "," ⌢ show f
 
 abbrev pub showDeclared : Declared → List Token
 showDeclared (one x) = showName x
 showDeclared (array x d) = showName x ⌢ sg "(" ⌢ showDigits d ⌢ sg ")"
+showDeclared (grid x m n) = showName x ⌢ sg "(" ⌢ showDigits m ⌢ sg "," ⌢ showDigits n ⌢ sg ")"
 
 abbrev pub showRepeat : Option (List ℕ) → List Token
 showRepeat none = []

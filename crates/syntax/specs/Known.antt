@@ -3,9 +3,9 @@
 use mathlib.Core.Bool.{Bool, true, false, cond, not}
 use mathlib.Core.List.{List, [], _∷_, _++_, map}
 use mathlib.Core.Option.{Option, none, some}
-use Prim.Native.Nat.{ℕ, zero, suc, _+_}
+use Prim.Native.Nat.{ℕ, zero, suc, _+_, _*_}
 use lib.IntN.{ℤ, pos, negsuc, negℤ, _+ℤ_, _-ℤ_}
-use lib.ListN.{replicate}
+use lib.ListN.{getD, replicate}
 use Rattle.int32.specs.declared.Relation.{Relation}
 use Rattle.rules.specs.declared.Grouping.{Grouping}
 use Rattle.rules.specs.declared.Grouping.the-variants.{Iterations, Blocks}
@@ -13,15 +13,15 @@ use Rattle.rules.specs.Loop.{Class, shared, lastprivate, copied, reduction}
 use Rattle.syntax.specs.declared.ClauseKind.{ClauseKind}
 use Rattle.syntax.specs.declared.ClauseKind.the-variants.{Shared, Lastprivate, Firstprivate, Reduction}
 use Rattle.syntax.specs.Bytes.{any, same}
-use Rattle.syntax.specs.Grammar.{number, Lead, bare, plus, minus, Expr, Ref, Declared, one, array, Item, item, Clause, clause, threads, static, assign, when, otherwise, end-if, Line, declare, give, direct, loop, inside, end-do, close}
+use Rattle.syntax.specs.Grammar.{number, Lead, bare, plus, minus, Expr, Ref, Declared, one, array, grid, Item, item, Clause, clause, threads, static, assign, when, otherwise, end-if, Line, declare, give, direct, loop, inside, end-do, close}
 
 -- ---- names
 
--- its first cell, whether it takes a subscript, how many cells it has, its class, its data
+-- its first cell, its extents, how many cells it has, its class, its data. A single cell has no extent, an array one, a grid two: as many as it takes subscripts.
 pub record Entry : Type 0 where
   pub name : List ℕ
   pub first : ℕ
-  pub subscripted : Bool
+  pub extents : List ℕ
   pub size : ℕ
   pub class : Class
   pub given : Option (List ℤ)
@@ -29,11 +29,18 @@ pub record Entry : Type 0 where
 abbrev pub named : List ℕ → Entry → Bool
 named x e = same x (e .name)
 
+-- the extents of a grid; the length of an array, and 0
+abbrev pub rows : Entry → ℕ
+rows e = getD (e .extents) 0 0
+
+abbrev pub columns : Entry → ℕ
+columns e = getD (e .extents) 1 0
+
 abbrev pub known : List ℕ → List Entry → Bool
 known x = any (named x)
 
 abbrev pub nowhere : Entry
-nowhere = record { name = []; first = 0; subscripted = false; size = 0; class = shared; given = none }
+nowhere = record { name = []; first = 0; extents = []; size = 0; class = shared; given = none }
 
 unfoldable pub find : List ℕ → List Entry → Entry
 find x [] = nowhere
@@ -89,14 +96,21 @@ turned o inner = record { line = o .line; left = o .left; relation = o .relation
 abbrev pub declaredName : Declared → List ℕ
 declaredName (one x) = x
 declaredName (array x d) = x
+declaredName (grid x m n) = x
+
+abbrev pub declaredExtents : Declared → List ℕ
+declaredExtents (one x) = []
+declaredExtents (array x d) = number d ∷ []
+declaredExtents (grid x m n) = number m ∷ number n ∷ []
+
+-- "`z` is one cell, `a(n)` is n cells"; Point 9: "m × n"
+abbrev pub cellsOf : List ℕ → ℕ
+cellsOf [] = 1
+cellsOf (n ∷ []) = n
+cellsOf (m ∷ n ∷ ns) = m * n
 
 abbrev pub declaredSize : Declared → ℕ
-declaredSize (one x) = 1
-declaredSize (array x d) = number d
-
-abbrev pub takesSubscript : Declared → Bool
-takesSubscript (one x) = false
-takesSubscript (array x d) = true
+declaredSize d = cellsOf (declaredExtents d)
 
 abbrev pub signed : Lead → ℕ → ℤ
 signed bare n = pos n
@@ -144,20 +158,21 @@ nothing = record { stage = 0; table = []; processors = 0; grouping = Iterations;
 -- ---- what a good line adds
 
 -- "in declared order"; "a name in no clause is shared"
+abbrev pub entryOf : ℕ → Declared → Entry
+entryOf c d = record { name = declaredName d; first = c; extents = declaredExtents d; size = declaredSize d; class = shared; given = none }
+
 abbrev pub entries : ℕ → List Declared → List Entry
 entries c [] = []
-entries c (d ∷ ds) =
-    record { name = declaredName d; first = c; subscripted = takesSubscript d; size = declaredSize d; class = shared; given = none }
-    ∷ entries (c + declaredSize d) ds
+entries c (d ∷ ds) = entryOf c d ∷ entries (c + declaredSize d) ds
 
 -- an entry with data, and one with another class
 abbrev pub with-data : List ℤ → Entry → Entry
 with-data vs e =
-    record { name = e .name; first = e .first; subscripted = e .subscripted; size = e .size; class = e .class; given = some vs }
+    record { name = e .name; first = e .first; extents = e .extents; size = e .size; class = e .class; given = some vs }
 
 abbrev pub with-class : Class → Entry → Entry
 with-class c e =
-    record { name = e .name; first = e .first; subscripted = e .subscripted; size = e .size; class = c; given = e .given }
+    record { name = e .name; first = e .first; extents = e .extents; size = e .size; class = c; given = e .given }
 
 abbrev pub give-to : List ℕ → List ℤ → Entry → Entry
 give-to x vs e = cond (named x e) (with-data vs e) e

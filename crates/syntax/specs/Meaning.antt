@@ -2,7 +2,7 @@
 use mathlib.Core.Bool.{Bool, true, false, cond, _&&_, not}
 use mathlib.Core.Option.{Option, none, some}
 use mathlib.Core.List.{List, [], _∷_}
-use Prim.Native.Nat.{ℕ, _+_, _-_}
+use Prim.Native.Nat.{ℕ, _+_, _-_, _*_}
 use lib.Dec.{ltb, leb, eqb}
 use lib.IntN.{ℤ, pos, negsuc, _+ℤ_}
 use Rattle.int32.specs.Integers.{sum, difference, product, negation, larger, quotient, related}
@@ -14,8 +14,8 @@ use Rattle.rules.specs.Cells.{cellOf}
 use Rattle.syntax.specs.declared.Function.{Function}
 use Rattle.syntax.specs.declared.Function.the-variants.{Rdiv, Max}
 use Rattle.syntax.specs.Bytes.{choose, same, Token, name, other-word, digits, sign, equal}
-use Rattle.syntax.specs.Grammar.{number, Lead, bare, plus, minus, Expr, expr, Terms, no-terms, terms, Term, term, Factors, no-factors, factors, Factor, literal, cell, call, brackets, Ref, single, element, showRef}
-use Rattle.syntax.specs.Known.{Entry, find, cells, State, Stmts, stop, set, if-then, if-else}
+use Rattle.syntax.specs.Grammar.{number, Lead, bare, plus, minus, Expr, expr, Terms, no-terms, terms, Term, term, Factors, no-factors, factors, Factor, literal, cell, call, brackets, Ref, single, element, Subscripts, subscript, subscripts, showRef}
+use Rattle.syntax.specs.Known.{Entry, rows, columns, find, cells, State, Stmts, stop, set, if-then, if-else}
 use Rattle.syntax.specs.Conditions.{refName}
 use Rattle.int32.specs.Integers as integers
 
@@ -148,6 +148,10 @@ unfoldable pub located : ℕ → ℕ → ℕ → ℤ → (ℕ → Act) → Act
 located line first size (pos n) k = choose (leb 1 n && leb n size) (λ _. k (first + (n - 1))) (λ _. fault 9 line)
 located line first size (negsuc n) k = fault 9 line
 
+-- document 02, Point 9: "each is tested against its own bound"; "first subscript fastest": a grid from cell `first` on, of m × n cells
+unfoldable pub in-grid : ℕ → ℕ → ℕ → ℕ → ℤ → ℤ → (ℕ → Act) → Act
+in-grid line first m n i j k = located line first m i (λ c. located line 0 n j (λ d. k (c + d * m)))
+
 -- "and a divisor against zero"
 unfoldable pub divides : ℕ → (ℤ → ℤ → ℤ) → ℤ → ℤ → (ℤ → Act) → Act
 divides line f a b k = choose (integers.same b (pos 0)) (λ _. fault 10 line) (λ _. k (f a b))
@@ -161,7 +165,7 @@ called line Max a b k = k (larger a b)
 module _ (t : List Entry) (v : List ℕ) (x : ℤ) where
   abbrev pub isVariable : Ref → Bool
   isVariable (single y) = same y v
-  isVariable (element y e) = false
+  isVariable (element y is) = false
 
   -- what stands on this line is worked out "from the left", and then comes k with its value
   unfoldable mutual
@@ -192,7 +196,12 @@ module _ (t : List Entry) (v : List ℕ) (x : ℤ) where
     -- the cell that a reference means
     pub place : ℕ → Ref → (ℕ → Act) → Act
     place line (single y) k = k (find y t .first)
-    place line (element y e) k = eval line e (λ i. located line (find y t .first) (find y t .size) i k)
+    place line (element y is) k = cell-of line (find y t) is k
+
+    -- Point 9: "Both subscripts are worked out, then each is tested"
+    pub cell-of : ℕ → Entry → Subscripts → (ℕ → Act) → Act
+    cell-of line y (subscript e) k = eval line e (λ i. located line (y .first) (y .size) i k)
+    cell-of line y (subscripts e f) k = eval line e (λ i. eval line f (λ j. in-grid line (y .first) (rows y) (columns y) i j k))
 
   -- "The right side is worked out first, from the left, then the left subscript, then the write"; of an update "its subscript comes first, then the
   -- remainder, then one access that updates"

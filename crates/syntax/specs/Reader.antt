@@ -16,7 +16,7 @@ use Rattle.syntax.specs.declared.ClauseKind.{ClauseKind}
 use Rattle.syntax.specs.declared.ClauseKind.the-variants.{Shared, Lastprivate, Firstprivate, Reduction}
 use Rattle.syntax.specs.declared.Function.the-variants.{Rdiv, Max}
 use Rattle.syntax.specs.Bytes.{choose, same, bytes, Token, kindOf, bytesOf, sign, word-of, token-of, token-size, trimmed}
-use Rattle.syntax.specs.Grammar.{Lead, bare, plus, minus, Expr, expr, Terms, no-terms, terms, Term, term, Factors, no-factors, factors, Factor, literal, cell, call, brackets, Ref, single, element, Declared, one, array, Item, item, Clause, clause, threads, static, assign, when, otherwise, end-if, Line, declare, give, direct, loop, inside, end-do, close}
+use Rattle.syntax.specs.Grammar.{Lead, bare, plus, minus, Expr, expr, Terms, no-terms, terms, Term, term, Factors, no-factors, factors, Factor, literal, cell, call, brackets, Ref, single, element, Subscripts, subscript, subscripts, Declared, one, array, grid, Item, item, Clause, clause, threads, static, assign, when, otherwise, end-if, Line, declare, give, direct, loop, inside, end-do, close}
 
 -- what is read, and the place after it
 pub data Parsed (S A : Type 0) : Type 0 where
@@ -120,6 +120,19 @@ module _ {S : Type 0} (peek : S → Option Token) (skip : S → S) where
     expects ")"
     yield (mk a b)
 
+  -- one subscript or two, and the bracket that ends them
+  abbrev pub readSubscripts : Reader S Expr → Reader S Subscripts
+  readSubscripts readSubscript = do
+    e ← readSubscript
+    (λ u. choose (sees "," u)
+        (λ _. at (skip u) do
+          f ← readSubscript
+          expects ")"
+          yield (subscripts e f))
+        (λ _. at u do
+          expects ")"
+          yield (subscript e)))
+
   -- Expressions. f bounds how deep the calls go: three for each token that is left, and four more, are enough.
   unfoldable mutual
     pub readExpr : ℕ → Reader S Expr
@@ -182,9 +195,8 @@ module _ {S : Type 0} (peek : S → Option Token) (skip : S → S) where
       x ← readName
       (λ u. choose (sees "(" u)
           (λ _. at (skip u) do
-            e ← readExpr f
-            expects ")"
-            yield (element x e))
+            is ← readSubscripts (readExpr f)
+            yield (element x is))
           (λ _. done (single x) u))
 
   -- Lists
@@ -214,8 +226,14 @@ module _ {S : Type 0} (peek : S → Option Token) (skip : S → S) where
     (λ u. choose (sees "(" u)
         (λ _. at (skip u) do
           d ← readDigits
-          expects ")"
-          yield (array x d))
+          (λ w. choose (sees "," w)
+              (λ _. at (skip w) do
+                n ← readDigits
+                expects ")"
+                yield (grid x d n))
+              (λ _. at w do
+                expects ")"
+                yield (array x d))))
         (λ _. done (one x) u))
 
   unfoldable pub readDeclare : ℕ → S → Parsed S Line

@@ -12,7 +12,7 @@ use mir.Val.{SFits}
 use Rattle.rules.specs.declared.Grouping.the-variants.{Iterations}
 use Rattle.syntax.specs.Bytes.{all}
 use Rattle.syntax.specs.Grammar.{Statement, assign, when, inside}
-use Rattle.syntax.specs.Known.{Entry, known, cells, Stmts, stop, set, if-then, if-else, Open, State}
+use Rattle.syntax.specs.Known.{Entry, known, cells, cellsOf, Stmts, stop, set, if-then, if-else, Open, State}
 use Rattle.syntax.specs.Conditions.{inLine, different, names, small}
 
 -- the like of `all` for what is no test
@@ -32,8 +32,9 @@ abbrev pub Data : ℕ → Option (List ℤ) → Type 0
 Data n none = Unit {0}
 Data n (some vs) = (length vs ≡ n) × Each (SFits w32) vs
 
--- "array length 1 to 4,096"
+-- "array length 1 to 4,096"; document 02, Point 9: "m × n up to 4,096"
 pub record SaneEntry (e : Entry) : Type 0 where
+  pub shaped : cellsOf (e .extents) ≡ e .size
   pub some-cells : 1 ≤ e .size
   pub few-cells : e .size ≤ 4096
   pub given : Data (e .size) (e .given)

@@ -13,7 +13,7 @@ use Rattle.syntax.specs.Bytes.{choose, bytes, sign}
 use Rattle.syntax.specs.Grammar.{Lead, bare, plus, minus, Expr, expr, Terms, no-terms, terms, Term, term, Factors, no-factors, factors, Factor, cell, call, Ref, single, element}
 use Rattle.syntax.specs.Meaning.{times}
 use Rattle.syntax.specs.Conditions.{refName}
-use Rattle.syntax.specs.Reader.{done, next, kind, text, is, sees, says, expects, isDigits, readDigits, readName, readLead, readExpr, readTerms, readTerm, readFactors, readFactor, readRef, peek-in, skip-in}
+use Rattle.syntax.specs.Reader.{done, next, kind, text, is, sees, says, expects, isDigits, readDigits, readName, readLead, readSubscripts, readExpr, readTerms, readTerm, readFactors, readFactor, readRef, peek-in, skip-in}
 use Rattle.syntax.proofs.Forms.{only}
 use Rattle.syntax.proofs.Spelling.{not-done, same-done, bound, chosen, conded}
 use Rattle.parts.specs.Parts.{stands}
@@ -39,16 +39,15 @@ ref-read (suc f) u w x h =
     bound (readName peek-in skip-in u) _ h λ n m h1 k1.
     let (p, q) = conded (eqb (kind (peek-in u)) 1) (done (text (peek-in u)) (skip-in u)) h1 in
     same-done (λ n m. choose (stands 40 m)
-    (λ _. next (readExpr peek-in skip-in f (skip-in m)) (λ e v. next (expects peek-in skip-in ")" v) (λ _ w. done (element n e) w)))
+    (λ _. next (readSubscripts peek-in skip-in (readExpr peek-in skip-in f) (skip-in m)) (λ i v. done (element n i) v))
     (λ _. done (single n) m)
     ≡ done x w
     → Referred u x)
     q
     (λ k. elim (chosen (stands 40 (skip-in u)) _ _ k) [
       | inl c ↦
-          bound (readExpr peek-in skip-in f (skip-in (skip-in u))) _ (c .1) λ e m2 h2 k2.
-          bound (expects peek-in skip-in ")" m2) _ k2 λ _ m3 h3 k3.
-          same-done (λ y _. Referred u y) k3 (record { name = eqb-true _ 1 p; text = refl; subscript = sym (c .0) })
+          bound (readSubscripts peek-in skip-in (readExpr peek-in skip-in f) (skip-in (skip-in u))) _ (c .1) λ i m2 h2 k2.
+          same-done (λ y _. Referred u y) k2 (record { name = eqb-true _ 1 p; text = refl; subscript = sym (c .0) })
       | inr c ↦ same-done (λ y _. Referred u y) (c .1) (record { name = eqb-true _ 1 p; text = refl; subscript = sym (c .0) })
     ]) k1
 

@@ -47,6 +47,13 @@ const OBSTACLES: [(&str, usize); 6] = [
     ("reduction(*)", 800),
     ("reduction(max)", 900),
 ];
+/// Of document 02, Point 9.
+const SHAPE: &str = "An obstacle in a cell";
+const SHAPES: [(&str, usize); 3] = [
+    ("without subscripts", 3_400),
+    ("of an array", 3_500),
+    ("of a grid", 2_400),
+];
 const BLAMED: &str = "Blamed:";
 const BLAMES: [(&str, usize); 2] = [("one iteration", 1_300), ("two iterations", 8_000)];
 const HINT: &str = "A hint:";
@@ -130,6 +137,7 @@ fn compare_kinds(explain: &Explain) -> io::Result<bool> {
     let good = tally.report() & tally.has_times(LOOP, "rerun", all);
     let floors = [
         (OBSTACLE, &OBSTACLES[..]),
+        (SHAPE, &SHAPES),
         (BLAMED, &BLAMES),
         (HINT, &HINTS),
         (PICTURE, &PICTURES),
@@ -255,7 +263,7 @@ impl Run {
 
     /// The cells of a name that have an obstacle.
     fn obstacles_of(&self, declared: &Declared) -> Vec<usize> {
-        let cells = declared.first_cell..declared.first_cell + declared.length;
+        let cells = declared.first_cell..declared.first_cell + declared.length();
         cells.filter(|&cell| self.serial.obstacles[cell]).collect()
     }
 
@@ -291,6 +299,8 @@ impl Run {
         let meet = obstacles(&theirs, &self.program)[cell];
         text.compare(&format!("whether they meet in {label}"), &meet, &true);
         text.count(OBSTACLE, Ok(clause));
+        let shapes = ["without subscripts", "of an array", "of a grid"];
+        text.count(SHAPE, Ok(shapes[declared.extents.len()]));
         let blamed = if named.len() == 1 {
             "one iteration"
         } else {
@@ -457,17 +467,19 @@ fn updates_of(declared: &Declared) -> Option<String> {
         _ => return None,
     };
     let name = &declared.name;
-    let subscript = if declared.is_array { "(k)" } else { "" };
-    let updates = updates.replace('@', &format!("{name}{subscript}"));
+    let subscripts = ["", "(k)", "(k, l)"][declared.extents.len()];
+    let updates = updates.replace('@', &format!("{name}{subscripts}"));
     Some(format!(
         "hint: an update of {name} is {updates}; nothing else may touch a cell that is updated"
     ))
 }
 
 fn label(declared: &Declared, cell: usize) -> String {
-    match declared.is_array {
-        true => format!("{}({})", declared.name, cell - declared.first_cell + 1),
-        false => declared.name.clone(),
+    let (name, place) = (&declared.name, cell - declared.first_cell);
+    match declared.extents[..] {
+        [] => name.clone(),
+        [rows, _] => format!("{name}({}, {})", place % rows + 1, place / rows + 1),
+        _ => format!("{name}({})", place + 1),
     }
 }
 
@@ -517,7 +529,7 @@ fn compare_picture(explain: &Explain, text: &mut Text, said: &str) -> io::Result
     let expected = accesses.filter_map(|access| {
         let cell = usize::from(access.cell);
         let mut names = run.program.names.iter();
-        let declared = names.find(|declared| cell < declared.first_cell + declared.length)?;
+        let declared = names.find(|declared| cell < declared.first_cell + declared.length())?;
         Some(format!(
             "{}, {}",
             label(declared, cell),

@@ -1,8 +1,10 @@
 //! A second opinion that nobody here wrote: the cells that Run leaves, beside those that gfortran's
-//! reading of the same loop leaves. Loops that fault are left out. Where Fortran's directive means the same, the
-//! loop is run by it too, in threads: sums, products and maxima are then gfortran's own reductions.
+//! reading of the same loop leaves, and each grid as Rows rearranges it, beside Fortran's `transpose`. Loops that fault
+//! are left out. Where Fortran's directive means the same, the loop is run by it too, in threads: sums, products and
+//! maxima are then gfortran's own reductions.
 
 use generate::{lend, Rng};
+use reference::program::Program;
 use reference::syntax::Operation;
 use reference::{fortran_of_all, read, run_serially, workspace_needed, Threads};
 use std::io;
@@ -10,7 +12,7 @@ use std::path::{Path, PathBuf};
 use std::process::Command;
 
 use crate::product;
-use crate::runs::{drawn_to_run, operations_of, UPDATED};
+use crate::runs::{drawn_to_run, kinds_in_grids, operations_of, GRIDS, UPDATED};
 use crate::tally::Tally;
 
 /// How many random loops are drawn, and how many of those that don't fault are compiled together.
@@ -24,6 +26,8 @@ const COPIED: usize = 300;
 /// run in threads too.
 const UPDATING: usize = 130;
 const IN_THREADS: usize = 100;
+/// How many loops that access grids (Point 9) must be among those that pass, are run again, and run in threads too.
+const OVER_GRIDS: [usize; 3] = [400, 420, 140];
 /// What is counted of loops with names in both clauses.
 const BOTH: &str = "Names in both clauses: Run";
 
@@ -32,12 +36,15 @@ struct Ran {
     name: String,
     text: Vec<u8>,
     before: Vec<i32>,
+    /// The cells that Run leaves, and then those of each grid as Rows leaves them.
     after: Vec<i32>,
     passed: bool,
     /// Whether it has names in both clauses.
     copied: bool,
     /// The operations by which it updates cells.
     operations: Vec<Operation>,
+    /// Whether it accesses cells of a grid.
+    over_grids: bool,
 }
 
 /// Compares random loops, if gfortran is there.
@@ -72,7 +79,11 @@ fn compare_all(folder: &Path) -> bool {
     let (Some(serially), Some(in_threads)) = (serially, in_threads) else {
         return false;
     };
-    let mut often = serially.has_times(BOTH, "passed", COPIED);
+    let [passed, rerun, both_ways] = OVER_GRIDS;
+    let mut often = serially.has_times(BOTH, "passed", COPIED)
+        & serially.has_times(GRIDS, "passed", passed)
+        & serially.has_times(GRIDS, "rerun", rerun)
+        & in_threads.has_times(GRIDS, "passed", both_ways);
     for (updated, _) in UPDATED {
         often &= serially.has_times(updated, "passed", UPDATING);
         often &= in_threads.has_times(updated, "passed", IN_THREADS);
@@ -112,17 +123,32 @@ fn run_drawn(seed: u64) -> Option<Ran> {
     let mut after = before.clone();
     let answer = product::run(&text, &mut after, &mut workspace, &schedule).ok()?;
     let program = read(&text).expect("a good text");
+    let serial = run_serially(&program, &before);
     let ran = Ran {
         name: format!("seed {seed}"),
         passed: answer.passed,
         copied: made.has_copied(),
-        operations: operations_of(&program, &run_serially(&program, &before)),
+        operations: operations_of(&program, &serial),
+        over_grids: !kinds_in_grids(&program, &serial).is_empty(),
+        after: with_rows(&text, &program, after),
         text,
         before,
-        after,
     };
     let fits = count <= CELLS && fortran_of(&[&ran], Threads::One).is_some();
     fits.then_some(ran)
+}
+
+/// The cells, and then those of each grid as Rows leaves them.
+fn with_rows(text: &[u8], program: &Program, cells: Vec<i32>) -> Vec<i32> {
+    let mut all = cells.clone();
+    let names = program.names.iter();
+    for grid in names.filter(|declared| declared.grid().is_some()) {
+        let mut by_rows = cells.clone();
+        if product::rows(text, &mut by_rows, grid.name.as_bytes()).is_ok() {
+            all.extend(&by_rows[grid.first_cell..][..grid.length()]);
+        }
+    }
+    all
 }
 
 /// The loops in one program; `None` if one of them is not in Fortran.
@@ -194,12 +220,19 @@ fn compare(tally: &mut Tally, loops: &[&Ran], opinions: &[Vec<i32>]) {
         if ran.copied {
             text.count(BOTH, Ok(word));
         }
+        if ran.over_grids {
+            text.count(GRIDS, Ok(word));
+        }
         for (updated, operation) in UPDATED {
             if ran.operations.contains(&operation) {
                 text.count(updated, Ok(word));
             }
         }
         let opinion = opinions.get(index).cloned().unwrap_or_default();
-        text.compare("the cells of Run and gfortran", &ran.after, &opinion);
+        text.compare(
+            "the cells of Run, and by rows, and gfortran",
+            &ran.after,
+            &opinion,
+        );
     }
 }

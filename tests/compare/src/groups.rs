@@ -1,11 +1,15 @@
 //! The groups of texts that are compared.
 
 use generate::tables::{arguments, data, text_rows};
-use generate::{copies, damage, hostile, lend, neighbours, noise, reductions, Knobs, Loop, Rng};
+use generate::{
+    copies, damage, grids as over_grids, hostile, lend, neighbours, noise, reductions, Knobs, Loop,
+    Rng,
+};
 use reference::Refusal;
 
 use crate::division;
 use crate::fortran;
+use crate::grids;
 use crate::names;
 use crate::plans;
 use crate::prints;
@@ -17,7 +21,7 @@ use crate::tally::Tally;
 pub type Group = (&'static str, fn() -> bool);
 
 /// All groups.
-pub const GROUPS: [Group; 19] = [
+pub const GROUPS: [Group; 21] = [
     ("tables", tables),
     ("lent", lent),
     ("run-table", runs::table),
@@ -25,11 +29,13 @@ pub const GROUPS: [Group; 19] = [
     ("plan-table", plans::table),
     ("name-table", names::table),
     ("print-table", prints::table),
+    ("grid-table", grids::table),
     ("runs", runs::random_runs),
     ("looks", runs::random_looks),
     ("plans", plans::random_plans),
     ("names", names::random_names),
     ("prints", prints::random_prints),
+    ("grids", grids::random_grids),
     ("refusals", runs::random_refusals),
     ("quotient", division::quotients),
     ("rdiv", division::rounded_quotients),
@@ -99,14 +105,15 @@ fn lent() -> bool {
     tally.report()
 }
 
-/// A random loop, at times a hostile one, one whose neighbours meet, one that overwrites old values or one of
-/// sums, products and maxima.
+/// A random loop, at times a hostile one, one whose neighbours meet, one that overwrites old values, one of sums,
+/// products and maxima or one over grids.
 pub fn drawn(rng: &mut Rng) -> Loop {
-    match rng.below(22) {
+    match rng.below(24) {
         0 | 1 => hostile::hostile(rng),
         2 => neighbours::neighbours(rng),
         3 => copies::copies(rng),
         4 | 5 => reductions::reductions(rng),
+        6 | 7 => over_grids::grids(rng),
         _ => {
             let knobs = Knobs::mixed(rng);
             Loop::random(rng, &knobs)

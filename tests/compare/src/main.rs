@@ -2,8 +2,8 @@
 //!
 //!     compare              every group of texts
 //!     compare GROUP..      some of them: tables, lent, run-table, look-table, plan-table,
-//!                          name-table, print-table, runs, looks, plans, names, prints, refusals,
-//!                          quotient, rdiv, fortran, loops, damaged, noise
+//!                          name-table, print-table, grid-table, runs, looks, plans, names, prints,
+//!                          grids, refusals, quotient, rdiv, fortran, loops, damaged, noise
 //!     compare stack KIB    how much stack the services need; whether it is at most so much
 //!     compare text FILE    what both answer for one text, on its own data
 //!     compare explain PROGRAM [FILE..]
@@ -16,6 +16,7 @@
 mod division;
 mod explain;
 mod fortran;
+mod grids;
 mod groups;
 mod names;
 mod one;

@@ -1,7 +1,7 @@
 //! Bounds and Name: the tables, and random texts.
 
 use generate::ranges::range;
-use generate::tables::names::{bounds_rows, name_rows};
+use generate::tables::names::{bounds_rows, name_rows, Found};
 use generate::tables::text_rows;
 use generate::wavefronts::wavefronts;
 use generate::{damage, lend, Rng};
@@ -9,7 +9,7 @@ use reference::{read, Bounds, NameCells};
 
 use crate::groups::refused;
 use crate::runs::{all_often, drawn_to_run};
-use crate::services::{bounds, name};
+use crate::services::{bounds, name, TAKEN};
 use crate::tally::{Tally, Text};
 
 /// How many random loops are asked about, every other one damaged, and how many texts with bounds near their
@@ -26,6 +26,8 @@ const FLOORS: [(&str, usize); 7] = [
     ("a maximum", 6_200),
     ("not declared", 200_000),
 ];
+/// How many names must be found that take no subscript, one and two.
+const SUBSCRIPTS: [(&str, usize); 3] = [("none", 29_000), ("one", 29_000), ("two", 24_000)];
 /// How many texts must have bounds of each kind.
 const BOUNDS: [(&str, usize); 6] = [
     ("no iterations", 580),
@@ -40,11 +42,13 @@ const BOUNDS: [(&str, usize); 6] = [
 pub fn table() -> bool {
     let mut tally = Tally::new("tables of names and bounds");
     for row in name_rows() {
-        let found = |(first, cells, subscripts, clause)| NameCells {
-            first,
-            cells,
-            subscripts,
-            clause,
+        let found = |found: Found| NameCells {
+            first: found.first,
+            cells: found.cells,
+            subscripts: found.subscripts,
+            clause: found.clause,
+            rows: found.rows,
+            columns: found.columns,
         };
         let expected = row.expected.map(found);
         let expected = expected.map_err(|(number, line)| refused(number, line));
@@ -114,5 +118,6 @@ pub fn random_names() -> bool {
         describe_as_reference(&mut tally.next(&name, &bytes), &mut rng);
     }
     let good = tally.report();
-    good & all_often(&tally, "Name", &FLOORS) & all_often(&tally, "Bounds", &BOUNDS)
+    let often = all_often(&tally, "Name", &FLOORS) & all_often(&tally, "Bounds", &BOUNDS);
+    good & often & all_often(&tally, TAKEN, &SUBSCRIPTS)
 }

@@ -2,9 +2,10 @@
 
 use std::fmt::Debug;
 
-use reference::{workspace_needed, Answer, Refusal};
+use reference::{read, workspace_needed, Answer, Refusal};
 
 use crate::product;
+use crate::services::ARRANGEMENTS;
 use crate::tally::short;
 
 /// The reference's Plan looks at every pair of iterations; of more than these it is not asked.
@@ -23,6 +24,7 @@ pub fn show(file: &str) -> bool {
     let mut same = beside("Check", &product::check(&text), &checked);
     same &= beside("Bounds", &product::bounds(&text), &bounded);
     same &= show_form(&text);
+    same &= show_grids(&text);
     if let (Ok((cells, processors)), Ok(bounds)) = (checked, bounded) {
         let words = workspace_needed(cells, processors);
         same &= show_on_data(&text, cells, words, bounds.iterations);
@@ -47,6 +49,27 @@ fn show_form(text: &[u8]) -> bool {
         (answer, String::from_utf8_lossy(&bytes).into_owned())
     };
     beside("Print", &print(product::print), &print(reference::print))
+}
+
+/// Rows and Columns of each grid, on cells that hold their own numbers.
+fn show_grids(text: &[u8]) -> bool {
+    let Ok(program) = read(text) else {
+        return true;
+    };
+    let numbers: Vec<i32> = (0..program.cell_count() as i32).collect();
+    let names = program.names.iter();
+    let mut same = true;
+    for grid in names.filter(|declared| declared.grid().is_some()) {
+        for arrangement in &ARRANGEMENTS {
+            let name = grid.name.as_bytes();
+            let (mut by_product, mut by_reference) = (numbers.clone(), numbers.clone());
+            let one = (arrangement.service)(text, &mut by_product, name);
+            let other = (arrangement.reference)(&program, &mut by_reference, name);
+            let of = format!("{} of {}", arrangement.name, grid.name);
+            same &= beside(&of, &(one, by_product), &(other, by_reference));
+        }
+    }
+    same
 }
 
 /// Load, and on the cells that the reference loads Run under the empty schedule and Plan.

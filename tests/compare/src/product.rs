@@ -64,6 +64,8 @@ struct NameAnswer {
     cells: u32,
     subscripts: u32,
     clause: u32,
+    rows: u32,
+    columns: u32,
 }
 
 extern "C" {
@@ -105,6 +107,22 @@ extern "C" {
         room: usize,
     ) -> PlanAnswer;
     fn lrpd_print(text: *const u8, length: usize, bytes: *mut u8, room: usize) -> PrintAnswer;
+    fn lrpd_rows(
+        text: *const u8,
+        length: usize,
+        cells: *mut i32,
+        count: usize,
+        name: *const u8,
+        name_length: usize,
+    ) -> DoneAnswer;
+    fn lrpd_columns(
+        text: *const u8,
+        length: usize,
+        cells: *mut i32,
+        count: usize,
+        name: *const u8,
+        name_length: usize,
+    ) -> DoneAnswer;
 }
 
 /// Check: N and P.
@@ -136,21 +154,24 @@ pub fn bounds(text: &[u8]) -> Result<Bounds, Refusal> {
     })
 }
 
-/// Name: the cells and the clause of the name that the bytes spell.
+/// Name: the cells, the extents and the clause of the name that the bytes spell.
 pub fn name(text: &[u8], asked: &[u8]) -> Result<NameCells, Refusal> {
     // SAFETY: each pointer and length are one slice's, which is only read.
     let answer = unsafe { lrpd_name(text.as_ptr(), text.len(), asked.as_ptr(), asked.len()) };
-    assert!(answer.subscripts <= 1, "subscripts is 0 or 1");
     let refused = refusal(answer.number, answer.line, answer.v);
     if refused.is_err() {
         let numbers = [answer.first, answer.cells, answer.subscripts, answer.clause];
         assert_eq!(numbers, [0; 4], "cells beside a refusal");
+        let extents = (answer.rows, answer.columns);
+        assert_eq!(extents, (0, 0), "extents beside a refusal");
     }
     refused.map(|()| NameCells {
         first: answer.first,
         cells: answer.cells,
-        subscripts: answer.subscripts == 1,
+        subscripts: answer.subscripts,
         clause: answer.clause,
+        rows: answer.rows,
+        columns: answer.columns,
     })
 }
 
@@ -257,6 +278,38 @@ pub fn print(text: &[u8], bytes: &mut [u8]) -> Result<u32, Refusal> {
         assert_eq!(answer.length, 0, "a length beside a refusal");
     }
     refused.map(|()| answer.length)
+}
+
+/// Rows: the cells of the grid that the bytes spell into row order.
+pub fn rows(text: &[u8], cells: &mut [i32], name: &[u8]) -> Result<(), Refusal> {
+    // SAFETY: each pointer and length are one slice's; the cells are lent alone.
+    let answer = unsafe {
+        lrpd_rows(
+            text.as_ptr(),
+            text.len(),
+            cells.as_mut_ptr(),
+            cells.len(),
+            name.as_ptr(),
+            name.len(),
+        )
+    };
+    refusal(answer.number, answer.line, answer.v)
+}
+
+/// Columns: and back.
+pub fn columns(text: &[u8], cells: &mut [i32], name: &[u8]) -> Result<(), Refusal> {
+    // SAFETY: each pointer and length are one slice's; the cells are lent alone.
+    let answer = unsafe {
+        lrpd_columns(
+            text.as_ptr(),
+            text.len(),
+            cells.as_mut_ptr(),
+            cells.len(),
+            name.as_ptr(),
+            name.len(),
+        )
+    };
+    refusal(answer.number, answer.line, answer.v)
 }
 
 /// Number 0 is no refusal, and then line and v are 0.

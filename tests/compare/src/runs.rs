@@ -2,8 +2,10 @@
 
 use generate::tables::looks;
 use generate::tables::runs::{rows, Ran};
-use generate::{copies, damage, hostile, lend, neighbours, reductions, Copied, Loop, Rng, Turned};
-use reference::program::Program;
+use generate::{
+    copies, damage, grids, hostile, lend, neighbours, reductions, Copied, Loop, Rng, Turned,
+};
+use reference::program::{Declared, Program};
 use reference::syntax::{Class, Operation, Words};
 use reference::{read, run_serially, workspace_needed, Answer, Kind, Refusal, Serial};
 
@@ -20,6 +22,9 @@ const LOOKS: u64 = 3_000;
 /// together in passed and repeated runs.
 const UPDATING: [(&str, usize); 3] = [("passed", 5_500), ("rerun", 3_000), ("faults", 600)];
 const ALL_UPDATING: [(&str, usize); 2] = [("passed", 2_500), ("rerun", 1_200)];
+/// How many runs that access cells of a grid (document 02, Point 9), and that update one, must end so.
+const OVER_GRIDS: [(&str, usize); 3] = [("passed", 16_000), ("rerun", 15_500), ("faults", 6_300)];
+const UPDATED_GRIDS: [(&str, usize); 3] = [("passed", 3_100), ("rerun", 2_600), ("faults", 640)];
 /// In how many loops at least the word must turn from rerun to passed once the names in `lastprivate` alone
 /// stand in both clauses.
 const TURNED: usize = 700;
@@ -124,13 +129,14 @@ pub fn look_as_reference(text: &mut Text, lent: &Lent) {
 }
 
 /// A random loop, often one in which speculation and the serial run meet different faults, one whose
-/// neighbours meet, one that overwrites old values or one of sums, products and maxima.
+/// neighbours meet, one that overwrites old values, one of sums, products and maxima or one over grids.
 pub fn drawn_to_run(rng: &mut Rng) -> Loop {
-    match rng.below(27) {
+    match rng.below(32) {
         0..=7 => hostile::hostile(rng),
         8..=10 => neighbours::neighbours(rng),
-        11..=16 => copies::copies(rng),
-        17..=21 => reductions::reductions(rng),
+        11..=17 => copies::copies(rng),
+        18..=22 => reductions::reductions(rng),
+        23..=26 => grids::grids(rng),
         _ => drawn(rng),
     }
 }
@@ -223,13 +229,33 @@ pub fn operations_of(program: &Program, serial: &Serial) -> Vec<Operation> {
         .collect()
 }
 
-/// Counts how a run with updates ends, for each operation and for all three together.
+/// What is counted of runs that access cells of a grid, and that update one.
+pub const GRIDS: &str = "Grids: Run";
+const GRIDS_UPDATED: &str = "Grids updated: Run";
+
+/// The kinds of accesses that a serial run makes to cells of grids.
+pub fn kinds_in_grids(program: &Program, serial: &Serial) -> Vec<Kind> {
+    let in_grid = |declared: &Declared| vec![declared.grid().is_some(); declared.length()];
+    let in_grid: Vec<bool> = program.names.iter().flat_map(in_grid).collect();
+    let accesses = serial.accesses.iter();
+    let theirs = accesses.filter(|access| in_grid[usize::from(access.cell)]);
+    theirs.map(|access| access.kind).collect()
+}
+
+/// Counts how a run with updates ends, for each operation and for all three together, and one with accesses to grids.
 fn count_updates(text: &mut Text, program: &Program, serial: &Serial) {
     let word = match (serial.outcome, serial.passes()) {
         (Err(_), _) => "faults",
         (Ok(()), true) => "passed",
         (Ok(()), false) => "rerun",
     };
+    let kinds = kinds_in_grids(program, serial);
+    if !kinds.is_empty() {
+        text.count(GRIDS, Ok(word));
+    }
+    if kinds.contains(&Kind::Update) {
+        text.count(GRIDS_UPDATED, Ok(word));
+    }
     let operations = operations_of(program, serial);
     for (counted, operation) in UPDATED {
         if operations.contains(&operation) {
@@ -378,8 +404,8 @@ fn compare_operations(tally: &mut Tally, seed: u64) {
 }
 
 /// Random loops: Run against the serial run. Each end, each way in which speculation and the serial run
-/// are at odds, each operation's updates, loops that pass for some numbers of processors alone, by names in both
-/// clauses or by their own operations must be frequent.
+/// are at odds, each operation's updates, accesses to grids, loops that pass for some numbers of processors alone,
+/// by names in both clauses or by their own operations must be frequent.
 pub fn random_runs() -> bool {
     let mut tally = Tally::new(&format!("runs of the seeds 0 to {}", RUNS - 1));
     random(&mut tally, RUNS, run_and_count);
@@ -394,7 +420,9 @@ pub fn random_runs() -> bool {
         & has(NEW, &["now passes"], 5);
     let updated = UPDATED.map(|(updated, _)| all_often(&tally, updated, &UPDATING));
     let updated = !updated.contains(&false) & all_often(&tally, ALL_THREE, &ALL_UPDATING);
-    good & frequent & updated & random_blocks() & random_copies() & random_operations()
+    let grids = all_often(&tally, GRIDS, &OVER_GRIDS);
+    let grids = grids & all_often(&tally, GRIDS_UPDATED, &UPDATED_GRIDS);
+    good & frequent & updated & grids & random_blocks() & random_copies() & random_operations()
 }
 
 /// Whether each of these answers was given at least so often.

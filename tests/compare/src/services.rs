@@ -4,6 +4,7 @@
 use std::fmt::{self, Debug, Formatter};
 
 use generate::{lend, Rng};
+use reference::program::Program;
 use reference::{Answer, Bounds, NameCells, Refusal};
 
 use crate::product;
@@ -58,6 +59,8 @@ const CLAUSES: [&str; 6] = [
     "a maximum",
 ];
 const UNDECLARED: &str = "not declared";
+/// What is counted of names that are found.
+pub const TAKEN: &str = "Name: subscripts taken";
 
 /// Name, asked for these bytes, behind which others stand that are not part of them.
 pub fn name(text: &mut Text, (asked, after): (&[u8], &[u8]), expected: Result<NameCells, Refusal>) {
@@ -72,6 +75,11 @@ pub fn name(text: &mut Text, (asked, after): (&[u8], &[u8]), expected: Result<Na
         Err(refusal) => Err(refusal),
     };
     text.count("Name", counted);
+    if let Ok(found) = answer {
+        let words = ["none", "one", "two"];
+        let word = words.get(found.subscripts as usize);
+        text.count(TAKEN, Ok(word.unwrap_or(&"more")));
+    }
     let service = format!("Name of {:?}", asked.escape_ascii().to_string());
     text.compare(&service, &answer, &expected);
     text.compare("Name's bytes", &(lent, lent_name), &before);
@@ -143,6 +151,58 @@ pub struct Lent<'l> {
     pub cells: &'l [i32],
     pub workspace: &'l [u32],
     pub schedule: &'l [u8],
+}
+
+/// The product's service and the reference's, of a text or a program, cells and a name.
+type OfText = fn(&[u8], &mut [i32], &[u8]) -> Result<(), Refusal>;
+type OfProgram = fn(&Program, &mut [i32], &[u8]) -> Result<(), Refusal>;
+
+/// A service that rearranges one grid (document 02, Point 9).
+pub struct Arrangement {
+    pub name: &'static str,
+    pub service: OfText,
+    pub reference: OfProgram,
+}
+
+/// Each is the other's inverse.
+pub const ARRANGEMENTS: [Arrangement; 2] = [
+    Arrangement {
+        name: "Rows",
+        service: product::rows,
+        reference: Program::rows,
+    },
+    Arrangement {
+        name: "Columns",
+        service: product::columns,
+        reference: Program::columns,
+    },
+];
+
+/// Rows or Columns of the grid that these bytes name, behind which others stand that are not part of them. It leaves
+/// `after` in the cells if it is done, else the cells as they are.
+pub fn arrange(
+    text: &mut Text,
+    arrangement: &Arrangement,
+    (asked, behind): (&[u8], &[u8]),
+    before: &[i32],
+    expected: Result<&[i32], Refusal>,
+) {
+    let mut cells = guarded(before, GUARD);
+    let lent = guarded(text.text, GUARD_BYTE);
+    let lent_name = [&[GUARD_BYTE], asked, behind, &[GUARD_BYTE]].concat();
+    let found = (lent.clone(), lent_name.clone());
+    let answer = (arrangement.service)(
+        &lent[1..=text.text.len()],
+        &mut cells[1..=before.len()],
+        &lent_name[1..=asked.len()],
+    );
+    text.count(arrangement.name, answer.map(|()| "done"));
+    let after = guarded(expected.unwrap_or(before), GUARD);
+    let asked = asked.escape_ascii();
+    let service = format!("{} of \"{asked}\"", arrangement.name);
+    text.compare(&service, &(answer, cells), &(expected.map(|_| ()), after));
+    let service = format!("{}' bytes", arrangement.name);
+    text.compare(&service, &(lent, lent_name), &found);
 }
 
 /// The workspace after an answer: as found after 1 to 8 and 11, else zero.

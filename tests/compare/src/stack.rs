@@ -105,6 +105,11 @@ pub fn child(index: usize) -> bool {
     let planned = product::plan(&row.text, &cells, &mut workspace, &mut list).map_err(numbers);
     let mut bytes = vec![0; 65_535];
     let printed = product::print(&row.text, &mut bytes).map_err(numbers);
+    // The name is a grid's or, in a text that is accepted, another's.
+    let arranged = [product::rows, product::columns].map(|service| {
+        let arranged = service(&row.text, &mut cells, b"a").map_err(numbers);
+        arranged == done || done.is_ok() && arranged == Err((13, 0))
+    });
     let answers = [
         bounded.map(|_| ()),
         named.map(|_| ()),
@@ -114,5 +119,5 @@ pub fn child(index: usize) -> bool {
         planned.map(|_| ()),
         printed.map(|_| ()),
     ];
-    checked == row.expected && answers == [done; 7]
+    checked == row.expected && answers == [done; 7] && arranged == [true; 2]
 }

@@ -1,8 +1,9 @@
 //! The body of a random loop. Statements keep to the roles of the names; conflict has some disregard
 //! them, danger has some subscripts and divisors that may fault.
 
-use crate::builder::{Builder, Name, Role};
-use crate::lines::Operation;
+use crate::builder::{Builder, Name, Role, Shape};
+use crate::lines::{open_brackets, Operation};
+use crate::subscripts::numbered;
 
 /// References.
 impl Builder<'_> {
@@ -25,7 +26,16 @@ impl Builder<'_> {
         }
     }
 
-    /// A subscript that is always inside an array of this length.
+    /// The cell of a name that has this number, from 1 in its element order.
+    fn cell(&self, index: usize, number: &str) -> String {
+        let Name { name, shape, .. } = &self.names[index];
+        match *shape {
+            Shape::Grid { rows, columns } => numbered(name, (rows, columns), number),
+            _ => format!("{name}({number})"),
+        }
+    }
+
+    /// A subscript that is always inside a bound of this size.
     fn safe_subscript(&mut self, length: usize) -> String {
         let indexes: Vec<usize> = (0..self.names.len())
             .filter(|&one| self.names[one].role == Role::Index)
@@ -36,7 +46,7 @@ impl Builder<'_> {
             2 if long_enough && !indexes.is_empty() => {
                 let index = self.rng.pick(&indexes);
                 let number = self.own_number();
-                format!("{}({number})", self.names[index].name)
+                self.cell(index, &number)
             }
             3 => format!("({})", 1 + self.rng.below(length)),
             4 => format!("{} - 1", 2 + self.rng.below(length)),
@@ -55,23 +65,31 @@ impl Builder<'_> {
         }
     }
 
-    /// A reference to a name that is never outside its array, unless danger has it.
+    /// A reference to a name that is never outside its array or grid, unless danger has it.
     fn any_reference(&mut self, index: usize) -> String {
         let Name {
             name,
-            is_array,
+            shape,
             values,
             ..
         } = self.names[index].clone();
-        if !is_array {
-            return name;
+        match shape {
+            Shape::Single => name,
+            Shape::Array => format!("{name}({})", self.any_subscript(values.len())),
+            Shape::Grid { rows, columns } => {
+                let [row, column] = [rows, columns].map(|bound| self.any_subscript(bound));
+                format!("{name}({row}, {column})")
+            }
         }
-        let subscript = if self.rng.chance(self.knobs.danger) {
+    }
+
+    /// A subscript that is inside a bound of this size, unless danger has it.
+    fn any_subscript(&mut self, bound: usize) -> String {
+        if self.rng.chance(self.knobs.danger) {
             self.wild_subscript()
         } else {
-            self.safe_subscript(values.len())
-        };
-        format!("{name}({subscript})")
+            self.safe_subscript(bound)
+        }
     }
 
     /// The reference an iteration may make to a name with a role of its own cell.
@@ -81,12 +99,11 @@ impl Builder<'_> {
         } else {
             self.own_number()
         };
-        let name = &self.names[index];
-        match name.role {
+        match self.names[index].role {
             Role::Own {
                 through: Some(through),
-            } => format!("{}({}({number}))", name.name, self.names[through].name),
-            _ => format!("{}({number})", name.name),
+            } => self.cell(index, &self.cell(through, &number)),
+            _ => self.cell(index, &number),
         }
     }
 
@@ -96,7 +113,7 @@ impl Builder<'_> {
         let higher = self.names[index].values.len() - self.iterations.max(1);
         let number = self.own_number();
         let more = self.rng.below(higher + 1);
-        format!("{}({number} + {more})", self.names[index].name)
+        self.cell(index, &format!("{number} + {more}"))
     }
 
     /// A reference that the roles allow to be read here, if there is one.
@@ -265,14 +282,14 @@ impl Builder<'_> {
         }
     }
 
-    /// A temporary cell: by a literal subscript, so that the same cell is met again.
+    /// A temporary cell: by literal subscripts, so that the same cell is met again.
     fn temporary(&mut self, index: usize) -> String {
         let name = &self.names[index];
-        if !name.is_array {
+        if name.shape == Shape::Single {
             return name.name.clone();
         }
         let number = 1 + self.rng.below(name.values.len());
-        format!("{}({number})", name.name)
+        self.cell(index, &number.to_string())
     }
 
     fn assign(&mut self, target: &str) {
@@ -357,15 +374,22 @@ impl Builder<'_> {
         self.add_one_that_fits([line, format!("{target} = 1")]);
     }
 
-    /// The first cell of an array by two references that are not the same token for token; of a single cell
-    /// the same reference twice.
+    /// The first cell of an array or a grid by two references that are not the same token for token; of a single
+    /// cell the same reference twice.
     fn two_references(&mut self, index: usize, target: &str) -> [String; 2] {
-        let Name { name, is_array, .. } = &self.names[index];
+        let Name { name, shape, .. } = &self.names[index];
         let other = self.rng.pick(&["(1)", "+1"]);
-        match is_array {
-            true => [format!("{name}(1)"), format!("{name}({other})")],
-            false => [target.to_string(), target.to_string()],
-        }
+        let pair = match shape {
+            Shape::Single => return [target.to_string(), target.to_string()],
+            Shape::Array => ["1".to_string(), other.to_string()],
+            Shape::Grid { .. } => {
+                let other = self
+                    .rng
+                    .pick(&[format!("1, {other}"), format!("{other}, 1")]);
+                ["1, 1".to_string(), other]
+            }
+        };
+        pair.map(|subscripts| format!("{name}({subscripts})"))
     }
 
     fn near_sum(&mut self, index: usize, target: &str) -> String {
@@ -431,19 +455,4 @@ impl Builder<'_> {
             _ => format!("{target} = max({target}, {more})"),
         }
     }
-}
-
-/// The most brackets open together.
-fn open_brackets(text: &str) -> usize {
-    let mut open = 0;
-    let mut most = 0;
-    for byte in text.bytes() {
-        match byte {
-            b'(' => open += 1,
-            b')' => open -= 1,
-            _ => {}
-        }
-        most = most.max(open);
-    }
-    most
 }

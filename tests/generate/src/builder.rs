@@ -24,12 +24,28 @@ pub enum Role {
     Updated(Operation),
 }
 
+/// How a name is declared.
+#[derive(Debug, Clone, Copy, PartialEq, Eq)]
+pub enum Shape {
+    Single,
+    Array,
+    /// Document 02, Point 9.
+    Grid {
+        rows: usize,
+        columns: usize,
+    },
+}
+
+/// Percent of the names with subscripts that take two.
+const GRIDS: u32 = 35;
+
 /// A name and what it is used for.
 #[derive(Debug, Clone)]
 pub struct Name {
     pub name: String,
     pub role: Role,
-    pub is_array: bool,
+    pub shape: Shape,
+    /// A value for each cell; of a grid in its element order.
     pub values: Vec<i32>,
     pub has_data: bool,
     pub clause: &'static str,
@@ -202,12 +218,17 @@ impl<'r> Builder<'r> {
             _ => Role::Index,
         };
         let numbered = matches!(role, Role::Own { .. } | Role::Ahead | Role::Index);
-        let is_array = numbered || self.rng.chance(50);
-        let length = match (numbered, is_array) {
+        let takes_subscripts = numbered || self.rng.chance(50);
+        let length = match (numbered, takes_subscripts) {
             (true, _) if role == Role::Ahead => self.iterations.max(1) + 1 + self.rng.below(3),
             (true, _) => self.iterations.max(1) + self.rng.below(3),
             (false, true) => 1 + self.rng.below(6),
             (false, false) => 1,
+        };
+        let (shape, length) = match takes_subscripts {
+            false => (Shape::Single, 1),
+            true if self.rng.chance(GRIDS) => self.choose_extents(length),
+            true => (Shape::Array, length),
         };
         let has_data = match role {
             Role::Index => true,
@@ -219,11 +240,23 @@ impl<'r> Builder<'r> {
         Name {
             name,
             role,
-            is_array,
+            shape,
             values,
             has_data,
             clause: self.choose_clause(role),
         }
+    }
+
+    /// A grid of at least so many cells, in whole columns, and how many it has.
+    fn choose_extents(&mut self, length: usize) -> (Shape, usize) {
+        let rows = match self.rng.below(6) {
+            0 | 1 => 1,
+            2 | 3 => length,
+            4 => 2,
+            _ => 1 + self.rng.below(4),
+        };
+        let columns = length.div_ceil(rows);
+        (Shape::Grid { rows, columns }, rows * columns)
     }
 
     /// Any operation, sums most often.
@@ -306,9 +339,11 @@ impl<'r> Builder<'r> {
                 line += ", ";
             }
             line += &name.name;
-            if name.is_array {
-                line += &format!("({})", name.values.len());
-            }
+            line += &match name.shape {
+                Shape::Single => String::new(),
+                Shape::Array => format!("({})", name.values.len()),
+                Shape::Grid { rows, columns } => format!("({rows}, {columns})"),
+            };
         }
         self.lines.push(line);
     }

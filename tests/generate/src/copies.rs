@@ -6,6 +6,7 @@ use crate::layout::Layout;
 use crate::lines::{lastprivate, lines, with_data};
 use crate::loops::Loop;
 use crate::rng::Rng;
+use crate::subscripts::with_grids;
 
 /// Percent of the names in `lastprivate` that are in `firstprivate` too.
 const COPIED: u32 = 70;
@@ -23,6 +24,7 @@ pub fn copies(rng: &mut Rng) -> Loop {
         6 => sum_of_old_values(rng, count),
         _ => spoiled(rng, count),
     };
+    let lines = with_grids(rng, lines);
     let layout = rng.pick(&[Layout::PLAIN, Layout::VARIED, Layout::ODD]);
     let processors = 1 + rng.below(8);
     Loop::of_lines(lines, processors, cells, layout, rng)

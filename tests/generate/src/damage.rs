@@ -1,14 +1,16 @@
 //! Good texts with something changed: bytes, tokens or lines taken out, doubled, swapped or put in,
-//! names, literals and signs exchanged, a clause put in, taken out or changed, `max` used in another way, the
-//! length brought near its limit.
+//! names, literals and signs exchanged, a clause put in, taken out or changed, `max` used in another way, subscripts
+//! and extents taken out, added or changed, the length brought near its limit.
 
 use crate::layout::split_tokens;
 use crate::rng::Rng;
+use crate::subscripts::bracketed;
 
-/// The text with something changed: one name, literal or sign for another, or a clause, or a use of `max`, or
-/// the length, or up to three bytes, tokens or lines. It may happen to be good still.
+/// The text with something changed: one name, literal or sign for another, or a clause, or a use of `max`, or what
+/// stands in the brackets of a name, or the length, or up to three bytes, tokens or lines. It may happen to be good
+/// still.
 pub fn damage(text: &[u8], rng: &mut Rng) -> Vec<u8> {
-    match rng.below(21) {
+    match rng.below(25) {
         0..=5 => exchange_token(text, rng),
         6 => pad(text, rng),
         7 => change_clauses(text, rng, put_in_static),
@@ -17,6 +19,7 @@ pub fn damage(text: &[u8], rng: &mut Rng) -> Vec<u8> {
         12 | 13 => change_clauses(text, rng, put_in_reduction),
         14 => change_clauses(text, rng, change_operation),
         15 | 16 => change_maximum(text, rng),
+        17..=20 => change_subscripts(text, rng),
         _ => break_up(text, rng),
     }
 }
@@ -336,6 +339,124 @@ fn change_maximum(text: &[u8], rng: &mut Rng) -> Vec<u8> {
     lines.join("\n").into_bytes()
 }
 
+/// Changes what stands in the brackets of a declared name, its extents or its subscripts (document 02, Point 9): one
+/// less or more, or another comma; or puts brackets after a name that has none.
+fn change_subscripts(text: &[u8], rng: &mut Rng) -> Vec<u8> {
+    let Ok(whole) = std::str::from_utf8(text) else {
+        return break_up(text, rng);
+    };
+    let mut lines: Vec<String> = whole.split('\n').map(str::to_string).collect();
+    let names = names_of(&whole.split('\n').collect::<Vec<_>>());
+    // Declarations are few: they are changed every fourth time.
+    let declares = rng.chance(25);
+    let mut places = Vec::new();
+    for (line, text) in lines.iter().enumerate() {
+        let tokens = split_tokens(text);
+        let first = tokens
+            .first()
+            .map_or(String::new(), |word| word.to_lowercase());
+        if first == "!$omp" || (first == "integer") != declares {
+            continue;
+        }
+        let fitting = (0..tokens.len()).filter(|&one| names.contains(&tokens[one]));
+        places.extend(fitting.map(|one| (line, one)));
+    }
+    if places.is_empty() {
+        return break_up(text, rng);
+    }
+    let (line, place) = rng.pick(&places);
+    let tokens = split_tokens(&lines[line]);
+    let (close, items) = match bracketed(&tokens, place) {
+        Some(found) => {
+            let items = found.items.into_iter();
+            let items = items.map(|item| tokens[item].join(" "));
+            (found.close, items.collect())
+        }
+        None => (place, Vec::new()),
+    };
+    let [before, after] = [&tokens[..=place], &tokens[close + 1..]].map(|side| side.join(" "));
+    let items = match declares {
+        true => other_extents(items, rng),
+        false => other_subscripts(items, rng),
+    };
+    let changed = format!("{before}{items} {after}");
+    lines[line] = changed;
+    lines.join("\n").into_bytes()
+}
+
+/// Subscripts with their brackets: one taken out, added, swapped or changed, or the comma between them.
+fn other_subscripts(mut items: Vec<String>, rng: &mut Rng) -> String {
+    let comma = rng.pick(&[",", ",,", ";", ":", " ", "+", ")(", ", ,", "),("]);
+    let new = rng.pick(&[
+        "1", "2", "0", "9", "1/0", "-1", "zz", "", "1:2", "(1, 2)", ":",
+    ]);
+    match rng.below(10) {
+        0..=2 if !items.is_empty() => {
+            items.remove(rng.below(items.len()));
+        }
+        0..=5 => items.insert(rng.below(items.len() + 1), new.to_string()),
+        6 if items.len() > 1 => items.swap(0, 1),
+        7 if items.len() > 1 => return format!("({})", items.join(comma)),
+        8 => return format!("(({}))", items.join(", ")),
+        _ if !items.is_empty() => {
+            let place = rng.below(items.len());
+            items[place] = new.to_string();
+        }
+        _ => {
+            return rng
+                .pick(&["()", "(1", "(1)(1)", "1)", "(1, 1)", "(1, 1, 1)"])
+                .to_string()
+        }
+    }
+    match items.is_empty() && rng.chance(70) {
+        true => String::new(),
+        false => format!("({})", items.join(", ")),
+    }
+}
+
+/// Extents with their brackets: one taken out, added or another, or both, about their limits.
+fn other_extents(mut items: Vec<String>, rng: &mut Rng) -> String {
+    const BOTH: [&str; 18] = [
+        "64, 64",
+        "64, 65",
+        "4096, 1",
+        "1, 4097",
+        "0, 3",
+        "3, 0",
+        "65536, 65536",
+        "2147483647, 2147483647",
+        "2147483648, 1",
+        "641, 6700417",
+        "2, 2, 2",
+        "2,",
+        ", 2",
+        "2 2",
+        "2; 2",
+        "-2, 2",
+        "2, +2",
+        "n, 2",
+    ];
+    let new = rng.pick(&[
+        "1", "2", "0", "00", "4096", "4097", "65536", "-1", "", "zz", "1:2", "*",
+    ]);
+    match rng.below(8) {
+        0 | 1 if !items.is_empty() => {
+            items.remove(rng.below(items.len()));
+        }
+        0..=3 => items.insert(rng.below(items.len() + 1), new.to_string()),
+        4 if items.len() > 1 => items.swap(0, 1),
+        5 if !items.is_empty() => {
+            let place = rng.below(items.len());
+            items[place] = new.to_string();
+        }
+        _ => return format!("({})", rng.pick(&BOTH)),
+    }
+    match items.is_empty() {
+        true => String::new(),
+        false => format!("({})", items.join(", ")),
+    }
+}
+
 /// Changes the word `max` at this place, or what follows it.
 fn change_call<'t>(tokens: &mut Vec<&'t str>, place: usize, names: &[&'t str], rng: &mut Rng) {
     let next = |sign: &str| {
@@ -474,7 +595,7 @@ fn damage_bytes(text: &[u8], rng: &mut Rng) -> Vec<u8> {
 }
 
 fn damage_lines(text: &[u8], rng: &mut Rng) -> Vec<u8> {
-    const LINES: [&str; 26] = [
+    const LINES: [&str; 31] = [
         "",
         "! x",
         "integer zz",
@@ -491,6 +612,11 @@ fn damage_lines(text: &[u8], rng: &mut Rng) -> Vec<u8> {
         "max = 1",
         "a = max(a, 1)",
         "a = max(a)",
+        "integer zz(2, 3)",
+        "integer zz(2, 3, 4)",
+        "a(1, 1) = 1",
+        "zz(1, 1) = a(1, 1)",
+        "a(1, 1, 1) = 1",
         "!$omp end parallel do",
         "!$omp",
         "do i = 1, 4",

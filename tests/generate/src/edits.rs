@@ -1,14 +1,17 @@
 //! Accepted texts that are changed to say something else: whatever of this is accepted prints differently (document 02,
 //! Point 8).
 
+use std::ops::Range;
+
 use crate::rng::Rng;
+use crate::subscripts::bracketed;
 use crate::variants::{begins, items_of, said, shortest, with_items, Item, Written};
 
 /// Changes a text; nothing if it has no place for that.
 pub type Edit = fn(&Written, &mut Rng) -> Option<Written>;
 
 /// The kinds of edits.
-pub const EDITS: [(&str, Edit); 31] = [
+pub const EDITS: [(&str, Edit); 33] = [
     ("another name", another_name),
     ("another name throughout", rename),
     ("another digit", another_digit),
@@ -21,6 +24,8 @@ pub const EDITS: [(&str, Edit); 31] = [
     ("a sign taken out", take_out_sign),
     ("brackets added", add_brackets),
     ("brackets taken out", take_out_brackets),
+    ("subscripts swapped", swap_subscripts),
+    ("extents swapped", swap_extents),
     ("clauses swapped", swap_clauses),
     ("names of a clause swapped", swap_listed),
     ("clauses joined", join_clauses),
@@ -210,12 +215,15 @@ fn another_relation(written: &Written, rng: &mut Rng) -> Option<Written> {
 }
 
 fn another_function(written: &Written, rng: &mut Rng) -> Option<Written> {
-    let is = |token: &str, word: &str| token.eq_ignore_ascii_case(word);
-    let is_function = |token: &str| is(token, "max") || is(token, "rdiv");
     replace(written, rng, is_function, |token, _| {
-        let other = if is(token, "max") { "rdiv" } else { "max" };
+        let is_max = token.eq_ignore_ascii_case("max");
+        let other = if is_max { "rdiv" } else { "max" };
         Some(other.to_string())
     })
+}
+
+fn is_function(token: &str) -> bool {
+    token.eq_ignore_ascii_case("max") || token.eq_ignore_ascii_case("rdiv")
 }
 
 /// Whether an expression, a bound or a value may begin at this place.
@@ -273,6 +281,47 @@ fn take_out_brackets(written: &Written, rng: &mut Rng) -> Option<Written> {
     tokens.remove(close);
     tokens.remove(open);
     Some(with_line(written, line, &tokens))
+}
+
+/// The two subscripts of a grid's cell, if they are not the same (document 02, Point 9).
+fn swap_subscripts(written: &Written, rng: &mut Rng) -> Option<Written> {
+    swap_two(written, rng, |line| !begins(line, &["integer"]))
+}
+
+/// The two extents of a grid, if they are not the same.
+fn swap_extents(written: &Written, rng: &mut Rng) -> Option<Written> {
+    swap_two(written, rng, |line| begins(line, &["integer"]))
+}
+
+/// What stands in the brackets of a name, on a line that is no directive.
+fn swap_two(written: &Written, rng: &mut Rng, on: impl Fn(&str) -> bool) -> Option<Written> {
+    let mut places = Vec::new();
+    for (line, text) in written.lines.iter().enumerate() {
+        let tokens = said(text);
+        if begins(text, &["!$omp"]) || !on(text) {
+            continue;
+        }
+        let is_name = |place: &usize| !is_function(tokens[*place]);
+        for place in (0..tokens.len()).filter(is_name) {
+            let items = bracketed(&tokens, place).map(|bracketed| bracketed.items);
+            if let Some([one, other]) = items.as_deref() {
+                let form = |item: &Range<usize>| form_of(&tokens[item.clone()].join(" "));
+                if form(one) != form(other) {
+                    places.push((line, one.clone(), other.clone()));
+                }
+            }
+        }
+    }
+    let (line, one, other) = any(&places, rng)?;
+    let tokens = owned(&said(&written.lines[line]));
+    let swapped = [
+        &tokens[..one.start],
+        &tokens[other.clone()],
+        &tokens[one.end..other.start],
+        &tokens[one],
+        &tokens[other.end..],
+    ];
+    Some(with_line(written, line, &swapped.concat()))
 }
 
 // Clauses ---------------------------------------------------------------------------------------------------------
@@ -377,10 +426,19 @@ fn take_out_clause(written: &Written, rng: &mut Rng) -> Option<Written> {
 
 // Declarations and data -------------------------------------------------------------------------------------------
 
-/// What an `integer` line declares.
+/// What an `integer` line declares, each name with its extents: a comma in brackets stands between two of these.
 fn declared(tokens: &[String]) -> Vec<String> {
-    let names = tokens[1..].split(|token| token == ",");
-    names.map(|name| name.join(" ")).collect()
+    let mut names = Vec::new();
+    let mut name = Vec::new();
+    for token in &tokens[1..] {
+        let in_brackets = name.contains(&"(") && !name.contains(&")");
+        match token.as_str() {
+            "," if !in_brackets => names.push(std::mem::take(&mut name).join(" ")),
+            token => name.push(token),
+        }
+    }
+    names.push(name.join(" "));
+    names
 }
 
 fn integer_line(names: &[String]) -> String {
@@ -444,7 +502,10 @@ fn add_zeros(written: &Written, rng: &mut Rng) -> Option<Written> {
     });
     let declared = any(&without.collect::<Vec<_>>(), rng)?;
     let tokens: Vec<&str> = declared.split(' ').collect();
-    let length = tokens.get(2).map_or("1", |length| shortest(length));
+    let extents = tokens
+        .iter()
+        .filter_map(|token| token.parse::<usize>().ok());
+    let length: usize = extents.product();
     let mut edited = written.clone();
     let after = *integers.last()? + 1;
     let line = format!("data {} /{length}*0/", tokens[0]);

@@ -5,6 +5,7 @@ use crate::layout::Layout;
 use crate::lines::{directive, lastprivate, Operation};
 use crate::loops::Loop;
 use crate::rng::Rng;
+use crate::subscripts::with_grids;
 
 /// A hostile loop of a random kind.
 pub fn hostile(rng: &mut Rng) -> Loop {
@@ -21,6 +22,7 @@ pub fn hostile(rng: &mut Rng) -> Loop {
         6 => guard_opened(rng, first, last),
         _ => guard_closed(rng, first, last),
     };
+    let lines = with_grids(rng, lines);
     let layout = rng.pick(&[Layout::PLAIN, Layout::VARIED]);
     Loop::of_lines(lines, 1 + rng.below(8), cells, layout, rng)
 }

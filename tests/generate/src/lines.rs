@@ -68,3 +68,18 @@ pub fn with_data(mut lines: Vec<String>, name: &str, values: &[i32]) -> Vec<Stri
     lines.insert(1, format!("data {name} /{}/", values.join(", ")));
     lines
 }
+
+/// The most brackets open together.
+pub fn open_brackets(text: &str) -> usize {
+    let mut open = 0;
+    let mut most = 0;
+    for byte in text.bytes() {
+        match byte {
+            b'(' => open += 1,
+            b')' => open -= 1,
+            _ => {}
+        }
+        most = most.max(open);
+    }
+    most
+}

@@ -1,9 +1,11 @@
 //! Random loops that every reader must accept, and the knobs that say of what kind.
 
 use crate::builder::Builder;
-use crate::layout::{write_text, Layout};
+use crate::layout::{split_tokens, write_text, Layout};
 use crate::lines::{Operation, DIRECTIVE};
 use crate::rng::Rng;
+use crate::subscripts::bracketed;
+use crate::variants::begins;
 
 /// What kind of loop is wanted.
 #[derive(Debug, Clone, Copy)]
@@ -171,6 +173,16 @@ impl Loop {
         Operation::ALL
             .into_iter()
             .any(|operation| self.has(operation))
+    }
+
+    /// Whether it has a grid (document 02, Point 9).
+    pub fn has_grids(&self) -> bool {
+        let mut declared = self.lines.iter().filter(|line| begins(line, &["integer"]));
+        declared.any(|line| {
+            let tokens = split_tokens(line);
+            let mut all = (0..tokens.len()).filter_map(|place| bracketed(&tokens, place));
+            all.any(|declared| declared.items.len() == 2)
+        })
     }
 
     /// Whether a name was drawn to stand in both clauses.

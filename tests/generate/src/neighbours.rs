@@ -5,6 +5,7 @@ use crate::layout::Layout;
 use crate::lines::{lastprivate, lines, with_data, Operation};
 use crate::loops::Loop;
 use crate::rng::Rng;
+use crate::subscripts::with_grids;
 
 /// Percent of these loops that are tested by blocks.
 const BY_BLOCKS: u32 = 80;
@@ -22,6 +23,7 @@ pub fn neighbours(rng: &mut Rng) -> Loop {
         6 => sum_meets_once(rng, count),
         _ => subscript_carried(rng, count),
     };
+    let lines = with_grids(rng, lines);
     let layout = rng.pick(&[Layout::PLAIN, Layout::VARIED, Layout::ODD]);
     let processors = 1 + rng.below(8);
     let drawn = Loop::of_lines(lines, processors, cells, layout, rng);

@@ -19,7 +19,7 @@ pub fn bytes(rng: &mut Rng) -> Vec<u8> {
 
 /// Tokens of the language in any order, a few to a line.
 pub fn soup(rng: &mut Rng) -> Vec<u8> {
-    const TOKENS: [&str; 59] = [
+    const TOKENS: [&str; 64] = [
         "integer",
         "data",
         "do",
@@ -77,6 +77,11 @@ pub fn soup(rng: &mut Rng) -> Vec<u8> {
         "schedule(static)",
         ":",
         "a(4)",
+        "a(2, 2)",
+        "a(1, i)",
+        "a(2, 2, 2)",
+        "integer a(2, 2), b",
+        "a(1, 1) = b",
         "end do",
         "end if",
     ];

@@ -20,7 +20,8 @@ pub fn range(rng: &mut Rng) -> Vec<u8> {
     };
     let directive = format!("!$omp parallel do num_threads(2){clause}");
     let (first, last) = (signed(rng, first), signed(rng, last));
-    format!("integer a\n{directive}\ndo i = {first}, {last}\nend do\n").into_bytes()
+    let name = rng.pick(&["a", "a", "a(3)", "a(2, 3)"]);
+    format!("integer {name}\n{directive}\ndo i = {first}, {last}\nend do\n").into_bytes()
 }
 
 /// A literal with its sign, at times with one that it need not have, a blank or leading zeros.

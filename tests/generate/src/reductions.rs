@@ -5,6 +5,7 @@ use crate::layout::Layout;
 use crate::lines::{lastprivate, lines, with_data, Operation};
 use crate::loops::Loop;
 use crate::rng::Rng;
+use crate::subscripts::with_grids;
 
 /// Percent of the names in `lastprivate` that are in `firstprivate` too.
 const COPIED: u32 = 70;
@@ -23,6 +24,7 @@ pub fn reductions(rng: &mut Rng) -> Loop {
         16 | 17 => faults_in_remainders(rng, count),
         _ => read_before_grown(rng, count),
     };
+    let lines = with_grids(rng, lines);
     let layout = rng.pick(&[Layout::PLAIN, Layout::VARIED, Layout::ODD]);
     let processors = 1 + rng.below(8);
     Loop::of_lines(lines, processors, cells, layout, rng)
@@ -31,7 +33,7 @@ pub fn reductions(rng: &mut Rng) -> Loop {
 type Drawn = (Vec<String>, Vec<i32>);
 
 /// An update of a reference by a cell, in one of several forms.
-fn update(rng: &mut Rng, operation: Operation, reference: &str, cell: &str) -> String {
+pub fn update(rng: &mut Rng, operation: Operation, reference: &str, cell: &str) -> String {
     let forms: &[&str] = match operation {
         Operation::Sum => &["@ + #", "@ - #", "@ - 2*# + i", "@ - (#)"],
         Operation::Product => &[

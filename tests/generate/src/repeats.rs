@@ -4,6 +4,7 @@
 use crate::layout::{write_text, Layout};
 use crate::lend::extreme;
 use crate::rng::Rng;
+use crate::subscripts::extents;
 
 /// Such a text.
 pub fn repeats(rng: &mut Rng) -> Vec<u8> {
@@ -19,14 +20,19 @@ pub fn repeats(rng: &mut Rng) -> Vec<u8> {
 /// Its printed form has 2,048 bytes, or some more or fewer.
 fn near_the_limit(rng: &mut Rng) -> Vec<String> {
     let name = "q".repeat(1 + rng.below(8));
-    let cells = 485 + rng.below(3);
     let value = rng.below(10);
+    // A second extent and subscript are as long as two copies.
+    let (cells, [before, after]) = match rng.below(4) {
+        0 => (483 + rng.below(3), ["", ", 1"]),
+        1 => (483 + rng.below(3), ["1, ", ""]),
+        _ => (485 + rng.below(3), ["", ""]),
+    };
     let text = format!(
-        "integer a({cells}), {name}\n\
+        "integer a({before}{cells}{after}), {name}\n\
          data a /{cells}*{value}/\n\
          !$omp parallel do num_threads(2)\n\
          do i = 1, 9\n\
-         a(i) = i\n\
+         a({before}i{after}) = i\n\
          end do"
     );
     text.lines().map(str::to_string).collect()
@@ -52,17 +58,26 @@ fn many_cells(rng: &mut Rng) -> Vec<String> {
             1 + rng.below(left)
         };
         left -= cells;
-        names.push(format!("{name}({cells})"));
+        let (rows, columns) = extents(rng, cells);
+        let is_grid = rng.chance(40);
+        names.push(match is_grid {
+            true => format!("{name}({rows}, {columns})"),
+            false => format!("{name}({cells})"),
+        });
         if rng.chance(85) {
             lines.push(format!("data {name} /{}/", items(rng, cells)));
         }
     }
     rng.shuffle(&mut lines);
     lines.insert(0, format!("integer {}", names.join(", ")));
+    let statement = match names[0].contains(',') {
+        true => "a(1, 01) = a(001, 1) + 001",
+        false => "a(1) = a(1) + 001",
+    };
     let body = [
         "!$omp parallel do num_threads(3) shared(a)",
         "do i = 1, 4",
-        "a(1) = a(1) + 001",
+        statement,
         "end do",
     ];
     lines.extend(body.map(str::to_string));

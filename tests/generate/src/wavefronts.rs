@@ -5,6 +5,7 @@ use crate::layout::Layout;
 use crate::lines::{lastprivate, lines, Operation};
 use crate::loops::Loop;
 use crate::rng::Rng;
+use crate::subscripts::with_grids;
 
 /// Percent of the loops with subscripts in cells whose last few go beyond their array.
 const SPOILED: u32 = 10;
@@ -20,6 +21,7 @@ pub fn wavefronts(rng: &mut Rng) -> (Loop, Vec<i32>) {
         3 => many_readers(rng, count),
         _ => through_numbers(rng, count),
     };
+    let lines = with_grids(rng, lines);
     let layout = rng.pick(&[Layout::PLAIN, Layout::VARIED]);
     let processors = 1 + rng.below(8);
     let loaded = vec![0; cells.len()];

@@ -2,12 +2,12 @@
 
 use generate::layout::split_tokens;
 use generate::{
-    copies, damage, edits, hostile, lend, neighbours, noise, ranges, reductions, repeats, variants,
-    wavefronts, Copied, Knobs, Loop, Operation, Rng, Turned,
+    copies, damage, edits, grids, hostile, lend, neighbours, noise, ranges, reductions, repeats,
+    variants, wavefronts, Copied, Knobs, Loop, Operation, Rng, Turned,
 };
 
 /// Texts of all kinds, a schedule and names to ask for, and cells.
-fn draw(seed: u64) -> ([Vec<u8>; 16], Vec<i32>) {
+fn draw(seed: u64) -> ([Vec<u8>; 17], Vec<i32>) {
     let mut rng = Rng::new(seed);
     let knobs = Knobs::mixed(&mut rng);
     let good = Loop::random(&mut rng, &knobs).text();
@@ -16,6 +16,7 @@ fn draw(seed: u64) -> ([Vec<u8>; 16], Vec<i32>) {
         neighbours::neighbours(&mut rng).text(),
         copies::copies(&mut rng).text(),
         reductions::reductions(&mut rng).text(),
+        grids::grids(&mut rng).text(),
         wavefronts::wavefronts(&mut rng).0.text(),
         damage::damage(&good, &mut rng),
         noise::soup(&mut rng),
@@ -68,7 +69,7 @@ fn most_texts_are_short_enough() {
 }
 
 /// A loop of each kind.
-fn one_of_each(seed: u64) -> [Loop; 6] {
+fn one_of_each(seed: u64) -> [Loop; 7] {
     let mut rng = Rng::new(seed);
     let knobs = Knobs::mixed(&mut rng);
     [
@@ -77,6 +78,7 @@ fn one_of_each(seed: u64) -> [Loop; 6] {
         neighbours::neighbours(&mut rng),
         copies::copies(&mut rng),
         reductions::reductions(&mut rng),
+        grids::grids(&mut rng),
         wavefronts::wavefronts(&mut rng).0,
     ]
 }
@@ -277,6 +279,42 @@ fn operations_are_frequent() {
     assert!(counts[4] > 300 && counts[5] > 20);
 }
 
+/// Each generator draws grids often (document 02, Point 9): of one row, of one column and of more of both.
+#[test]
+fn grids_are_frequent() {
+    let mut counts = [0; 7];
+    let mut extents = [0; 4];
+    for seed in 0..1000 {
+        for (drawn, count) in one_of_each(seed).iter().zip(&mut counts) {
+            *count += u32::from(drawn.has_grids());
+            let text = String::from_utf8(drawn.text()).unwrap().to_lowercase();
+            let declared = text
+                .lines()
+                .filter(|line| line.trim_start().starts_with("integer"));
+            for line in declared {
+                let tokens = split_tokens(line);
+                for window in tokens.windows(5).filter(|window| window[2] == ",") {
+                    let [open, rows, _, columns, close] = window else {
+                        continue;
+                    };
+                    let literal = |token: &str| token.parse::<usize>().ok();
+                    let kind = match (*open, literal(rows), literal(columns), *close) {
+                        ("(", Some(1), Some(1), ")") => 0,
+                        ("(", Some(1), Some(_), ")") => 1,
+                        ("(", Some(_), Some(1), ")") => 2,
+                        ("(", Some(_), Some(_), ")") => 3,
+                        _ => continue,
+                    };
+                    extents[kind] += 1;
+                }
+            }
+        }
+    }
+    println!("loops with grids, of each kind: {counts:?}; one by one, one row, one column, more: {extents:?}");
+    assert!(counts.iter().all(|&loops| loops > 250) && counts[5] == 1000);
+    assert!(extents[0] > 100 && extents[1..].iter().all(|&grids| grids > 500));
+}
+
 /// Forms about as long as a text may be are frequent, and so are those of all cells.
 #[test]
 fn copies_of_data_are_frequent() {
@@ -285,9 +323,10 @@ fn copies_of_data_are_frequent() {
         .map(|text| String::from_utf8(text).unwrap().replace(' ', ""))
         .collect();
     let with = |word: &str| texts.iter().filter(|text| text.contains(word)).count();
-    let counts = (with("485*"), with("486*"), with("487*"), with("(4096)"));
-    println!("of 485, 486 and 487 copies, of 4,096 cells in one name: {counts:?}");
-    assert!(counts.0 > 60 && counts.1 > 60 && counts.2 > 60 && counts.3 > 40);
+    let [arrays, grids] = ["(4096)", ",1)"].map(with);
+    let counts = ["483*", "484*", "485*", "486*", "487*"].map(with);
+    println!("of 483 to 487 copies: {counts:?}; arrays of 4,096 cells, grids of one column: {arrays}, {grids}");
+    assert!(counts.iter().all(|&texts| texts > 40) && arrays > 20 && grids > 100);
 }
 
 #[test]

@@ -1,7 +1,7 @@
 //! RULES 9.2 b and c: Bounds and Name, two services beside those of the documents, which say what an accepted text
 //! declares.
 
-use crate::program::Program;
+use crate::program::{Declared, Program};
 use crate::reader::read;
 use crate::syntax::{Class, Grouping, Operation};
 use crate::Refusal;
@@ -24,10 +24,14 @@ pub struct NameCells {
     pub first: u32,
     /// How many it has.
     pub cells: u32,
-    /// "`z` is one cell, `a(n)` is n cells numbered from 1": whether it was declared as `a` is.
-    pub subscripts: bool,
+    /// How many subscripts it takes: none as `z` does, one as `a(n)`, two as a grid.
+    pub subscripts: u32,
     /// The number of its clause.
     pub clause: u32,
+    /// The bound of its first subscript, if it takes one: an array's length, the rows of a grid; else 0.
+    pub rows: u32,
+    /// The bound of its second subscript, if it takes two; else 0.
+    pub columns: u32,
 }
 
 /// Bounds takes the text. It refuses as Check does.
@@ -49,17 +53,28 @@ impl Program {
     /// The cells of the declared name that these bytes spell: "Upper case reads as lower case." v is
     /// undeclared, and a blank is no part of a name.
     pub fn cells_of(&self, asked: &[u8]) -> Result<NameCells, Refusal> {
-        let spelt = asked.to_ascii_lowercase();
-        let mut names = self.names.iter();
-        let declared = names
-            .find(|declared| declared.name.as_bytes() == spelt)
-            .ok_or(Refusal::of_text(3, 0))?;
+        let declared = self.declared(asked).ok_or(Refusal::of_text(3, 0))?;
+        let extent = |place: usize| {
+            declared
+                .extents
+                .get(place)
+                .map_or(0, |&extent| extent as u32)
+        };
         Ok(NameCells {
             first: declared.first_cell as u32,
-            cells: declared.length as u32,
-            subscripts: declared.is_array,
+            cells: declared.length() as u32,
+            subscripts: declared.extents.len() as u32,
             clause: number_of(declared.class),
+            rows: extent(0),
+            columns: extent(1),
         })
+    }
+
+    /// The declared name that these bytes spell, all of them.
+    pub(crate) fn declared(&self, asked: &[u8]) -> Option<&Declared> {
+        let spelt = asked.to_ascii_lowercase();
+        let mut names = self.names.iter();
+        names.find(|declared| declared.name.as_bytes() == spelt)
     }
 }
 

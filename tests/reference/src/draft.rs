@@ -65,14 +65,13 @@ impl Draft {
         self.names.iter().position(|declared| declared.name == name)
     }
 
-    fn declare(&mut self, declarations: &[(String, Option<u64>)]) {
-        for (name, length) in declarations {
-            let first_cell = self.names.iter().map(|declared| declared.length).sum();
+    fn declare(&mut self, declarations: &[(String, Vec<u64>)]) {
+        for (name, extents) in declarations {
+            let first_cell = self.names.iter().map(Declared::length).sum();
             self.names.push(Declared {
                 name: name.clone(),
                 first_cell,
-                length: length.unwrap_or(1) as usize,
-                is_array: length.is_some(),
+                extents: extents.iter().map(|&extent| extent as usize).collect(),
                 class: Class::Shared,
                 data: None,
             });

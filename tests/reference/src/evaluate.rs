@@ -34,7 +34,7 @@ pub enum Stop {
 /// Why an expression has no value.
 enum NoValue {
     Paused,
-    /// "subscript outside its array"
+    /// "subscript outside its array", or outside its own bound of a grid
     Subscript,
     /// "zero divisor"
     Divisor,
@@ -193,22 +193,32 @@ impl<M: Memory> Iteration<'_, M> {
 
     /// The cell a reference stands for. "A subscript is tested against its array [...] as soon as
     /// it is worked out" (READING 57), on the wrapped value (READING 60); arrays are "numbered
-    /// from 1".
+    /// from 1". Document 02, Point 9: "Both subscripts are worked out, then each is tested against its own
+    /// bound", the first one first (P9.4); "stored in Fortran's element order, first subscript fastest" (P9.5).
     fn cell(&mut self, named: &Named<Place>) -> Result<usize, NoValue> {
         let Place::Name(index) = named.name else {
             unreachable!("v is no cell")
         };
         let program = self.program;
         let declared = &program.names[index];
-        let Some(subscript) = &named.subscript else {
-            return Ok(declared.first_cell);
-        };
-        let number = self.expression(subscript)?;
-        match usize::try_from(number) {
-            Ok(number) if (1..=declared.length).contains(&number) => {
-                Ok(declared.first_cell + number - 1)
+        let place = match (&named.subscripts[..], &declared.extents[..]) {
+            ([], []) => 0,
+            ([subscript], [length]) => from_0(self.expression(subscript)?, *length)?,
+            ([row, column], [rows, columns]) => {
+                let (row, column) = (self.expression(row)?, self.expression(column)?);
+                let (row, column) = (from_0(row, *rows)?, from_0(column, *columns)?);
+                row + column * rows
             }
-            _ => Err(NoValue::Subscript),
-        }
+            _ => unreachable!("as many subscripts as the name takes"),
+        };
+        Ok(declared.first_cell + place)
+    }
+}
+
+/// A subscript from 1 to its bound, counted from 0.
+fn from_0(subscript: i32, bound: usize) -> Result<usize, NoValue> {
+    match usize::try_from(subscript) {
+        Ok(number) if (1..=bound).contains(&number) => Ok(number - 1),
+        _ => Err(NoValue::Subscript),
     }
 }

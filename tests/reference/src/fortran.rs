@@ -1,6 +1,7 @@
 //! A loop as a Fortran program, or as a procedure of one: the given cells are set, the loop runs, and every
-//! cell is printed on a line of its own. For `gfortran -fwrapv -fcheck=bounds`; a subscript outside its array
-//! ends the program with status 2, a zero divisor with status 10.
+//! cell is printed on a line of its own, a grid's as Fortran orders them. After them come the cells of each grid
+//! again, by rows as Fortran's `transpose` has them. For `gfortran -fwrapv -fcheck=bounds`; a subscript outside its
+//! array ends the program with status 2, a zero divisor with status 10.
 
 use crate::accesses::Access;
 use crate::program::{Action, Declared, Place, Program, Statement};
@@ -22,7 +23,8 @@ pub enum Threads {
 
 /// The Fortran program for an accepted text and as many cells as it has, without its directive. `None` for
 /// other texts and where Fortran has no such loop: an end of 2147483647, which the variable would pass
-/// (READING 97), and a variable `concurrent`, for `do concurrent` begins another statement.
+/// (READING 97), and a variable `concurrent`, for `do concurrent` begins another statement; and where a name hides
+/// the function `transpose`.
 pub fn fortran(text: &[u8], cells: &[i32]) -> Option<String> {
     let program = for_fortran(text, cells)?;
     let main = unused_name("loop", &program);
@@ -55,7 +57,8 @@ pub fn fortran_of_all(loops: &[(&[u8], &[i32])], threads: Threads) -> Option<Str
 fn for_fortran(text: &[u8], cells: &[i32]) -> Option<Program> {
     let program = read(text).ok()?;
     let passes_the_end = program.iteration_count() > 0 && program.last == i32::MAX;
-    let has_none = passes_the_end || program.variable == "concurrent";
+    let has_none =
+        passes_the_end || program.variable == "concurrent" || is_used(TRANSPOSE, &program);
     (cells.len() == program.cell_count() && !has_none).then_some(program)
 }
 
@@ -131,6 +134,11 @@ impl<'a> Printer<'a> {
         for declared in &self.program.names {
             lines.put(1, &format!("write (*, '(i0)') {}", declared.name));
         }
+        let names = self.program.names.iter();
+        for grid in names.filter(|declared| declared.grid().is_some()) {
+            let name = &grid.name;
+            lines.put(1, &format!("write (*, '(i0)') {TRANSPOSE}({name})"));
+        }
         lines.put(0, "contains");
         lines.text += &QUOTIENT.replace("QUOTIENT", &self.quotient);
         lines.text += ROUNDED;
@@ -159,19 +167,19 @@ impl<'a> Printer<'a> {
     }
 
     fn set_cells(&self, declared: &Declared, cells: &[i32], lines: &mut Lines) {
-        let values = &cells[declared.first_cell..][..declared.length];
-        for (value, number) in values.iter().zip(1..) {
+        let values = &cells[declared.first_cell..][..declared.length()];
+        for (place, value) in values.iter().enumerate() {
             let value = if *value == i32::MIN {
                 "-2147483647 - 1".to_string()
             } else {
                 value.to_string()
             };
-            let subscript = if declared.is_array {
-                format!("({number})")
-            } else {
-                String::new()
+            let subscripts = match declared.extents[..] {
+                [] => String::new(),
+                [rows, _] => format!("({}, {})", place % rows + 1, place / rows + 1),
+                _ => format!("({})", place + 1),
             };
-            lines.put(1, &format!("{}{subscript} = {value}", declared.name));
+            lines.put(1, &format!("{}{subscripts} = {value}", declared.name));
         }
     }
 }
@@ -226,9 +234,13 @@ impl Printer<'_> {
             Place::Variable => &self.program.variable,
             Place::Name(index) => &self.program.names[index].name,
         };
-        match &named.subscript {
-            None => vec![name.clone()],
-            Some(subscript) => call(name, vec![self.expression(subscript).pieces]),
+        let subscripts = named.subscripts.iter();
+        match named.subscripts[..] {
+            [] => vec![name.clone()],
+            _ => call(
+                name,
+                subscripts.map(|e| self.expression(e).pieces).collect(),
+            ),
         }
     }
 }
@@ -333,23 +345,24 @@ fn join(mut left: Pieces, between: &str, right: Pieces) -> Pieces {
 }
 
 fn declaration(declared: &Declared) -> String {
-    if declared.is_array {
-        format!("integer :: {}({})", declared.name, declared.length)
-    } else {
-        format!("integer :: {}", declared.name)
+    let extents: Vec<String> = declared.extents.iter().map(usize::to_string).collect();
+    match extents.join(", ").as_str() {
+        "" => format!("integer :: {}", declared.name),
+        extents => format!("integer :: {}({extents})", declared.name),
     }
 }
 
 /// The wish, with underscores added until the text has no such name.
 fn unused_name(wish: &str, program: &Program) -> String {
     let mut name = wish.to_string();
-    let is_used = |name: &String| {
-        *name == program.variable || program.names.iter().any(|one| one.name == *name)
-    };
-    while is_used(&name) {
+    while is_used(&name, program) {
         name.push('_');
     }
     name
+}
+
+fn is_used(name: &str, program: &Program) -> bool {
+    name == program.variable || program.names.iter().any(|one| one.name == name)
 }
 
 /// Free-form lines, broken before Fortran's limit of 132 columns.
@@ -380,6 +393,9 @@ impl Lines {
         self.text += "\n";
     }
 }
+
+/// Fortran's own function, by which rows become columns.
+const TRANSPOSE: &str = "transpose";
 
 /// "`/` truncates toward zero", as in Fortran; −2147483648 / −1 is the negation, which wraps.
 const QUOTIENT: &str = "\

@@ -1,7 +1,7 @@
 //! An interpreter of the rules that docs/RULES.md tells: of document 01, the client's specification, and of its
-//! change requests, document 02, Points 1 to 8. It is written apart from the product and for obviousness: bytes,
-//! lines, tokens, a tree, names and limits, then evaluation with the whole list of accesses kept. Marks, obstacles, private values, partial results, counts and stages are taken from that
-//! list as the documents word them.
+//! change requests, document 02, Points 1 to 9. It is written apart from the product and for obviousness: bytes,
+//! lines, tokens, a tree, names and limits, then evaluation with the whole list of accesses kept. Marks, obstacles,
+//! private values, partial results, counts and stages are taken from that list as the documents word them.
 //!
 //! Comments quote these documents; "READING 44" is the entry of that number in the project's reading
 //! of document 01, "P1.2" or "7.3" one of document 02, which stand behind every choice they leave.
@@ -13,6 +13,7 @@ mod describe;
 mod draft;
 mod evaluate;
 mod fortran;
+mod grids;
 mod groups;
 mod integers;
 mod lines;
@@ -37,6 +38,7 @@ pub use accesses::{Access, Kind};
 pub use alike::alike;
 pub use describe::{bounds, name, Bounds, NameCells};
 pub use fortran::{fortran, fortran_of_all, Threads};
+pub use grids::{columns, rows};
 pub use integers::{divide_rounded, divide_truncated};
 pub use obstacles::obstacles;
 pub use plan::{depend, touches, Touched};
@@ -57,7 +59,7 @@ pub struct Refusal {
 }
 
 impl Refusal {
-    /// A refusal before any iteration, for which v is 0; 1, 5 to 8, 11 and 12 have line 0.
+    /// A refusal before any iteration, for which v is 0; 1, 5 to 8 and 11 to 13 have line 0.
     pub(crate) fn of_text(number: u32, line: u32) -> Self {
         Refusal { number, line, v: 0 }
     }

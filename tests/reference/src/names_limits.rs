@@ -2,18 +2,18 @@
 //! (READING 24).
 
 use crate::draft::Draft;
-use crate::program::Place;
+use crate::program::{Declared, Place};
 use crate::syntax::{
     Assignment, Class, Clause, Condition, Expression, Factor, Form, Item, Named, Signed, Term,
     Update, Written,
 };
 
 /// "Limits: literals to 2,147,483,647; names 16; array length 1 to 4,096; N to 4,096; P 1 to 8;
-/// n to 65,535; `if` depth 8; brackets open together in a statement 8"
+/// n to 65,535; `if` depth 8; brackets open together in a statement 8"; document 02, Point 9: "m × n up to 4,096"
 const LITERAL_LIMIT: u64 = 2_147_483_647;
 const NAME_LIMIT: usize = 16;
-const LENGTH_LIMIT: u64 = 4096;
-const CELL_LIMIT: u64 = 4096;
+const LENGTH_LIMIT: u128 = 4096;
+const CELL_LIMIT: u128 = 4096;
 const PROCESSOR_LIMIT: u64 = 8;
 const ITERATION_LIMIT: i64 = 65_535;
 const IF_LIMIT: usize = 8;
@@ -50,7 +50,7 @@ impl Draft {
             .fold(0u64, |count, item| count.saturating_add(item.copies));
         self.find(name).is_some_and(|index| {
             let declared = &self.names[index];
-            declared.data.is_none() && count == declared.length as u64
+            declared.data.is_none() && count == declared.length() as u64
         })
     }
 
@@ -153,22 +153,23 @@ impl Draft {
         })
     }
 
-    /// "name unknown, [...] a subscript missing, or on a single cell or v" (READING 35, 36, 37)
+    /// "name unknown, [...] a subscript missing, or on a single cell or v" (READING 35, 36, 37). Document 02, Point 9:
+    /// "One subscript where two belong, or two for one, is 3" (P9.2, P9.3).
     fn resolve_named(&self, written: &Named<String>) -> Option<Named<Place>> {
-        let (name, takes_subscript) = if self.variable.as_ref() == Some(&written.name) {
-            (Place::Variable, false)
+        let (name, taken) = if self.variable.as_ref() == Some(&written.name) {
+            (Place::Variable, 0)
         } else {
             let index = self.find(&written.name)?;
-            (Place::Name(index), self.names[index].is_array)
+            (Place::Name(index), self.names[index].extents.len())
         };
-        if written.subscript.is_some() != takes_subscript {
+        if written.subscripts.len() != taken {
             return None;
         }
-        let subscript = match &written.subscript {
-            Some(subscript) => Some(Box::new(self.resolve_expression(subscript)?)),
-            None => None,
-        };
-        Some(Named { name, subscript })
+        let mut subscripts = Vec::new();
+        for subscript in &written.subscripts {
+            subscripts.push(self.resolve_expression(subscript)?);
+        }
+        Some(Named { name, subscripts })
     }
 }
 
@@ -192,17 +193,24 @@ impl Draft {
             }
     }
 
-    /// "names 16; array length 1 to 4,096; N to 4,096" (READING 28, 29, 30)
-    fn declarations_fit(&self, declarations: &[(String, Option<u64>)]) -> bool {
-        let so_far: usize = self.names.iter().map(|declared| declared.length).sum();
-        let mut lengths = declarations.iter().map(|(_, length)| length.unwrap_or(1));
-        lengths.all(|length| (1..=LENGTH_LIMIT).contains(&length))
+    /// "names 16; array length 1 to 4,096; N to 4,096" (READING 28, 29, 30); N counts the cells of grids too (P9.1).
+    fn declarations_fit(&self, declarations: &[(String, Vec<u64>)]) -> bool {
+        let so_far: usize = self.names.iter().map(Declared::length).sum();
+        let lengths: Vec<u128> = declarations
+            .iter()
+            .map(|(_, extents)| product(extents))
+            .collect();
+        lengths
+            .iter()
+            .all(|length| (1..=LENGTH_LIMIT).contains(length))
             && self.names.len() + declarations.len() <= NAME_LIMIT
-            && declarations
-                .iter()
-                .fold(so_far as u64, |sum, (_, length)| sum + length.unwrap_or(1))
-                <= CELL_LIMIT
+            && so_far as u128 + lengths.iter().sum::<u128>() <= CELL_LIMIT
     }
+}
+
+/// How many cells these extents make: 1 if there are none; "m x n is taken exactly" (P9.1). An extent of 0 makes none.
+fn product(extents: &[u64]) -> u128 {
+    extents.iter().map(|&extent| u128::from(extent)).product()
 }
 
 /// "n to 65,535", n - m + 1 taken exactly (READING 40).

@@ -17,6 +17,9 @@ const RESERVED: [&str; 11] = [
 /// "Names are a letter and up to 30 letters, digits or underscores." (READING 20)
 const NAME_LENGTH: usize = 31;
 
+/// Document 02, Point 9: "three or more, declared or used, are 2" (P9.3).
+const MOST_SUBSCRIPTS: usize = 2;
+
 /// The form of a line; `None` if the line is skipped.
 pub fn parse_line(line: &Line) -> Result<Option<Written>, Broken> {
     let (content, directive) = match line {
@@ -170,20 +173,15 @@ impl Cursor<'_> {
         }
     }
 
-    /// `integer` and names, "`z` is one cell, `a(n)` is n cells" (READING 28).
+    /// `integer` and names, "`z` is one cell, `a(n)` is n cells" (READING 28); document 02, Point 9: "Allow `a(m, n)`",
+    /// literals without sign (P9.1).
     fn integer_line(&mut self) -> Result<Form, Broken> {
         self.expect_word("integer")?;
         Ok(Form::Integer(self.list(Self::declaration)?))
     }
 
-    fn declaration(&mut self) -> Result<(String, Option<u64>), Broken> {
-        let name = self.name()?;
-        if !self.accept_sign("(") {
-            return Ok((name, None));
-        }
-        let length = self.literal()?;
-        self.expect_sign(")")?;
-        Ok((name, Some(length)))
+    fn declaration(&mut self) -> Result<(String, Vec<u64>), Broken> {
+        Ok((self.name()?, self.one_or_two(Self::literal)?))
     }
 
     /// `data name /list/` (READING 47, 52)
@@ -506,14 +504,27 @@ impl<'t> Cursor<'t> {
         Ok((Box::new(one), Box::new(other)))
     }
 
-    /// A name, and a subscript in brackets if one follows.
+    /// A name, and one or two subscripts in brackets if they follow, whatever the name is (P9.3).
     fn reference(&mut self) -> Result<Named<String>, Broken> {
         let name = self.name()?;
-        let subscript = match self.peek() {
-            Some(Token::Sign("(")) => Some(self.in_brackets()?),
-            _ => None,
-        };
-        Ok(Named { name, subscript })
+        let subscripts = self.one_or_two(Self::expression)?;
+        Ok(Named { name, subscripts })
+    }
+
+    /// One or two things in brackets, parted by a comma; none if no bracket follows.
+    fn one_or_two<T>(
+        &mut self,
+        item: impl FnMut(&mut Self) -> Result<T, Broken>,
+    ) -> Result<Vec<T>, Broken> {
+        if !self.accept_sign("(") {
+            return Ok(Vec::new());
+        }
+        let items = self.list(item)?;
+        self.expect_sign(")")?;
+        match items.len() <= MOST_SUBSCRIPTS {
+            true => Ok(items),
+            false => Err(Broken),
+        }
     }
 
     fn in_brackets(&mut self) -> Result<BoxedExpression, Broken> {

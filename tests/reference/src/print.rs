@@ -28,14 +28,14 @@ fn run_and_print(text: &[u8]) -> Result<String, Refusal> {
     Ok(comment + &data_lines(text, &cells))
 }
 
-/// "a data line per name", with every cell (READING 95).
+/// "a data line per name", with every cell (READING 95), those of a grid in its element order (P9.5).
 fn data_lines(text: &[u8], cells: &[i32]) -> String {
     let program = read(text).expect("a text that has run");
     program
         .names
         .iter()
         .map(|declared| {
-            let values = &cells[declared.first_cell..][..declared.length];
+            let values = &cells[declared.first_cell..][..declared.length()];
             let values: Vec<String> = values.iter().map(i32::to_string).collect();
             format!("data {} /{}/\n", declared.name, values.join(","))
         })

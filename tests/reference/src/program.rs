@@ -28,14 +28,28 @@ pub struct Declared {
     pub name: String,
     /// The number of its first cell, from 0, "in declared order".
     pub first_cell: usize,
-    /// How many cells it has.
-    pub length: usize,
-    /// Whether it has a length and needs a subscript; `a(1)` is an array too (READING 31).
-    pub is_array: bool,
+    /// The bounds of the subscripts that it takes: none of a single cell, the length of an array, rows and columns
+    /// of a grid. `a(1)` is an array too (READING 31), and `g(1, 1)` a grid (P9.2).
+    pub extents: Vec<usize>,
     /// How its cells are treated.
     pub class: Class,
     /// The values of its data line, if it has one.
     pub data: Option<Vec<i32>>,
+}
+
+impl Declared {
+    /// How many cells it has.
+    pub fn length(&self) -> usize {
+        self.extents.iter().product()
+    }
+
+    /// The rows and columns of a grid; nothing else has any (P9.2).
+    pub fn grid(&self) -> Option<(usize, usize)> {
+        match self.extents[..] {
+            [rows, columns] => Some((rows, columns)),
+            _ => None,
+        }
+    }
 }
 
 /// What a name in a statement stands for.
@@ -81,7 +95,7 @@ pub enum Action {
 impl Program {
     /// N, "the number of cells".
     pub fn cell_count(&self) -> usize {
-        self.names.iter().map(|declared| declared.length).sum()
+        self.names.iter().map(Declared::length).sum()
     }
 
     /// n, "the iterations". "If n < m there are no iterations."
@@ -107,7 +121,7 @@ impl Program {
     pub fn cell_classes(&self) -> Vec<Class> {
         self.names
             .iter()
-            .flat_map(|declared| std::iter::repeat_n(declared.class, declared.length))
+            .flat_map(|declared| std::iter::repeat_n(declared.class, declared.length()))
             .collect()
     }
 
@@ -117,7 +131,7 @@ impl Program {
             .iter()
             .flat_map(|declared| match &declared.data {
                 Some(values) => values.clone(),
-                None => vec![0; declared.length],
+                None => vec![0; declared.length()],
             })
             .collect()
     }

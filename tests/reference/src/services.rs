@@ -1,5 +1,5 @@
 //! Document 01, "Services and answers": Check, Load, Look and Run, with the trial and the serial run
-//! that Run is made of. Document 02, Point 7: Plan; Point 8: Print.
+//! that Run is made of. Document 02, Point 7: Plan; Point 8: Print. (`grids` has the two of Point 9.)
 
 use crate::plan::stages;
 use crate::printed::printed;
@@ -159,7 +159,7 @@ fn run_trial(program: &Program, cells: &[i32], schedule: &[u8]) -> Trial {
 }
 
 /// Numbers 1 to 5: "cells lent not exactly N" is 5.
-fn read_for(text: &[u8], cells: usize) -> Result<Program, Refusal> {
+pub(crate) fn read_for(text: &[u8], cells: usize) -> Result<Program, Refusal> {
     let program = read(text)?;
     if cells != program.cell_count() {
         return Err(Refusal::of_text(5, 0));

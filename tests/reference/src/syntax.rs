@@ -59,8 +59,8 @@ pub struct Written {
 /// "Each declaration, directive, statement, `else` and ending has one line of its own."
 #[derive(Debug, Clone, PartialEq, Eq)]
 pub enum Form {
-    /// `integer`, and for each name its length if it has one.
-    Integer(Vec<(String, Option<u64>)>),
+    /// `integer`, and for each name its extents: none, a length, or the two of a grid (document 02, Point 9).
+    Integer(Vec<(String, Vec<u64>)>),
     /// `data name /list/`
     Data { name: String, items: Vec<Item> },
     /// `!$omp parallel do`, the number in `num_threads`, the grouping that `schedule` asks for, and
@@ -226,9 +226,9 @@ pub enum Factor<N> {
     Brackets(Box<Expression<N>>),
 }
 
-/// A name with its subscript, if it has one: v or a cell.
+/// A name with its subscripts, none, one or two: v or a cell. Document 02, Point 9: "Allow `a(m, n)` and cells `a(e, f)`".
 #[derive(Debug, Clone, PartialEq, Eq)]
 pub struct Named<N> {
     pub name: N,
-    pub subscript: Option<Box<Expression<N>>>,
+    pub subscripts: Vec<Expression<N>>,
 }

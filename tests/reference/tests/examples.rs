@@ -307,6 +307,35 @@ fn what_a_serial_run_lists() {
     assert_eq!((ran.pairs, ran.cells), (4, 3));
 }
 
+/// Document 02, Point 9: "Both subscripts are worked out, then each is tested against its own bound": what the serial run
+/// lists of `g(e, f)`, also where the first one is outside (P9.4).
+#[test]
+fn both_subscripts_are_worked_out() {
+    let lent = [0, 1, 2, 3, 4];
+    let list = |body: &str| {
+        let text = text("s, g(2, 2)", "num_threads(2)", "1, 1", body);
+        let ran = serial(text.as_bytes(), &lent).unwrap();
+        let accesses = ran.accesses.iter();
+        let list = accesses.map(|access| (access.kind, access.cell, access.value));
+        (ran.outcome, list.collect::<Vec<_>>())
+    };
+    let fault = |number| {
+        let (line, v) = (4, 1);
+        Err(Refusal { number, line, v })
+    };
+    let read = |cell: u16| (Kind::Read, cell, lent[usize::from(cell)]);
+    let written = (Kind::Write, 0, 3);
+    assert_eq!(
+        list("s = g(g(1, 1), g(2, 1))"),
+        (Ok(()), vec![read(1), read(2), read(3), written])
+    );
+    assert_eq!(list("s = g(9, g(1, 2))"), (fault(9), vec![read(3)]));
+    assert_eq!(list("s = g(g(1, 1), 3)"), (fault(9), vec![read(1)]));
+    assert_eq!(list("s = g(3, 1)"), (fault(9), vec![]));
+    assert_eq!(list("s = g(9, g(1, 2)/0)"), (fault(10), vec![read(3)]));
+    assert_eq!(list("s = g(g(9, 1), g(1, 2)/0)"), (fault(9), vec![]));
+}
+
 #[test]
 fn a_name_with_data_and_one_without() {
     let text =

@@ -4,11 +4,12 @@ use std::path::{Path, PathBuf};
 use std::process::{Command, Stdio};
 
 use generate::copies::copies;
+use generate::grids::grids;
 use generate::hostile::hostile;
 use generate::reductions::reductions;
 use generate::tables::runs;
 use generate::{lend, Knobs, Loop, Operation, Rng};
-use reference::{fortran, fortran_of_all, serial, Threads};
+use reference::{fortran, fortran_of_all, read, rows, serial, Threads};
 
 fn has_gfortran() -> bool {
     let mut command = Command::new("gfortran");
@@ -50,6 +51,19 @@ fn values(printed: &str) -> Vec<i32> {
     lines.map(|line| line.parse().expect("a value")).collect()
 }
 
+/// The cells after a loop, and then those of each grid by rows.
+fn with_rows(text: &[u8], cells: Vec<i32>) -> Vec<i32> {
+    let mut all = cells.clone();
+    for declared in read(text).expect("a good text").names {
+        if declared.grid().is_some() {
+            let mut cells = cells.clone();
+            rows(text, &mut cells, declared.name.as_bytes()).expect("a grid");
+            all.extend(&cells[declared.first_cell..][..declared.length()]);
+        }
+    }
+    all
+}
+
 /// Compares one loop; false if Fortran has no such loop.
 fn compare(text: &[u8], cells: &[i32], folder: &Path) -> bool {
     let Some(source) = fortran(text, cells) else {
@@ -58,7 +72,7 @@ fn compare(text: &[u8], cells: &[i32], folder: &Path) -> bool {
     let ran = serial(text, cells).expect("a good text");
     let printed = compile_and_run(&source, &[], folder).map(|printed| values(&printed));
     match ran.outcome {
-        Ok(()) => assert_eq!(printed, Ok(ran.cells_after), "{source}"),
+        Ok(()) => assert_eq!(printed, Ok(with_rows(text, ran.cells_after)), "{source}"),
         // Which of two faults in one statement comes first is not settled in Fortran.
         Err(_) => assert!(matches!(printed, Err(2 | 10)), "{printed:?}\n{source}"),
     }
@@ -102,10 +116,11 @@ fn compare_random(seeds: std::ops::Range<u64>, folder: &Path) -> usize {
     let mut compared = 0;
     for seed in seeds {
         let mut rng = Rng::new(seed);
-        let drawn = match rng.below(10) {
+        let drawn = match rng.below(12) {
             0 | 1 => hostile(&mut rng),
             2 | 3 => copies(&mut rng),
             4 | 5 => reductions(&mut rng),
+            6 | 7 => grids(&mut rng),
             _ => {
                 let knobs = Knobs::mixed(&mut rng);
                 Loop::random(&mut rng, &knobs)
@@ -155,6 +170,7 @@ fn reductions_are_fortrans() {
     for (text, cells) in &loops {
         let after = serial(text, cells).expect("a good text").cells_after;
         let printed = values(printed.next().expect("a loop"));
+        let after = with_rows(text, after);
         assert_eq!(printed, after, "{}", String::from_utf8_lossy(text));
     }
     let count = |operation| drawn.iter().filter(|drawn| drawn.has(operation)).count();
@@ -198,6 +214,7 @@ fn what_fortran_has_no_loop_for() {
         None
     );
     assert_eq!(fortran(text("concurrent", "1, 2").as_bytes(), &[0]), None);
+    assert_eq!(fortran(text("transpose", "1, 2").as_bytes(), &[0]), None);
     assert_eq!(fortran(text("i", "1, 2").as_bytes(), &[0, 0]), None);
     assert_eq!(fortran(b"", &[]), None);
     assert!(fortran(text("i", "1, 2").as_bytes(), &[0]).is_some());

@@ -8,7 +8,7 @@ use generate::ranges::range;
 use generate::repeats::repeats;
 use generate::variants::{vary, vary_all, VARIANTS};
 use generate::wavefronts::wavefronts;
-use generate::{copies, hostile, neighbours, reductions, Knobs, Loop, Rng};
+use generate::{copies, grids, hostile, neighbours, reductions, Knobs, Loop, Rng};
 use reference::program::{Action, Program, Statement};
 use reference::{alike, lrpd, print, printed, read, Refusal};
 
@@ -16,7 +16,7 @@ const TEXTS: u64 = 2000;
 
 /// A text for a seed, mostly accepted.
 fn draw(rng: &mut Rng) -> Vec<u8> {
-    match rng.below(12) {
+    match rng.below(13) {
         0 => range(rng),
         1 => wavefronts(rng).0.text(),
         2 | 3 => repeats(rng),
@@ -24,6 +24,7 @@ fn draw(rng: &mut Rng) -> Vec<u8> {
         5 => neighbours::neighbours(rng).text(),
         6 => copies::copies(rng).text(),
         7 => reductions::reductions(rng).text(),
+        8 => grids::grids(rng).text(),
         _ => {
             let knobs = Knobs::mixed(rng);
             Loop::random(rng, &knobs).text()

@@ -2,15 +2,19 @@
 
 use generate::copies::copies;
 use generate::damage::damage;
+use generate::grids::grids;
 use generate::hostile::hostile;
+use generate::layout::split_tokens;
 use generate::neighbours::neighbours;
 use generate::reductions::reductions;
+use generate::subscripts::{as_arrays, bracketed};
 use generate::wavefronts::wavefronts;
 use generate::{lend, noise, Copied, Knobs, Loop, Rng, Turned};
 use reference::syntax::{Class, Operation, Words};
 use reference::{
-    check, depend, load, look, lrpd, plan, read, run, run_in_order, run_serially, serial, share,
-    stepped, touches, trial, workspace_needed, Answer, Kind, Refusal, Serial, Speculation, Trial,
+    check, columns, depend, load, look, lrpd, plan, read, rows, run, run_in_order, run_serially,
+    serial, share, stepped, touches, trial, workspace_needed, Answer, Kind, Refusal, Serial,
+    Speculation, Trial,
 };
 
 const LOOPS: u64 = 4000;
@@ -18,11 +22,12 @@ const LOOPS: u64 = 4000;
 /// A loop and cells to lend for a seed: mostly those of its data, sometimes anything.
 fn draw(seed: u64) -> (Loop, Vec<i32>, Rng) {
     let mut rng = Rng::new(seed);
-    let drawn = match rng.below(22) {
+    let drawn = match rng.below(26) {
         0..=4 => hostile(&mut rng),
         5..=7 => neighbours(&mut rng),
         8..=10 => copies(&mut rng),
-        11..=13 => reductions(&mut rng),
+        11..=14 => reductions(&mut rng),
+        15..=17 => grids(&mut rng),
         _ => {
             let knobs = Knobs::mixed(&mut rng);
             Loop::random(&mut rng, &knobs)
@@ -603,6 +608,100 @@ fn lrpd_prints_the_run() {
     }
 }
 
+/// Document 02, Point 9: "stored in Fortran's element order, first subscript fastest". Where no subscript is outside its
+/// bound, a loop over grids makes the accesses of the one in which each is an array and the place of each cell is written
+/// out, `g((e) + m*((f) - 1))`.
+#[test]
+fn a_grid_is_an_array_with_its_places_written_out() {
+    let mut compared = [0; 4];
+    for (seed, drawn, lent, mut rng) in loops() {
+        let text = drawn.text();
+        let Some(arrays) = as_arrays(&text).filter(|arrays| check(arrays).is_ok()) else {
+            continue;
+        };
+        let one = serial(&text, &lent).unwrap();
+        let other = serial(&arrays, &lent).unwrap();
+        let outside = |fault: &Refusal| fault.number == 9;
+        if one.outcome.is_err_and(|fault| outside(&fault)) {
+            compared[0] += 1;
+            continue;
+        }
+        assert_eq!(one, other, "seed {seed}\n{}", show(&text));
+        compared[match one.outcome {
+            Err(_) => 1,
+            Ok(()) if one.passes() => 2,
+            Ok(()) => 3,
+        }] += 1;
+        let schedule = lend::schedule(&mut rng, drawn.processors);
+        let words = workspace_needed(lent.len(), drawn.processors);
+        let state = stepped(&text, &lent, words, &schedule).unwrap();
+        let mut faults = state.processors.iter().filter_map(|one| one.fault);
+        if !faults.any(|fault| outside(&fault)) {
+            let written_out = stepped(&arrays, &lent, words, &schedule).unwrap();
+            assert_eq!(state, written_out, "seed {seed}\n{}", show(&text));
+        }
+    }
+    println!("outside, divided by zero, passed, rerun: {compared:?}");
+    assert!(compared.iter().all(|&loops| loops > 40) && compared[2] + compared[3] > 700);
+}
+
+/// "One after the other, either way round, restores the cells", "every other cell unchanged"; and by rows a(r, c) comes
+/// right before a(r, c + 1), which Name's extents tell.
+#[test]
+fn rows_and_columns_undo_each_other() {
+    let (mut done, mut moved, mut refused) = (0, 0, 0);
+    for (seed, drawn, _, mut rng) in loops() {
+        let text = drawn.text();
+        let program = read(&text).unwrap();
+        for (asked, _) in lend::asked(&mut rng, &text, &["g", "s"]) {
+            let named = program.cells_of(&asked);
+            if named.map_or(0, |named| named.subscripts) != 2 {
+                let lent = lend::cells(&mut rng, drawn.cells.len());
+                let refusal = Err(Refusal {
+                    number: 13,
+                    line: 0,
+                    v: 0,
+                });
+                for service in [rows, columns] {
+                    let mut cells = lent.clone();
+                    assert_eq!(service(&text, &mut cells, &asked), refusal);
+                    assert_eq!(cells, lent);
+                }
+                refused += 1;
+            }
+        }
+        for declared in &program.names {
+            let Some((m, n)) = declared.grid() else {
+                continue;
+            };
+            let lent: Vec<i32> = (0..drawn.cells.len() as i32).collect();
+            let name = declared.name.to_uppercase();
+            let arrange = |cells: &[i32], service: fn(&[u8], &mut [i32], &[u8]) -> _| {
+                let mut cells = cells.to_vec();
+                assert_eq!(service(&text, &mut cells, name.as_bytes()), Ok(()));
+                cells
+            };
+            let (by_rows, back) = (arrange(&lent, rows), arrange(&lent, columns));
+            assert_eq!(arrange(&by_rows, columns), lent, "seed {seed}");
+            assert_eq!(arrange(&back, rows), lent, "seed {seed}");
+            let cells = declared.first_cell..declared.first_cell + m * n;
+            for cell in (0..lent.len()).filter(|cell| !cells.contains(cell)) {
+                assert_eq!((by_rows[cell], back[cell]), (lent[cell], lent[cell]));
+            }
+            for row in 0..m {
+                for column in 0..n {
+                    let at = by_rows[declared.first_cell + row * n + column];
+                    assert_eq!(at as usize, declared.first_cell + row + column * m);
+                }
+            }
+            done += 1;
+            moved += u32::from(by_rows != lent);
+        }
+    }
+    println!("rearranged, of these with cells that move, refused: {done}, {moved}, {refused}");
+    assert!(done > 1500 && moved > 300 && refused > 10_000);
+}
+
 /// Damaged texts and noise: some answer, never a panic, and the same refusal from every service.
 #[test]
 fn any_bytes_get_an_answer() {
@@ -671,4 +770,23 @@ fn damaged_reductions_end_in_every_way() {
     let maxima = ends_of_damaged(|line| !is_directive(line) && line.contains("max"));
     println!("other lines with max: good, 1, 2, 3, 4: {maxima:?}");
     assert!(maxima[0] > 1000 && maxima[2] > 1000 && maxima[3] > 40 && maxima[4] > 2);
+}
+
+/// Damaged declarations and statements with a second extent or subscript end in every way.
+#[test]
+fn damaged_grids_end_in_every_way() {
+    let has_two = |line: &str| {
+        let tokens = split_tokens(line);
+        let is_function = |word: &str| word == "max" || word == "rdiv" || word == "if";
+        let mut words = (0..tokens.len()).filter(|&place| !is_function(tokens[place]));
+        let two = |place| bracketed(&tokens, place).is_some_and(|list| list.items.len() > 1);
+        !line.contains("!$omp") && words.any(two)
+    };
+    let declares = |line: &str| line.trim_start().starts_with("integer");
+    let declared = ends_of_damaged(|line| declares(line) && has_two(line));
+    println!("declarations of grids: good, 1, 2, 3, 4: {declared:?}");
+    assert!(declared[0] > 1000 && declared[2] > 40 && declared[3] > 10 && declared[4] > 40);
+    let used = ends_of_damaged(|line| !declares(line) && has_two(line));
+    println!("statements with grids: good, 1, 2, 3, 4: {used:?}");
+    assert!(used[0] > 1000 && used[2] > 200 && used[3] > 200 && used[4] > 10);
 }

@@ -1,11 +1,13 @@
 //! The tables written by hand, row by row.
 
 use generate::tables::plans::{self, Planned};
-use generate::tables::{arguments, data, forms, looks, names, pairs, prints, runs, text_rows};
+use generate::tables::{
+    arguments, data, forms, grids, looks, names, pairs, prints, runs, text_rows,
+};
 use generate::{lend, Rng};
 use reference::{
-    alike, bounds, check, load, look, lrpd, name, plan, print, printed, run, serial, stepped,
-    trial, workspace_needed, Answer, Refusal,
+    alike, bounds, check, columns, load, look, lrpd, name, plan, print, printed, rows, run, serial,
+    stepped, trial, workspace_needed, Answer, Refusal,
 };
 
 /// Reports all rows that differ, not just the first.
@@ -54,6 +56,8 @@ fn refused_texts_leave_everything_as_found() {
         assert_eq!(bounds(&row.text), Err(expected));
         assert_eq!(name(&row.text, b"a"), Err(expected));
         assert_eq!(load(&row.text, &mut cells), Err(expected));
+        assert_eq!(rows(&row.text, &mut cells, b"a"), Err(expected));
+        assert_eq!(columns(&row.text, &mut cells, b"a"), Err(expected));
         assert_eq!(
             run(&row.text, &mut cells, &mut workspace, &[9]).unwrap_err(),
             expected
@@ -227,11 +231,47 @@ fn name_answers_as_the_table_says() {
     let mut wrong = Vec::new();
     for row in names::name_rows() {
         let answer = name(&row.text, &row.asked)
-            .map(|found| (found.first, found.cells, found.subscripts, found.clause))
+            .map(|found| names::Found {
+                first: found.first,
+                cells: found.cells,
+                subscripts: found.subscripts,
+                clause: found.clause,
+                rows: found.rows,
+                columns: found.columns,
+            })
             .map_err(|refusal| (refusal.number, refusal.line));
         if answer != row.expected {
             let asked = row.asked.escape_ascii();
             wrong.push(format!("{:?}, {asked}: {answer:?}", row.name));
+        }
+    }
+    assert_none(wrong);
+}
+
+/// Rows or Columns.
+type Arrange = fn(&[u8], &mut [i32], &[u8]) -> Result<(), Refusal>;
+
+/// "every other cell unchanged", and all of them after a refusal.
+#[test]
+fn grids_are_rearranged_as_the_table_says() {
+    let mut wrong = Vec::new();
+    for row in grids::arrange_rows() {
+        let arranged = |service: Arrange| {
+            let mut cells = row.cells.clone();
+            let answer = service(&row.text, &mut cells, &row.asked);
+            (answer, cells)
+        };
+        for (service, answer, expected) in [
+            ("rows", arranged(rows), &row.rows),
+            ("columns", arranged(columns), &row.columns),
+        ] {
+            let expected = match expected {
+                Ok(cells) => (Ok(()), cells.clone()),
+                &Err((number, line)) => (Err(Refusal { number, line, v: 0 }), row.cells.clone()),
+            };
+            if answer != expected {
+                wrong.push(format!("{}: {service} {answer:?}", row.name));
+            }
         }
     }
     assert_none(wrong);
@@ -339,11 +379,12 @@ fn the_tables_have_many_rows() {
         names::bounds_rows().len(),
         forms::rows().len(),
         pairs::rows().len(),
+        grids::arrange_rows().len(),
     );
     println!(
-        "texts, loads, runs, looks, prints, arguments, plans, names, bounds, forms, pairs: {counts:?}"
+        "texts, loads, runs, looks, prints, arguments, plans, names, bounds, forms, pairs, grids: {counts:?}"
     );
-    assert!(counts.0 > 2600 && counts.2 > 1100 && counts.3 > 480 && counts.5 > 40);
-    assert!(counts.6 > 130 && counts.7 > 200 && counts.8 > 80);
-    assert!(counts.9 > 800 && counts.10 > 50);
+    assert!(counts.0 > 3300 && counts.2 > 1250 && counts.3 > 560 && counts.5 > 50);
+    assert!(counts.6 > 160 && counts.7 > 270 && counts.8 > 90);
+    assert!(counts.9 > 1000 && counts.10 > 65 && counts.11 > 100);
 }

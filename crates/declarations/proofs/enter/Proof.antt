@@ -15,10 +15,10 @@ add-result c = search needs
 
 returns-2 : tie.Need-returns-2
 returns-2 c = record {
-  added = λ e. c .add .ensures;
+  added = λ e. c .before .add .ensures;
   more = λ e. refl;
-  left = λ n. absurd (n (c .before .before .if1 .left));
-  same = λ n. absurd (n (c .before .before .if1 .left));
+  left = λ n. absurd (n (c .before .before .before .if1 .left));
+  same = λ n. absurd (n (c .before .before .before .if1 .left));
 }
 
 pub enter-spec : {M : Type 1} → statement M

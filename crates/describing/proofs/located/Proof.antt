@@ -29,13 +29,16 @@ part-find-end c = search needs
 find-requires : tie.Need-find-requires
 find-requires c κs = search needs
 
+subscripts-of-requires : tie.Need-subscripts-of-requires
+subscripts-of-requires c κs = search needs
+
 returns-2 : tie.Need-returns-2
 returns-2 c =
-    let c5 = c .before .before .before .before .before in
-    let c7 = c5 .before .before in
-    let x = c7 .before .before .args .name .now in
-    let l = lowered-at x (replicate 32 0) _ _ (c5 .lowered .ensures) refl (omega (arith, c7 .if1 .left)) in
-    λ t d. declared _ t d x _ l _ (c .before .find .ensures .1 t d) (c .if2 .taken)
+    let c6 = c .before .before .before .before .before .before in
+    let c8 = c6 .before .before in
+    let x = c8 .before .before .args .name .now in
+    let l = lowered-at x (replicate 32 0) _ _ (c6 .lowered .ensures) refl (omega (arith, c8 .if1 .left)) in
+    λ t d. declared _ t d x _ l _ (c .before .before .find .ensures .1 t d) _ (c .subscripts-of .ensures) (c .before .if2 .taken)
 
 returns-3 : tie.Need-returns-3
 returns-3 c =
@@ -56,5 +59,6 @@ located-spec =
     part-find-start
     part-find-end
     find-requires
+    subscripts-of-requires
     returns-2
     returns-3)

@@ -1,6 +1,5 @@
 -- `exports::lrpd_name` meets its contract.
 use mathlib.Core.Path.{sym, ap, _∙_}
-use lib.IntN.{pos}
 use Rattle.exports.specs.Numbers.{nameNumbers}
 use borrow.Author.Needs.{needs}
 use Rattle.exports.proofs.lrpd_name.Statement.{statement}
@@ -12,18 +11,12 @@ name-requires c κs = search needs
 enum-known-r : tie.Need-enum-known-r
 enum-known-r c = search needs
 
-subscripts-of-requires : tie.Need-subscripts-of-requires
-subscripts-of-requires c κs = search needs
-
 enum-known-r-2 : tie.Need-enum-known-r-2
 enum-known-r-2 c = search needs
 
 returns : tie.Need-returns
 unfolding nameNumbers
-returns c =
-    let g = c .before .before .r .given in
-    (λ i. record { number = 0; line = 0; v = pos 0; first = g .0 .0; cells = g .0 .1 .0; subscripts = c .subscripts-of .ensures i; clause = g .0 .1 .1 .1 .0 })
-    ∙ ap nameNumbers (sym (g .1) ∙ c .before .before .before .before .name .ensures)
+returns c = ap nameNumbers (sym (c .before .r .given .1) ∙ c .before .before .before .name .ensures)
 
 returns-2 : tie.Need-returns-2
 unfolding nameNumbers
@@ -32,4 +25,4 @@ returns-2 c = ap nameNumbers (sym (c .before .r2 .given .1) ∙ c .before .befor
 pub lrpd-name-spec : {M : Type 1} → statement M
 lrpd-name-spec =
     tie.close
-    (tie.spec name-requires enum-known-r subscripts-of-requires enum-known-r-2 returns returns-2)
+    (tie.spec name-requires enum-known-r enum-known-r-2 returns returns-2)

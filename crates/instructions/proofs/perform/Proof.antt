@@ -70,6 +70,9 @@ jump-requires c κs = search needs
 maximum-requires : tie.Need-maximum-requires
 maximum-requires c κs = search needs
 
+flatten-requires : tie.Need-flatten-requires
+flatten-requires c κs = search needs
+
 stop-requires : tie.Need-stop-requires
 stop-requires c κs = search needs
 
@@ -181,11 +184,17 @@ returns-18 c =
     (c .maximum .ensures (a .v))
 
 returns-19 : tie.Need-returns-19
-unfolding perform
 returns-19 c =
+    let a = c .before .before .before .args in
+    performs-as (a .place) (a .depth) (a .pending .now) _ (a .v) (decode-as (a .word) (a .arg) 18 (c .before .before .match .keys19))
+    (c .flatten .ensures (a .v))
+
+returns-20 : tie.Need-returns-20
+unfolding perform
+returns-20 c =
     let a = c .before .before .args in
     let p = c .before .before .pre in
-    let k : 18 ≤ a .word % 32 = past-all 18 (a .word % 32) (c .before .match .rest) in
+    let k : 19 ≤ a .word % 32 = past-all 19 (a .word % 32) (c .before .match .rest) in
     performs-as (a .place) (a .depth) (a .pending .now) _ (a .v) (decode-last (a .word) (a .arg) k)
     (ends (does Instr.end (a .place) (a .depth) (a .pending .now) (a .v)) _ _ _ (p .0 .size) (p .0 .most) (c .stop .ensures) (λ go. refl))
 
@@ -212,6 +221,7 @@ perform-spec =
     jump-unless-requires
     jump-requires
     maximum-requires
+    flatten-requires
     stop-requires
     returns
     returns-2
@@ -231,4 +241,5 @@ perform-spec =
     returns-16
     returns-17
     returns-18
-    returns-19)
+    returns-19
+    returns-20)

@@ -1,7 +1,4 @@
 -- `names::add` meets its contract: the name is written, then the rest of its entry, and there is a name more.
-use mathlib.Core.Path.{sym, _∙_, ap}
-use mathlib.Core.Bool.{Bool, cond}
-use mathlib.Core.Logic.{⊎-elim}
 use native.Mathlib.Omega.{arith}
 use Rattle.names.proofs.Rows.{added, full}
 use borrow.Author.Needs.{needs}
@@ -12,7 +9,7 @@ count-requires : tie.Need-count-requires
 count-requires c κs = search needs
 
 returns : tie.Need-returns
-returns c = full _ _ _ _ _ (omega arith)
+returns c = full _ _ _ _ (omega arith)
 
 put-name-requires : tie.Need-put-name-requires
 put-name-requires c κs = search needs
@@ -47,25 +44,40 @@ mul-table-3 c = search needs
 element-write-table-3 : tie.Need-element-write-table-3
 element-write-table-3 c = search needs
 
-cast-table : tie.Need-cast-table
-cast-table c = search needs
-
 add-table-4 : tie.Need-add-table-4
 add-table-4 c = search needs
+
+mul-table-4 : tie.Need-mul-table-4
+mul-table-4 c = search needs
 
 element-write-table-4 : tie.Need-element-write-table-4
 element-write-table-4 c = search needs
 
+add-table-5 : tie.Need-add-table-5
+add-table-5 c = search needs
+
+mul-table-5 : tie.Need-mul-table-5
+mul-table-5 c = search needs
+
+element-write-table-5 : tie.Need-element-write-table-5
+element-write-table-5 c = search needs
+
+cast-table : tie.Need-cast-table
+cast-table c = search needs
+
+add-table-6 : tie.Need-add-table-6
+add-table-6 c = search needs
+
+element-write-table-6 : tie.Need-element-write-table-6
+element-write-table-6 c = search needs
+
 returns-2 : tie.Need-returns-2
 returns-2 c =
-    let c4 = c .before .before .before .before in
-    let c7 = c4 .before .before .before in
-    let a = c7 .args in
-    added (a .table .now) (a .w .now) (c4 .count .result) (a .first) (a .size) (a .subscripted) (c .before .put-name .last .0)
-    (c .before .put-name .ensures) (c4 .count .ensures) (omega arith) (omega arith) (c .if2 .table) (⊎-elim
-    (λ w. w .1 ∙ sym (ap (λ (b : Bool). cond b 1 0) (w .0 .taken)))
-    (λ w. w .1 ∙ sym (ap (λ (b : Bool). cond b 1 0) (w .0 .left)))
-    (c .if2 .came))
+    let c3 = c .before .before .before in
+    let c6 = c3 .before .before .before in
+    let a = c6 .args in
+    added (a .table .now) (a .w .now) (c3 .count .result) (a .first) (a .shape) (c .put-name .last .0)
+    (c .put-name .ensures) (c3 .count .ensures) (omega arith) (omega arith)
 
 pub add-spec : {M : Type 1} → statement M
 add-spec =
@@ -84,7 +96,13 @@ add-spec =
     add-table-3
     mul-table-3
     element-write-table-3
-    cast-table
     add-table-4
+    mul-table-4
     element-write-table-4
+    add-table-5
+    mul-table-5
+    element-write-table-5
+    cast-table
+    add-table-6
+    element-write-table-6
     returns-2)

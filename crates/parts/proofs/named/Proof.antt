@@ -41,7 +41,7 @@ returns c =
     λ t d. c .larger .ensures
     ∙ ap (max (c5 .args .rank))
     (c .before .name-rank .ensures t d
-    ∙ ap (λ (x : List ℕ). rank-of t (variableOf (c5 .args .table .now)) (refers x (c5 .args .subscript)))
+    ∙ ap (λ (x : List ℕ). rank-of t (variableOf (c5 .args .table .now)) (refers x (c5 .args .subscripts)))
     (sym (c3 .token .ensures .bytes)))
 
 pub named-spec : {M : Type 1} → statement M

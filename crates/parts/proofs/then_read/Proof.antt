@@ -40,7 +40,7 @@ returns c =
     let c9 = c6 .before .before .before in
     record {
       words = c4 .read-of .result;
-      right = subst (λ (x : List ℕ). Worded (c9 .args .table .now) (c9 .args .line) x (c9 .args .subscript) (c4 .read-of .result))
+      right = subst (λ (x : List ℕ). Worded (c9 .args .table .now) (c9 .args .line) x (c9 .args .fetch) (c4 .read-of .result))
           (sym (c6 .token .ensures .bytes)) (c4 .read-of .ensures);
       emits = c .before .before .then-emit .ensures;
     }

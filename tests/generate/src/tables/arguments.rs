@@ -34,6 +34,12 @@ const PRODUCTS: &str = "integer a(3)\n!$omp parallel do num_threads(2) reduction
      do i = 1, 3\na(i) = a(i)*i\nend do\n";
 const MAXIMA: &str = "integer a(3)\n!$omp parallel do num_threads(2) reduction(max:a)\n\
      do i = 1, 3\na(i) = max(a(i), i)\nend do\n";
+/// N = 6 and P = 2: 4,352 + 64 × 2 + 6 × (4 + 8 × 2) = 4,600 (document 02, Point 9: N counts m × n).
+const GRID: &str =
+    "integer g(2, 3)\n!$omp parallel do num_threads(2)\ndo i = 1, 3\ng(2, i) = i\nend do\n";
+/// N = 4,096 and P = 8, as for [`LARGEST`].
+const LARGEST_GRID: &str =
+    "integer g(64, 64)\n!$omp parallel do num_threads(8)\ndo i = 1, 3\ng(i, 64) = i\nend do\n";
 /// N = 4,096 and P = 8: 4,352 + 512 + 4,096 × 68 = 283,392; before 4,352 + 512 + 4,096 × 52 = 217,856.
 const LARGEST: &str = "integer a(4096)\n!$omp parallel do num_threads(8)\ndo i = 1, 3\nend do\n";
 /// N = 1 and P = 1: 4,352 + 64 + 12 = 4,428; before 4,352 + 64 + 10 = 4,426.
@@ -138,6 +144,68 @@ pub fn rows() -> Vec<ArgumentRow> {
             "maxima, a cell too many",
             MAXIMA,
             (4, 4540, &[0], 6),
+            (5, 5, 5),
+        ),
+        row("a grid", GRID, (6, 4600, &[0, 1], 12), (0, 0, 0)),
+        row(
+            "a grid, a cell too few",
+            GRID,
+            (5, 4600, &[0], 12),
+            (5, 5, 5),
+        ),
+        row(
+            "a grid, a cell too many",
+            GRID,
+            (7, 4600, &[0], 12),
+            (5, 5, 5),
+        ),
+        row(
+            "as many cells as rows",
+            GRID,
+            (2, 4600, &[0], 12),
+            (5, 5, 5),
+        ),
+        row(
+            "as many cells as columns",
+            GRID,
+            (3, 4600, &[0], 12),
+            (5, 5, 5),
+        ),
+        row(
+            "a grid, a word too few",
+            GRID,
+            (6, 4599, &[0], 12),
+            (0, 6, 6),
+        ),
+        row("a grid, byte P", GRID, (6, 4600, &[1, 2], 12), (0, 7, 7)),
+        row(
+            "a grid, a view word too few",
+            GRID,
+            (6, 4600, &[1], 11),
+            (0, 8, 0),
+        ),
+        row(
+            "a grid, a view word too many",
+            GRID,
+            (6, 4600, &[1], 13),
+            (0, 8, 0),
+        ),
+        row(
+            "the largest grid",
+            LARGEST_GRID,
+            (4096, 283_392, &[7], 8192),
+            (0, 0, 0),
+        ),
+        row(
+            "the largest grid, a word too few",
+            LARGEST_GRID,
+            (4096, 283_391, &[7], 8192),
+            (0, 6, 6),
+        ),
+        row(
+            "the largest grid, a cell too few",
+            LARGEST_GRID,
+            (4095, 283_392, &[7], 8192),
             (5, 5, 5),
         ),
         // document 02, Point 5: the workspace of before is too small, for every text (P5.8)

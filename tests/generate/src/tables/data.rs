@@ -195,6 +195,7 @@ pub fn load_rows() -> Vec<LoadRow> {
         &[-9, 4, 3, 2, 1, 1, 1, 2, 2],
     ));
     rows.extend(large_rows());
+    rows.extend(super::grids::load_rows());
     rows
 }
 

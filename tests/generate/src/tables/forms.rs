@@ -153,9 +153,18 @@ const INTEGERS: &[(&str, &str)] = &[
     ("integer a(0000000000000000012)", "integer a ( 12 )"),
     ("INTEGER B ( 10 ), A(0100)", "integer b ( 10 ) , a ( 100 )"),
     ("integer a0,a00,a1(01)", "integer a0 , a00 , a1 ( 1 )"),
+    // document 02, Point 9
+    ("integer g(2,3)", "integer g ( 2 , 3 )"),
+    (
+        "INTEGER G ( 002,03 ) ,a(4)",
+        "integer g ( 2 , 3 ) , a ( 4 )",
+    ),
+    ("integer g(1,1),h(1)", "integer g ( 1 , 1 ) , h ( 1 )"),
+    ("integer g(064,64)", "integer g ( 64 , 64 )"),
+    ("integer a,g( 4095,0001 )", "integer a , g ( 4095 , 1 )"),
 ];
 
-/// `data` lines and what they print: s is one cell, a and b are four each.
+/// `data` lines and what they print: s is one cell, a and b are four each, g is two by three.
 const DATA: &[(&str, &str)] = &[
     ("data s /5/", "data s / 5 /"),
     ("data s/007/", "data s / 7 /"),
@@ -193,9 +202,14 @@ const DATA: &[(&str, &str)] = &[
         "data a / 1 , - 2 , + 3 , 2147483647 /",
     ),
     ("data a /-0, 0, +0, -00/", "data a / - 0 , 0 , + 0 , - 0 /"),
+    ("data g /6*0/", "data g / 0 , 0 , 0 , 0 , 0 , 0 /"),
+    (
+        "DATA G/1,02,2*-3,1*+4,5/",
+        "data g / 1 , 2 , - 3 , - 3 , + 4 , 5 /",
+    ),
 ];
 
-/// Directives and what they print: s, t and u are one cell, a and b are arrays.
+/// Directives and what they print: s, t and u are one cell, a and b are arrays, g is a grid.
 const DIRECTIVES: &[(&str, &str)] = &[
     (
         "!$omp parallel do num_threads(8)",
@@ -226,6 +240,10 @@ const DIRECTIVES: &[(&str, &str)] = &[
         "!$omp parallel do reduction ( + : s ) reduction ( * : t , u ) num_threads ( 1 ) reduction ( max : a )",
     ),
     (
+        "!$omp parallel do num_threads(1)lastprivate(s,G)firstprivate( g )",
+        "!$omp parallel do num_threads ( 1 ) lastprivate ( s , g ) firstprivate ( g )",
+    ),
+    (
         "!$omp parallel do SCHEDULE(STATIC) num_threads(2)",
         "!$omp parallel do schedule ( static ) num_threads ( 2 )",
     ),
@@ -248,7 +266,7 @@ const DO_LINES: &[(&str, &str)] = &[
     ),
 ];
 
-/// Statements and what they print: s and t are one cell, a and b are arrays.
+/// Statements and what they print: s and t are one cell, a and b are arrays, g is a grid.
 const STATEMENTS: &[(&str, &str)] = &[
     ("a(i)=-1", "a ( i ) = - 1"),
     ("A ( I ) = - 01", "a ( i ) = - 1"),
@@ -271,6 +289,25 @@ const STATEMENTS: &[(&str, &str)] = &[
     ("a(0)=1/0", "a ( 0 ) = 1 / 0"),
     ("s=2147483647+0000", "s = 2147483647 + 0"),
     ("s = 10 + 010 + 100", "s = 10 + 10 + 100"),
+    // document 02, Point 9
+    ("g(1,2)=3", "g ( 1 , 2 ) = 3"),
+    ("G ( 01 , 002 ) = - 03", "g ( 1 , 2 ) = - 3"),
+    ("g(2,1)=3", "g ( 2 , 1 ) = 3"),
+    ("s=g(i,-i+1)", "s = g ( i , - i + 1 )"),
+    ("s=g(+1,(2))", "s = g ( + 1 , ( 2 ) )"),
+    ("g(01,2)=G( 1 ,02 )+1", "g ( 1 , 2 ) = g ( 1 , 2 ) + 1"),
+    (
+        "g(g(1,1),a(1))=g(9,1/0)",
+        "g ( g ( 1 , 1 ) , a ( 1 ) ) = g ( 9 , 1 / 0 )",
+    ),
+    (
+        "g(1,1)=max(g(1,1),g(2,3))",
+        "g ( 1 , 1 ) = max ( g ( 1 , 1 ) , g ( 2 , 3 ) )",
+    ),
+    (
+        "if(g(1,2)/=g(2,1))then\nendif",
+        "if ( g ( 1 , 2 ) /= g ( 2 , 1 ) ) then\nend if",
+    ),
     ("if(s==1)then\nendif", "if ( s == 1 ) then\nend if"),
     ("if (s/=1)then\nend if", "if ( s /= 1 ) then\nend if"),
     ("if(s<1)then\nendif", "if ( s < 1 ) then\nend if"),
@@ -301,8 +338,8 @@ pub(super) fn framed(
 }
 
 const NAMES: [&str; 2] = [
-    "integer s, t, u, a(4), b(4)",
-    "integer s , t , u , a ( 4 ) , b ( 4 )",
+    "integer s, t, u, a(4), b(4), g(2, 3)",
+    "integer s , t , u , a ( 4 ) , b ( 4 ) , g ( 2 , 3 )",
 ];
 const DIRECTIVE: [&str; 2] = [
     "!$omp parallel do num_threads(2)",
@@ -369,18 +406,32 @@ fn copied(name: &str, copies: usize, value: &str, shown: &str) -> [String; 2] {
 }
 
 /// The text with the longest form: of its 2,048 bytes those that need no more than one give two, and 25 give all
-/// cells.
+/// cells. A grid has two tokens more than an array and one more byte (8.7).
 pub fn longest() -> [String; 2] {
-    let ones = vec!["1"; 977];
+    let declared = ["a(64,64)", "a ( 64 , 64 )"];
+    all_cells(declared, ["a(1,1)=", "a ( 1 , 1 ) = "], 976)
+}
+
+/// The same of an array.
+fn longest_array() -> [String; 2] {
+    all_cells(["a(4096)", "a ( 4096 )"], ["a(1)=-", "a ( 1 ) = - "], 977)
+}
+
+/// A text of all cells, whose statement begins so and adds so many ones, and its form.
+fn all_cells(declared: [&str; 2], begun: [&str; 2], ones: usize) -> [String; 2] {
+    let ones = vec!["1"; ones];
     let text = format!(
-        "integer a(4096)\ndata a/4096*-2147483647/\n!$omp parallel do num_threads(1)\ndo i=1,1\n\
-         a(1)=-{}\nenddo",
+        "integer {}\ndata a/4096*-2147483647/\n!$omp parallel do num_threads(1)\ndo i=1,1\n{}{}\nenddo",
+        declared[0],
+        begun[0],
         ones.join("+")
     );
+    assert_eq!(text.len(), 2048);
     let data = vec!["- 2147483647"; 4096].join(" , ");
     let form = format!(
-        "integer a ( 4096 )\ndata a / {data} /\n!$omp parallel do num_threads ( 1 )\ndo i = 1 , 1\n\
-         a ( 1 ) = - {}\nend do\n",
+        "integer {}\ndata a / {data} /\n!$omp parallel do num_threads ( 1 )\ndo i = 1 , 1\n{}{}\nend do\n",
+        declared[1],
+        begun[1],
         ones.join(" + ")
     );
     [text, form]
@@ -404,7 +455,8 @@ fn long_forms() -> Vec<(String, String, String)> {
         row("4,096 zeros", 16468, copied_alone("0", "0")),
         row("4,096 times -0", 24660, copied_alone("-000", "- 0")),
         row("4,096 times +10", 28756, copied_alone("+10", "+ 10")),
-        row("the longest", 65442, longest()),
+        row("the longest", 65443, longest()),
+        row("the longest without grids", 65442, longest_array()),
     ]
 }
 
@@ -462,7 +514,7 @@ fn refusal_rows() -> Vec<PrintRow> {
     let [good, _] = copied("s", 3, "1", "1");
     let too_long = format!("{good}!{}", ".".repeat(2048 - good.len()));
     assert_eq!(too_long.len(), 2049);
-    let refused: [(&str, String, u32, u32); 16] = [
+    let refused: [(&str, String, u32, u32); 19] = [
         ("2,049 bytes", too_long, 1, 0),
         ("2,049 bytes of no text", "(".repeat(2049), 1, 0),
         ("10,000 newlines", "\n".repeat(10_000), 1, 0),
@@ -484,7 +536,15 @@ fn refusal_rows() -> Vec<PrintRow> {
         ),
         ("copies of 0", good.replace("3*1", "3*1, 0*1"), 2, 2),
         ("copies with a sign", good.replace("3*1", "+3*1"), 2, 2),
+        ("three extents", good.replace("a(3)", "a(1, 3, 1)"), 2, 1),
         ("a copy too many", good.replace("3*1", "4*1"), 3, 2),
+        (
+            "a copy too few of a grid",
+            good.replace("a(3)", "a(2, 2)"),
+            3,
+            2,
+        ),
+        ("an extent of 0", good.replace("a(3)", "a(3, 0)"), 4, 1),
         ("a name twice", good.replace(", s", ", a"), 3, 1),
         (
             "a literal over its limit",

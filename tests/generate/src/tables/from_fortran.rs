@@ -1,5 +1,5 @@
 //! The table *From your Fortran to a text* of docs/GUIDE.md: what a loop in Fortran may have, with the number
-//! that refuses it and its line, and what to write instead, which is accepted.
+//! that refuses it and its line, what is accepted as it stands, and what to write instead, which is accepted.
 
 use super::TextRow;
 
@@ -35,8 +35,10 @@ const HAVE: &[(Part, &str, u32, u32)] = &[
     (Part::Declaration, "integer(4) a(8), t, s", 2, 1),
     (Part::Declaration, "integer*4 a(8), t, s", 2, 1),
     (Part::Declaration, "integer a(0:7), t, s", 2, 1),
-    (Part::Declaration, "integer a(2, 4), t, s", 2, 1),
+    (Part::Declaration, "integer a(0:1, 4), t, s", 2, 1),
+    (Part::Declaration, "integer a(2, 2, 2), t, s", 2, 1),
     (Part::Declaration, "integer a(n), t, s", 2, 1),
+    (Part::Declaration, "integer a(n, 4), t, s", 2, 1),
     (Part::Declaration, "integer :: t = 0", 2, 1),
     (Part::Declaration, "real a(8), t, s", 2, 1),
     (Part::Declaration, "logical a", 2, 1),
@@ -158,11 +160,12 @@ const HAVE: &[(Part, &str, u32, u32)] = &[
         2,
         5,
     ),
-    (Part::Statement, "a(i) = mod(i, 4)", 2, 5),
-    (Part::Statement, "a(i) = min(i, 4)", 2, 5),
+    (Part::Statement, "a(i) = mod(i, 4)", 3, 5),
+    (Part::Statement, "a(i) = min(i, 4)", 3, 5),
     (Part::Statement, "a(i) = abs(t)", 3, 5),
     (Part::Statement, "a(i) = max(i, s, t)", 2, 5),
-    (Part::Statement, "a(i, 1) = 2", 2, 5),
+    (Part::Statement, "a(i, 1) = 2", 3, 5),
+    (Part::Statement, "a(i, 1, 1) = 2", 2, 5),
     (Part::Statement, "print *, a(i)", 2, 5),
     (Part::Statement, "write (*, *) a(i)", 2, 5),
     (Part::Statement, "a(i) = i ** 2", 2, 5),
@@ -170,6 +173,7 @@ const HAVE: &[(Part, &str, u32, u32)] = &[
     (Part::Statement, "a(i) = -2147483648", 4, 5),
     (Part::Statement, "a(i) = 1_4", 2, 5),
     (Part::Statement, "a(:) = 0", 2, 5),
+    (Part::Statement, "a(:, 1) = 0", 2, 5),
     (Part::Statement, "a = 0", 3, 5),
     (Part::Statement, "do j = 1, 2\na(i) = j\nend do", 2, 5),
     (Part::Statement, "call flow(i)", 2, 5),
@@ -185,6 +189,28 @@ const HAVE: &[(Part, &str, u32, u32)] = &[
     (Part::Declaration, "\u{feff}integer a(8), t, s", 2, 1),
 ];
 
+/// What is accepted as it stands since document 02, Point 9, and what to write for three dimensions or for a loop in a loop
+/// over two: a declaration, the loop and a statement.
+const GRIDS: &[(&str, &str, &str)] = &[
+    ("integer a(2, 4), t, s", "do i = 1, 4", "a(2, i) = t"),
+    (
+        "integer a(4, 2), t, s",
+        "do i = 1, 4",
+        "a(i, t + 1) = a(i, 2) + s",
+    ),
+    ("integer a(8, 1), t, s", "do i = 1, 4", "a(i, 1) = 2"),
+    (
+        "integer a(2, 4), t, s",
+        "do i = 1, 2",
+        "a(i, 2 + 2 * (2 - 1)) = 1",
+    ),
+    (
+        "integer a(2, 4), t, s",
+        "do k = 0, 7",
+        "a((k - k / 2 * 2 + 1), (k / 2 + 1)) = k",
+    ),
+];
+
 /// What to write instead.
 const WRITE: &[(Part, &str)] = &[
     (Part::Statement, "! level\na(i) = i"),
@@ -196,7 +222,6 @@ const WRITE: &[(Part, &str)] = &[
     (Part::Statement, "a(i) = 2 * (i - i / 4 * 4)"),
     (Part::Statement, "a(i) = 2 * (-max(-i, -4))"),
     (Part::Statement, "a(i) = max(max(i, s), t)"),
-    (Part::Statement, "a(i + 3 * (2 - 1)) = 1"),
     (Part::Statement, "a(i) = max(t, -t)"),
     (Part::Statement, "a(i) = i * i"),
     (Part::Statement, "a(i) = 2 * (-1)"),
@@ -222,8 +247,15 @@ pub fn rows() -> Vec<TextRow> {
         TextRow::bad(form, with(part, form), number, line)
     };
     let write = |&(part, form): &(Part, &str)| TextRow::good(form, with(part, form), 10, 2);
+    let grid = |&(declaration, bounds, statement): &(&str, &str, &str)| {
+        let text = with(Part::Statement, statement);
+        let text = text.replace("integer a(8), t, s", declaration);
+        let text = text.replace("do i = 1, 4", bounds);
+        TextRow::good(&format!("{declaration}, {statement}"), text, 10, 2)
+    };
     HAVE.iter()
         .map(have)
+        .chain(GRIDS.iter().map(grid))
         .chain(WRITE.iter().map(write))
         .collect()
 }

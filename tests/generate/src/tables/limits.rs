@@ -20,6 +20,11 @@ fn reducing(operation: &str, statement: &str) -> String {
     with_statement(statement).replace("num_threads(2)", &clause)
 }
 
+/// The same text where a is a grid, two by two.
+fn as_grid(text: String) -> String {
+    text.replace("a(4)", "a(2,2)")
+}
+
 /// An `if` on line 4, closed on line 5.
 fn with_if(line: &str) -> String {
     with_body(&format!("{line}\nend if\n"))
@@ -126,6 +131,15 @@ fn bracket_rows() -> Vec<TextRow> {
     let maxes = |times: usize| "max(".repeat(times) + "1" + &", 1)".repeat(times);
     let good = |name: &str, text: String| TextRow::good(name, text, 5, 2);
     let bad = |name: &str, text: String| TextRow::bad(name, text, 4, 4);
+    let firsts = |times: usize| "a(".repeat(times) + "1" + &", 1)".repeat(times);
+    let seconds = |times: usize| nest("a(1,", times, "1");
+    let assign = |left: &str, right: &str| as_grid(with_statement(&format!("{left} = {right}")));
+    let grid = |name: &str, left: &str, right: &str| good(name, assign(left, right));
+    let over = |name: &str, left: &str, right: &str| bad(name, assign(left, right));
+    let grids_in_if = |times: usize| {
+        let line = format!("if ({} == {}) then", firsts(times), seconds(times));
+        as_grid(with_if(&line))
+    };
     vec![
         good("8 brackets", with_statement(&format!("s = {eight}"))),
         bad("9 brackets", with_statement(&format!("s = {nine}"))),
@@ -239,6 +253,45 @@ fn bracket_rows() -> Vec<TextRow> {
             "a subscript around 8",
             with_statement(&format!("s = a({eight})")),
         ),
+        // document 02, Point 9: both subscripts stand in one open bracket (P9.6)
+        grid("8 grids in their first subscript", "s", &firsts(8)),
+        over("9 grids in their first subscript", "s", &firsts(9)),
+        grid("8 grids in their second subscript", "s", &seconds(8)),
+        over("9 grids in their second subscript", "s", &seconds(9)),
+        grid("8 grids on either side", &seconds(8), &firsts(8)),
+        over("9 grids on the left, in the first", &firsts(9), "1"),
+        over("9 grids on the left, in the second", &seconds(9), "1"),
+        grid(
+            "7 in either subscript",
+            "s",
+            &format!("a({seven}, {seven})"),
+        ),
+        over("8 in the first subscript", "s", &format!("a({eight}, 1)")),
+        over("8 in the second subscript", "s", &format!("a(1, {eight})")),
+        grid("two open together in 6", "s", &nest("(", 6, "a((1), (2))")),
+        over("two open together in 7", "s", &nest("(", 7, "a((1), (2))")),
+        grid(
+            "an update of 8 grids",
+            &seconds(8),
+            &format!("{} + {eight}", seconds(8)),
+        ),
+        over(
+            "an update of 8 grids by 9",
+            &seconds(8),
+            &format!("{} + {nine}", seconds(8)),
+        ),
+        grid(
+            "a maximum update of 7 grids",
+            &firsts(7),
+            &format!("max({}, {seven})", firsts(7)),
+        ),
+        over(
+            "a maximum update of 8 grids",
+            &firsts(8),
+            &format!("max({}, 1)", firsts(8)),
+        ),
+        good("8 grids inside if", grids_in_if(8)),
+        bad("9 grids inside if", grids_in_if(9)),
         good("8 inside if", with_if(&format!("if ({eight} == 1) then"))),
         good(
             "8 inside if, right",
@@ -270,6 +323,14 @@ pub fn deep_rows() -> Vec<TextRow> {
     let row = |name: &str, statement: String, number: u32| {
         let text = with_statement(&statement);
         assert!(text.len() <= 2048);
+        TextRow::bad(name, text, number, 4)
+    };
+    let grid_row = |name: &str, (open, close): (&str, &str), inner: &str, number: u32| {
+        let frame = as_grid(with_statement("s = ")).len() + inner.len();
+        let times = (2048 - frame) / (open.len() + close.len());
+        let nested = open.repeat(times) + inner + &close.repeat(times);
+        let text = as_grid(with_statement(&format!("s = {nested}")));
+        assert!((2040..=2048).contains(&text.len()));
         TextRow::bad(name, text, number, 4)
     };
     vec![
@@ -314,6 +375,25 @@ pub fn deep_rows() -> Vec<TextRow> {
             "as many subscripts on the left as fit",
             format!("{} = 1", nest("a(", room / 3 - 1, "1")),
             4,
+        ),
+        grid_row("as many first subscripts as fit", ("a(", ",1)"), "1", 4),
+        grid_row("as many second subscripts as fit", ("a(1,", ")"), "1", 4),
+        grid_row(
+            "as many subscripts as fit around one that is missing",
+            ("a(1,", ")"),
+            "a(1)",
+            3,
+        ),
+        grid_row(
+            "as many subscripts as fit around three",
+            ("a(1,", ")"),
+            "a(1,1,1)",
+            2,
+        ),
+        row(
+            "as many pairs of subscripts on an array as fit",
+            format!("s = {}", nest("a(1,", room / 5, "1")),
+            3,
         ),
         row(
             "as many rdivs as fit",

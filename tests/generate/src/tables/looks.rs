@@ -155,6 +155,7 @@ pub fn rows() -> Vec<LookRow> {
     rows.extend(super::blocks::look_rows());
     rows.extend(super::copies::look_rows());
     rows.extend(super::reductions::look_rows());
+    rows.extend(super::grids::look_rows());
     rows
 }
 

@@ -12,6 +12,7 @@ pub mod directives;
 pub mod do_lines;
 pub mod forms;
 pub mod from_fortran;
+pub mod grids;
 pub mod limits;
 pub mod looks;
 pub mod names;
@@ -65,5 +66,6 @@ pub fn text_rows() -> Vec<TextRow> {
     rows.extend(limits::rows());
     rows.extend(precedence::rows());
     rows.extend(from_fortran::rows());
+    rows.extend(grids::text_rows());
     rows
 }

@@ -8,9 +8,23 @@ pub struct NameRow {
     pub name: String,
     pub text: Vec<u8>,
     pub asked: Vec<u8>,
-    /// The first cell, how many, whether it takes a subscript, and the number of its clause; or the number
-    /// and line of the refusal.
-    pub expected: Result<(u32, u32, bool, u32), (u32, u32)>,
+    /// What is found, or the number and line of the refusal.
+    pub expected: Result<Found, (u32, u32)>,
+}
+
+/// What Name answers of a declared name.
+#[derive(Debug, Clone, Copy, PartialEq, Eq)]
+pub struct Found {
+    /// The first of its cells, and how many it has.
+    pub first: u32,
+    pub cells: u32,
+    /// How many subscripts it takes.
+    pub subscripts: u32,
+    /// The number of its clause.
+    pub clause: u32,
+    /// A grid's extents; an array's length and 0; 0 and 0.
+    pub rows: u32,
+    pub columns: u32,
 }
 
 /// A text and what Bounds answers.
@@ -58,14 +72,35 @@ fn row(name: &str, text: impl Into<Vec<u8>>, asked: impl AsRef<[u8]>) -> NameRow
 
 impl NameRow {
     /// The same, found as an array.
-    fn array(mut self, first: u32, cells: u32, clause: u32) -> NameRow {
-        self.expected = Ok((first, cells, true, clause));
-        self
+    fn array(self, first: u32, cells: u32, clause: u32) -> NameRow {
+        self.found((first, cells), 1, clause, (cells, 0))
     }
 
     /// The same, found as a single cell.
-    fn single(mut self, first: u32, clause: u32) -> NameRow {
-        self.expected = Ok((first, 1, false, clause));
+    fn single(self, first: u32, clause: u32) -> NameRow {
+        self.found((first, 1), 0, clause, (0, 0))
+    }
+
+    /// The same, found as a grid of so many cells.
+    fn grid(self, cells: (u32, u32), extents: (u32, u32), clause: u32) -> NameRow {
+        self.found(cells, 2, clause, extents)
+    }
+
+    fn found(
+        mut self,
+        (first, cells): (u32, u32),
+        subscripts: u32,
+        clause: u32,
+        (rows, columns): (u32, u32),
+    ) -> NameRow {
+        self.expected = Ok(Found {
+            first,
+            cells,
+            subscripts,
+            clause,
+            rows,
+            columns,
+        });
         self
     }
 
@@ -83,6 +118,7 @@ pub fn name_rows() -> Vec<NameRow> {
     rows.extend(undeclared_rows());
     rows.extend(length_rows());
     rows.extend(place_rows());
+    rows.extend(grid_rows());
     rows.extend(refusal_rows());
     rows
 }
@@ -305,6 +341,63 @@ fn place_rows() -> Vec<NameRow> {
     ]
 }
 
+/// Document 02, Point 9: a grid of each clause between other names. s has cell 0, bed 1 to 6, a 7 to 10, one 11,
+/// peak 12 to 26, w 27 to 29, t 30 to 32, old 33 to 36.
+const GRIDS: &str = "integer s, bed(2, 3), a(4), one(1, 1)\n\
+    INTEGER Peak(05, 3)\n\
+    integer w(1,3), t(3,1), old ( 2 , 2 )\n\
+    data bed /6*1/\n\
+    !$omp parallel do num_threads(2) reduction(max:peak) lastprivate(t, old) reduction(*:w) firstprivate(old) \
+    reduction(+:one)\n\
+    do i = 1, 2\n\
+    bed(i, 1) = bed(i, 2)\n\
+    end do\n";
+
+fn grid_rows() -> Vec<NameRow> {
+    let of = |asked: &str| row("grids", GRIDS, asked);
+    let plain = |names: &str| text(names, "num_threads(1)", "1, 0", "");
+    let large = |names: &str, asked: &str| row(names, plain(names), asked);
+    vec![
+        of("s").single(0, SHARED),
+        of("bed").grid((1, 6), (2, 3), SHARED),
+        of("BED").grid((1, 6), (2, 3), SHARED),
+        of("a").array(7, 4, SHARED),
+        // P9.2: one cell, but a grid
+        of("one").grid((11, 1), (1, 1), SUM),
+        of("peak").grid((12, 15), (5, 3), MAXIMUM),
+        of("pEAk").grid((12, 15), (5, 3), MAXIMUM),
+        of("w").grid((27, 3), (1, 3), PRODUCT),
+        of("t").grid((30, 3), (3, 1), LASTPRIVATE),
+        of("old").grid((33, 4), (2, 2), COPIED),
+        of("i"),
+        of("be"),
+        of("beds"),
+        of("bed "),
+        of(" bed"),
+        of("bed(2, 3)"),
+        of("bed(1, 1)"),
+        of("bed,"),
+        of("2"),
+        large("g(64, 64)", "g").grid((0, 4096), (64, 64), SHARED),
+        large("g(4096, 1)", "g").grid((0, 4096), (4096, 1), SHARED),
+        large("g(1, 4096)", "g").grid((0, 4096), (1, 4096), SHARED),
+        large("a(4096)", "a").array(0, 4096, SHARED),
+        large("g(2, 2047), s, a", "g").grid((0, 4094), (2, 2047), SHARED),
+        large("g(2, 2047), s, a", "a").single(4095, SHARED),
+        large("s, g(1, 4095)", "g").grid((1, 4095), (1, 4095), SHARED),
+        large("g(64, 63), h(8, 8)", "h").grid((4032, 64), (8, 8), SHARED),
+        large("a(3), g(3, 1), h(1, 3)", "a").array(0, 3, SHARED),
+        large("a(3), g(3, 1), h(1, 3)", "g").grid((3, 3), (3, 1), SHARED),
+        large("a(3), g(3, 1), h(1, 3)", "h").grid((6, 3), (1, 3), SHARED),
+        large("ab(2, 2), a(3, 2)", "a").grid((4, 6), (3, 2), SHARED),
+        // refused as Check refuses it
+        large("g(0, 3)", "g").refused(4, 1),
+        large("g(64, 65)", "g").refused(4, 1),
+        large("g(1, 1, 1)", "g").refused(2, 1),
+        large("g(2, 2), g", "g").refused(3, 1),
+    ]
+}
+
 /// Texts that Check refuses: whatever is asked, it is refused so.
 fn refusal_rows() -> Vec<NameRow> {
     let mut rows = Vec::new();
@@ -336,6 +429,11 @@ fn refused_texts() -> Vec<(String, Vec<u8>, u32, u32)> {
         ),
         ("a(4)", "s", 3, 1),
         ("a(4)", "i", 3, 3),
+        ("a(4)", "a(2, 2, 1)", 2, 1),
+        ("a(4)", "a(2, 2)", 3, 4),
+        ("a(4)", "a(4, 0)", 4, 1),
+        ("a(i) = s", "a(i, 1) = s", 3, 4),
+        ("a(i) = s", "a(i, 1, 1) = s", 2, 4),
         ("num_threads(2)", "num_threads(2) firstprivate(a)", 3, 2),
         (
             "num_threads(2)",
@@ -434,6 +532,12 @@ pub fn bounds_rows() -> Vec<BoundsRow> {
     rows.extend([
         row("schedule(static) in a comment", comment, Ok((-2, 6, false))),
         row("a closing directive", closed, Ok((-2, 6, false))),
+        row("grids", GRIDS.to_string(), Ok((1, 2, false))),
+        row(
+            "grids, by blocks",
+            GRIDS.replace("do num_threads", "do schedule(static) num_threads"),
+            Ok((1, 2, true)),
+        ),
         row(
             "no last newline",
             plain.trim_end().to_string(),

@@ -99,6 +99,24 @@ const ALIKE: &[Pair] = &[
             "s = a(001) + 000",
         ],
     ),
+    // document 02, Point 9
+    (
+        "a grid in another way",
+        [
+            "integer g(2, 3)",
+            "data g /6*1/",
+            CLAUSES,
+            LOOP,
+            "g(1, 2) = g(i, 3)",
+        ],
+        [
+            "INTEGER G ( 02,003 )",
+            "data g /1, 2*1, 3*01/",
+            CLAUSES,
+            LOOP,
+            "  g(01 ,2)=G( I,0003 )",
+        ],
+    ),
 ];
 
 /// These do not.
@@ -384,6 +402,67 @@ const DIFFERENT: &[Pair] = &[
         "after an end if or before it",
         [FIRST, "", CLAUSES, LOOP, "if (s < 1) then\ns = 1\nend if"],
         [FIRST, "", CLAUSES, LOOP, "if (s < 1) then\nend if\ns = 1"],
+    ),
+    // document 02, Point 9
+    (
+        "subscripts in another order",
+        ["integer g(2, 2)", "", CLAUSES, LOOP, "g(1, 2) = i"],
+        ["integer g(2, 2)", "", CLAUSES, LOOP, "g(2, 1) = i"],
+    ),
+    (
+        "subscripts that are read in another order",
+        ["integer s, g(2, 2)", "", CLAUSES, LOOP, "s = g(i, 1)"],
+        ["integer s, g(2, 2)", "", CLAUSES, LOOP, "s = g(1, i)"],
+    ),
+    (
+        "the same digits in two subscripts",
+        ["integer g(12, 12)", "", CLAUSES, LOOP, "g(1, 12) = i"],
+        ["integer g(12, 12)", "", CLAUSES, LOOP, "g(11, 2) = i"],
+    ),
+    (
+        "brackets in a subscript",
+        ["integer g(2, 2)", "", CLAUSES, LOOP, "g(1, 2) = i"],
+        ["integer g(2, 2)", "", CLAUSES, LOOP, "g(1, (2)) = i"],
+    ),
+    (
+        "extents in another order",
+        ["integer g(2, 3)", "", CLAUSES, LOOP, ""],
+        ["integer g(3, 2)", "", CLAUSES, LOOP, ""],
+    ),
+    (
+        "other extents of as many cells",
+        ["integer g(2, 6)", "", CLAUSES, LOOP, ""],
+        ["integer g(3, 4)", "", CLAUSES, LOOP, ""],
+    ),
+    (
+        "the same digits in two extents",
+        ["integer g(1, 11)", "", CLAUSES, LOOP, ""],
+        ["integer g(11, 1)", "", CLAUSES, LOOP, ""],
+    ),
+    (
+        "an array or a grid of as many cells",
+        ["integer g(6)", "", CLAUSES, LOOP, ""],
+        ["integer g(2, 3)", "", CLAUSES, LOOP, ""],
+    ),
+    (
+        "an array or a grid of one column",
+        ["integer g(6)", "", CLAUSES, LOOP, "g(i) = 1"],
+        ["integer g(6, 1)", "", CLAUSES, LOOP, "g(i, 1) = 1"],
+    ),
+    (
+        "one cell or a grid of one",
+        ["integer g", "", CLAUSES, LOOP, ""],
+        ["integer g(1, 1)", "", CLAUSES, LOOP, ""],
+    ),
+    (
+        "a grid and an array in another order",
+        ["integer g(2, 3), a(4)", "", CLAUSES, LOOP, ""],
+        ["integer a(4), g(2, 3)", "", CLAUSES, LOOP, ""],
+    ),
+    (
+        "two grids on one line or on two",
+        ["integer g(2, 3), h(3, 2)", "", CLAUSES, LOOP, ""],
+        ["integer g(2, 3)\ninteger h(3, 2)", "", CLAUSES, LOOP, ""],
     ),
 ];
 

@@ -27,7 +27,12 @@ pub struct PlanRow {
 }
 
 /// A row whose iterations have these stages.
-fn planned(name: &str, text: &str, cells: &[i32], (stages, list): (u32, &[u16])) -> PlanRow {
+pub(super) fn planned(
+    name: &str,
+    text: &str,
+    cells: &[i32],
+    (stages, list): (u32, &[u16]),
+) -> PlanRow {
     PlanRow {
         name: name.to_string(),
         text: text.as_bytes().to_vec(),
@@ -39,7 +44,7 @@ fn planned(name: &str, text: &str, cells: &[i32], (stages, list): (u32, &[u16]))
 }
 
 /// A row with a list of so many numbers, for as many iterations, that ends in a fault.
-fn fault(
+pub(super) fn fault(
     name: &str,
     text: &str,
     cells: &[i32],
@@ -62,6 +67,7 @@ pub fn rows() -> Vec<PlanRow> {
     rows.extend(touch_rows());
     rows.extend(size_rows());
     rows.extend(fault_rows());
+    rows.extend(super::grids::plan_rows());
     rows.extend(refusal_rows());
     rows
 }

@@ -96,6 +96,77 @@ pub const ROWS: &[(&str, &str, &str)] = &[
         "! refused 10 4 3\n",
     ),
     (
+        "a grid in its element order (document 02, Point 9)",
+        "integer g(2, 3)\n!$omp parallel do num_threads(2)\ndo i = 1, 3\ng(1, i) = i\ng(2, i) = 10*i\nend do\n",
+        "! passed 6 6\ndata g /1,10,2,20,3,30/\n",
+    ),
+    (
+        "grids among other names, with data",
+        "integer s, Bed(3, 2), a(2)\ndata bed /1, 2, 3, 4, 5, 6/\n!$omp parallel do num_threads(2)\n\
+         do i = 1, 2\na(i) = bed(1, i)\nbed(i + 1, 2) = -i\nend do\n",
+        "! passed 4 4\ndata s /0/\ndata bed /1,2,3,4,-1,-2/\ndata a /1,4/\n",
+    ),
+    (
+        "one cell of a grid for all",
+        "integer g(1, 1)\n!$omp parallel do num_threads(2)\ndo i = 1, 2\ng(1, 1) = i\nend do\n",
+        "! rerun 2 1\ndata g /2/\n",
+    ),
+    (
+        "a cell of a grid updated",
+        "integer g(2, 2)\ndata g /4*5/\n!$omp parallel do num_threads(2) reduction(+:g)\ndo i = 1, 4\n\
+         g(2, 1) = g(2, 1) + i\nend do\n",
+        "! passed 4 1\ndata g /5,15,5,5/\n",
+    ),
+    (
+        "a fault: the first subscript, of a cell that would be inside",
+        "integer g(2, 3)\n!$omp parallel do num_threads(2)\ndo i = 1, 3\ng(i, 1) = 1\nend do\n",
+        "! refused 9 4 3\n",
+    ),
+    (
+        "a fault: the second subscript",
+        "integer g(2, 3)\n!$omp parallel do num_threads(2)\ndo i = 1, 4\ng(1, i) = 1\nend do\n",
+        "! refused 9 4 4\n",
+    ),
+    (
+        "a fault: a divisor in the second subscript, before the first is tested",
+        "integer g(2, 3)\n!$omp parallel do num_threads(2)\ndo i = 7, 7\ng(9, 1/0) = 1\nend do\n",
+        "! refused 10 4 7\n",
+    ),
+    (
+        "one subscript where two belong",
+        "integer g(2, 3)\n!$omp parallel do num_threads(2)\ndo i = 1, 4\ng(1) = 1\nend do\n",
+        "! refused 3 4 0\n",
+    ),
+    (
+        "two subscripts for one",
+        "integer a(6)\n!$omp parallel do num_threads(2)\ndo i = 1, 4\na(1, 2) = 1\nend do\n",
+        "! refused 3 4 0\n",
+    ),
+    (
+        "three subscripts",
+        "integer g(2, 3)\n!$omp parallel do num_threads(2)\ndo i = 1, 4\ng(1, 2, 1) = 1\nend do\n",
+        "! refused 2 4 0\n",
+    ),
+    (
+        "65,536 by 65,536",
+        "integer g(65536, 65536)\n!$omp parallel do num_threads(2)\ndo i = 1, 4\nend do\n",
+        "! refused 4 1 0\n",
+    ),
+    (
+        "128 cells in a grid",
+        "integer g(8, 16)\ndata g /128*-7/\n!$omp parallel do num_threads(8)\ndo i = 1, 0\nend do\n",
+        "! passed 0 0\ndata g /-7,-7,-7,-7,-7,-7,-7,-7,-7,-7,-7,-7,-7,-7,-7,-7,-7,-7,-7,-7,-7,-7,-7,-7,-7,-7,-7,\
+         -7,-7,-7,-7,-7,-7,-7,-7,-7,-7,-7,-7,-7,-7,-7,-7,-7,-7,-7,-7,-7,-7,-7,-7,-7,-7,-7,-7,-7,-7,-7,-7,-7,\
+         -7,-7,-7,-7,-7,-7,-7,-7,-7,-7,-7,-7,-7,-7,-7,-7,-7,-7,-7,-7,-7,-7,-7,-7,-7,-7,-7,-7,-7,-7,-7,-7,-7,\
+         -7,-7,-7,-7,-7,-7,-7,-7,-7,-7,-7,-7,-7,-7,-7,-7,-7,-7,-7,-7,-7,-7,-7,-7,-7,-7,-7,-7,-7,-7,-7,-7,-7,\
+         -7,-7/\n",
+    ),
+    (
+        "129 cells in a grid",
+        "integer g(3, 43)\n!$omp parallel do num_threads(1)\ndo i = 1, 1\nend do\n",
+        "! refused 5 0 0\n",
+    ),
+    (
         "the least value, which no data line could give",
         "integer a\n!$omp parallel do num_threads(1)\ndo i = 1, 1\na = 2147483647 + 1\nend do\n",
         "! passed 1 1\ndata a /-2147483648/\n",

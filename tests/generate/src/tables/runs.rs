@@ -330,6 +330,7 @@ pub fn rows() -> Vec<RunRow> {
     rows.extend(super::blocks::run_rows());
     rows.extend(super::copies::run_rows());
     rows.extend(super::reductions::run_rows());
+    rows.extend(super::grids::run_rows());
     rows
 }
 

@@ -152,7 +152,6 @@ const BROKEN: &[&str] = &[
     "s = ()",
     "s = a()",
     "a() = 1",
-    "s = a(1, 2)",
     "s = a(1:2)",
     "s = a(1)(1)",
     "s = (1)(1)",
@@ -196,9 +195,6 @@ const BROKEN: &[&str] = &[
     "s = then",
     "s = else",
     "s = a(then)",
-    // READING 35
-    "s = min(s, 1)",
-    "s = mod(7, 2)",
     // document 02, Point 6: exactly two expressions (P6.8)
     "s = max()",
     "s = max(1)",
@@ -411,6 +407,10 @@ const MISNAMED: &[&str] = &[
     // READING 35
     "s = abs(s)",
     "s = abs(-1)",
+    // number 2 before document 02, Point 9 (P9.3)
+    "s = min(s, 1)",
+    "s = mod(7, 2)",
+    "s = a(1, 2)",
     // READING 37
     "s = s(1)",
     "s(1) = 1",

@@ -1,0 +1,2 @@
+-- What is found out before cells are moved.
+pub mod Sought

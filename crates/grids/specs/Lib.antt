@@ -1,0 +1,2 @@
+-- A grid's cells rearranged.
+pub mod Arrange

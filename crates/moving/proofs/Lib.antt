@@ -1,0 +1,2 @@
+-- Both steps, cell by cell.
+mod Steps

@@ -1,0 +1,2 @@
+-- What the two steps of a rearrangement leave.
+pub mod Moving
