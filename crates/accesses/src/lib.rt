@@ -16,7 +16,7 @@ use operands::fault;
 use operands::go_on;
 use operands::stop;
 
-// The cell of a subscript, if it is inside its array.
+// The cell of a subscript, or of a grid's two, if it is inside its bounds.
 pub enum Located {
     Cell(usize),
     Outside,

@@ -62,7 +62,7 @@ pub fn located(table: &Table, name: &[u8]) -> Located
     Located::Refused { number: 3, line: 0 }
 }
 
-// The cells of a name, and its clause.
+// The cells of a name, how many subscripts it takes, its clause and its extents.
 pub fn name(text: &[u8], name: &[u8]) -> Located
     ensures { λ r. ⌜ r ≡ nameOf (readText (now (text .entry))) (now (name .entry)) ⌝ }
 {

@@ -244,7 +244,7 @@ fn pair(
     }
 }
 
-// The subscripts of the name at a place, after its bracket: of a grid's two one is made (RULES 2.5).
+// The subscripts of the name at a place, after its bracket (RULES 1.10, 2.5); `flatten` makes one of a grid's two.
 fn subscripts(
     s: &[u8],
     at: usize,

@@ -29,7 +29,7 @@ pub record Entry : Type 0 where
 abbrev pub named : List ℕ → Entry → Bool
 named x e = same x (e .name)
 
--- the extents of a grid; the length of an array, and 0
+-- the extents of a grid; of an array its length and 0, of a single cell 0 and 0
 abbrev pub rows : Entry → ℕ
 rows e = getD (e .extents) 0 0
 
@@ -157,10 +157,11 @@ nothing = record { stage = 0; table = []; processors = 0; grouping = Iterations;
 
 -- ---- what a good line adds
 
--- "in declared order"; "a name in no clause is shared"
+-- "a name in no clause is shared"
 abbrev pub entryOf : ℕ → Declared → Entry
 entryOf c d = record { name = declaredName d; first = c; extents = declaredExtents d; size = declaredSize d; class = shared; given = none }
 
+-- "in declared order"
 abbrev pub entries : ℕ → List Declared → List Entry
 entries c [] = []
 entries c (d ∷ ds) = entryOf c d ∷ entries (c + declaredSize d) ds

@@ -19,7 +19,7 @@ use parts::expect;
 use parts::join;
 use rules::Operator;
 
-// The left side of an assignment: where it ends in the line, the highest rank so far, its line, and the place after the code of its subscript.
+// The left side of an assignment: where it ends in the line, the highest rank so far, its line, and the place after the code of its subscripts.
 pub struct Left {
     pub end: usize,
     pub rank: u32,
