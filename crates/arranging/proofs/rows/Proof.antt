@@ -1,5 +1,6 @@
 -- `arranging::rows` meets its contract.
 use mathlib.Core.Path.{sym, _∙_}
+use native.Mathlib.Omega.{arith}
 use Rattle.grids.specs.Arrange.{by-rows}
 use Rattle.answers.specs.Answers.{cellsByRows}
 use Rattle.arranging.proofs.Answering.{room, answers, leaves}
@@ -17,7 +18,8 @@ to-rows-requires : tie.Need-to-rows-requires
 to-rows-requires c κs =
     let c2 = c .before .before in
     let c4 = c2 .before .before in
-    room _ _ (c4 .before .before .before .args .cells .now) _ (sym (c2 .s .given .1) ∙ c4 .seek .ensures)
+    let r = room _ _ (c4 .before .before .before .args .cells .now) _ (sym (c2 .s .given .1) ∙ c4 .seek .ensures) in
+    (omega (arith, r .0), omega (arith, r .1))
 
 enum-known-s-2 : tie.Need-enum-known-s-2
 enum-known-s-2 c = search needs
