@@ -1,4 +1,6 @@
 // The instructions that access cells, and the place of a grid's two subscripts, one function for each (crates/code).
+#![tactic(auto)]
+
 ghost use Rattle.std.specs.Prelude.{◌≡◌, List, ℕ, ◌/◌, ◌%◌, ◌≤◌, length, ℤ};
 ghost use Rattle.rules.specs.Loop.{Act};
 ghost use Rattle.syntax.specs.Meaning.{located, in_grid};

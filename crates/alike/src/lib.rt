@@ -1,4 +1,6 @@
 // Tokens that are the same (RULES 3.1 b: an update's reference is the same token for token).
+#![tactic(auto)]
+
 ghost use Rattle.std.specs.Prelude.{◌≡◌, ◌≤◌, ◌<◌, length};
 ghost use Rattle.lexer.specs.Lex.{part, kind_number};
 ghost use Rattle.alike.specs.Alike.{Zeros, same_token, Alike};

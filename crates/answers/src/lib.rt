@@ -1,5 +1,7 @@
 // What the services answer (RULES 9). specs/Answers.antt says what each answers and leaves, by the verdict on the text;
 // specs/Numbers.antt has the number, line and v of RULES 10 for what the serial run answers.
+#![tactic(auto)]
+
 use rules::Grouping;
 
 // What Check answers: N and P, or a refusal with its number and line.

@@ -1,5 +1,7 @@
 // Rows and Columns (RULES 9.9): the cells of one named grid put in row order, and back. Each takes any text, cells and name, and refuses what it can't
 // take; a refusal leaves the cells as they came.
+#![tactic(auto)]
+
 ghost use Rattle.std.specs.Prelude.{◌≡◌, length};
 ghost use Rattle.syntax.specs.Text.{read as read_text};
 ghost use Rattle.answers.specs.Answers.{arrange_of, cells_by_rows, cells_by_columns};

@@ -1,4 +1,6 @@
 // The reader of assignments (RULES 1.9, and 3: updates): form, names and limits are checked, and code is emitted.
+#![tactic(auto)]
+
 ghost use Rattle.std.specs.Prelude.{◌≡◌, cond, ◌≤◌, ◌<◌, ◌+◌, ◌*◌, length};
 ghost use Rattle.syntax.specs.Reader.{peek_in, skip_in, read_assign};
 ghost use Rattle.parts.specs.Answer.{Ready};

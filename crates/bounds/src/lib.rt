@@ -1,4 +1,6 @@
 // The `do` line (RULES 1.8), after its first word.
+#![tactic(auto)]
+
 ghost use Rattle.std.specs.Prelude.{◌≡◌, true, ◌≤◌, ◌<◌, ◌+◌, ◌-◌, length};
 ghost use Rattle.syntax.specs.Known.{signed};
 ghost use Rattle.lexer.specs.Places.{Goes, lead_of};

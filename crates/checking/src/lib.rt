@@ -1,5 +1,7 @@
 // Check and Load (RULES 9.2 a, 9.3). Each takes any text and whatever is lent, and refuses what it can't take; a refusal leaves the cells as
 // they came.
+#![tactic(auto)]
+
 ghost use Rattle.std.specs.Prelude.{◌≡◌, length};
 ghost use Rattle.syntax.specs.Text.{read as read_text};
 ghost use Rattle.answers.specs.Answers.{check_of, load_of, cells_loaded};

@@ -1,5 +1,7 @@
 // Names in clauses (RULES 1.7, 1.12 d). The clauses of a directive are read twice: in the first reading names get the classes
 // of all clauses but `firstprivate`; in the second those in `firstprivate` must be lastprivate by then, and are copied in.
+#![tactic(auto)]
+
 ghost use Rattle.std.specs.Prelude.{◌≡◌, ◌≤◌, length};
 ghost use Rattle.rules.specs.Loop.{reduction};
 ghost use Rattle.rules.specs.Numbers.{class_number};

@@ -1,5 +1,7 @@
 // The directive (RULES 1.7), after its first words: its clauses, which are read twice. What each reading does with their names is in
 // crates/claiming.
+#![tactic(auto)]
+
 ghost use Rattle.std.specs.Prelude.{◌≡◌, ◌&&◌, ◌≤◌, ◌<◌, ◌+◌, min, eqb, leb, length};
 ghost use Rattle.syntax.specs.Bytes.{between};
 ghost use Rattle.syntax.specs.Grammar.{number, static};

@@ -1,5 +1,7 @@
 // The code of a loop body: two words for each instruction. What instructions are, do, and come to is in specs/; the numbers here are those of
 // specs/Instr.antt, `operation`.
+#![tactic(auto)]
+
 
 // The operations: the first word is an operation and LINE times the line.
 pub const PUSH: u32 = 0;

@@ -1,4 +1,6 @@
 // The reader of conditions (RULES 1.9), each after the word `if`: form, names and limits are checked, and code is emitted.
+#![tactic(auto)]
+
 ghost use Rattle.std.specs.Prelude.{◌≡◌, suc, ◌≤◌, ◌<◌, ◌+◌, ◌*◌, length};
 ghost use Rattle.syntax.specs.Reader.{peek_in, skip_in, read_when};
 ghost use Rattle.code.specs.Instr.{relation_number as number_of};

@@ -1,4 +1,6 @@
 // `integer` lines (RULES 1.5), after their first word.
+#![tactic(auto)]
+
 ghost use Rattle.std.specs.Prelude.{◌≡◌, true, not, ◌≤◌, ◌<◌, ◌+◌, ◌*◌, max, min, length};
 ghost use Rattle.syntax.specs.Reader.{peek_in, skip_in, read_declared};
 ghost use Rattle.lexer.specs.Places.{Goes};

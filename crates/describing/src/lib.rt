@@ -1,4 +1,6 @@
 // Bounds and Name (RULES 9.2 b and c): what a text says of its loop and of its names, so that no caller reads it again. Each takes any text and any name.
+#![tactic(auto)]
+
 ghost use Rattle.std.specs.Prelude.{◌≡◌, List, map};
 ghost use Rattle.syntax.specs.Bytes.{lower};
 ghost use Rattle.syntax.specs.Known.{Entry};

@@ -1,5 +1,7 @@
 // The services for callers in C and Fortran (include/lrpd.h, fortran/lrpd.f90): an answer is a struct of the numbers of RULES 9 and 10. A slice is two
 // arguments of C, a pointer and a length.
+#![tactic(auto)]
+
 ghost use Rattle.std.specs.Prelude.{◌≡◌, length};
 ghost use Rattle.syntax.specs.Text.{read};
 ghost use Rattle.answers.specs.Answers.{check_of, bounds_of, name_of, load_of, cells_loaded, look_of, view_shown, look_workspace, run_of, cells_run, run_workspace, plan_of, list_planned, plan_workspace, print_of, bytes_printed, arrange_of, cells_by_rows, cells_by_columns};

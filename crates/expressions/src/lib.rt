@@ -1,5 +1,7 @@
 // The readers of expressions (RULES 1.10): form, names and limits are checked, and postfix code is emitted, in one pass over what is
 // left of a line. "An expression holds terms, a term holds factors, a factor may hold an expression": the readers call each other.
+#![tactic(auto)]
+
 ghost use Rattle.std.specs.Prelude.{◌≡◌, suc, ◌≤◌, ◌+◌, ◌*◌, length};
 ghost use Rattle.syntax.specs.Grammar.{element};
 ghost use Rattle.syntax.specs.Reader.{peek_in, skip_in, read_expr, read_terms, read_term, read_factors, read_factor, read_ref};

@@ -1,5 +1,7 @@
 // What is read off the shadow tables (crates/tables) after a run, or on the way: marks, obstacles, the merged value of a cell, its value at entry, and both
 // write counts. What it means is in proofs/Logged.antt.
+#![tactic(auto)]
+
 ghost use Rattle.std.specs.Prelude.{◌≡◌, ◌+◌, ◌*◌, ◌≤◌, ◌<◌, length};
 ghost use Rattle.int32.specs.Integers.{value};
 ghost use Rattle.rules.specs.Choose.{below};

@@ -1,4 +1,6 @@
 // What is lent: a copy of cells, and what can't be taken (RULES 10: numbers 5 to 7).
+#![tactic(auto)]
+
 ghost use Rattle.std.specs.Prelude.{◌≡◌, ◌≤◌, ltb, length, take};
 ghost use Rattle.syntax.specs.Bytes.{all};
 ghost use Rattle.answers.specs.Answers.{needed, fit_number};

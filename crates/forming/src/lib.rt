@@ -1,4 +1,6 @@
 // Print (RULES 1.15, 9.8): a text in its one printed form. It takes any text and any bytes lent, and refuses what it can't take; a refusal writes nothing.
+#![tactic(auto)]
+
 ghost use Rattle.std.specs.Prelude.{◌≡◌, ◌≤◌, length};
 ghost use Rattle.syntax.specs.Bytes.{tokens};
 ghost use Rattle.syntax.specs.Text.{read as read_text};

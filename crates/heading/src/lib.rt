@@ -1,4 +1,6 @@
 // What the lines before the statements share: ranks (0 in order, 1 over a limit, 2 a wrong name), lists of parts, and literals with a sign.
+#![tactic(auto)]
+
 ghost use Rattle.std.specs.Prelude.{◌≡◌, ◌&&◌, leb, ◌<◌, max};
 ghost use Rattle.int32.specs.Integers.{value};
 ghost use Rattle.syntax.specs.Meaning.{led};

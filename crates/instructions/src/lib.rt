@@ -1,4 +1,6 @@
 // The instructions that jump, and the instruction of two words (crates/code).
+#![tactic(auto)]
+
 ghost use Rattle.std.specs.Prelude.{◌≡◌, List, ◌^◌, ◌/◌, ◌%◌, ◌≤◌, ◌<◌, length, ℤ};
 ghost use Rattle.code.specs.Instr.{Instr, decode, relation_of};
 ghost use Rattle.operands.specs.Pending.{Holding};

@@ -1,4 +1,6 @@
 // The arithmetic of cells: 32-bit signed numbers (RULES 2.1 to 2.4).
+#![tactic(auto)]
+
 ghost use Rattle.std.specs.Prelude.{◌≡◌, ◌<◌, ◌≤◌, pos, FitsSigned, ◌≢◌, unsigned_abs};
 ghost use Rattle.std.specs.Int.{w32};
 ghost use Rattle.int32.specs.Integers.{word, value, sum, difference, product, negation, larger, truncated, quotient, rdiv, divided, nearest, related};

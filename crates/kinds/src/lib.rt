@@ -1,4 +1,6 @@
 // Lines before they are read (RULES 1.1, 1.3, 1.4): their bytes, which are skipped, which kind each is by its first words, and which kind may follow which.
+#![tactic(auto)]
+
 ghost use Rattle.std.specs.Prelude.{◌≡◌, true, false, ◌≤◌, ◌<◌, ◌+◌, eqb, length, drop};
 ghost use Rattle.syntax.specs.Bytes.{all, printable, starts as starts_with, trimmed, skipped_line, sound_line};
 ghost use Rattle.syntax.specs.Conditions.{several, may_miss, may_follow};

@@ -1,4 +1,6 @@
 // A line in the printed form (RULES 1.15): its tokens, one blank between them, a newline after it; of a data line every copy written out.
+#![tactic(auto)]
+
 ghost use Rattle.std.specs.Prelude.{◌≤◌, ◌<◌, ◌+◌, ◌-◌, length, drop};
 ghost use Rattle.syntax.specs.Bytes.{tokens};
 ghost use Rattle.writing.specs.Written.{Fits, Writes, blanked, Moves};

@@ -1,5 +1,7 @@
 // The bytes and tokens of a loop text (RULES 1.1, 1.2). A line is a slice of its own, in lower case and without its newline; a
 // token is read at a place of it.
+#![tactic(auto)]
+
 ghost use Rattle.std.specs.Prelude.{◌≡◌, map, ◌≤◌, ◌<◌, ◌+◌, min, eqb, length, drop};
 ghost use Rattle.std.proofs.lemmas.List.Edits.{sets};
 ghost use Rattle.syntax.specs.Bytes.{lower as lower_of, same, starts as starts_with, any, reserved as reserved_words, word_of, kind_of};

@@ -1,4 +1,6 @@
 // The lines of a loop text, each by its kind: read to its end, judged, and taken into what is known so far.
+#![tactic(auto)]
+
 ghost use Rattle.std.specs.Prelude.{◌≡◌, List, Bool, cond, ℕ, suc, ◌≤◌, ◌<◌, ◌+◌, ◌-◌, ◌*◌, max, leb, length, get_or, set, ℤ};
 ghost use Rattle.syntax.specs.Grammar.{otherwise, end_if, inside, end_do};
 ghost use Rattle.syntax.specs.Reader.{read_declare, read_give, read_opening, read_closing, read_loop, read_assign, read_when, peek_in, skip_in};

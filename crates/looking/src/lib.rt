@@ -1,5 +1,7 @@
 // Look (RULES 9.4). It takes any text and whatever is lent, and refuses what it can't take; a refusal leaves all that is lent as it
 // came. The cells are lent to be read only.
+#![tactic(auto)]
+
 ghost use Rattle.std.specs.Prelude.{◌≡◌, length};
 ghost use Rattle.syntax.specs.Text.{read as read_text};
 ghost use Rattle.answers.specs.Answers.{look_of, view_shown, look_workspace};

@@ -1,5 +1,7 @@
 // The program (RULES 11). What it prints for a text is `print`'s contract; `main` reads the text, of which one byte over the limit is enough to
 // refuse it, and writes what was printed.
+#![tactic(auto)]
+
 ghost use Rattle.std.specs.Prelude.{◌≡◌, ◌≤◌, length};
 ghost use Rattle.syntax.specs.Text.{read};
 ghost use Rattle.lrpd.specs.Output.{lent_for, printed_over, printed, Prints};

@@ -1,5 +1,7 @@
 // The stepping machine: it runs the code of a loop body, two words for each instruction (crates/code), from a place up to and including the
 // next cell access, or to the end of the iteration or a fault (RULES 4.3). The values pending stand in an array that is lent.
+#![tactic(auto)]
+
 ghost use Rattle.operands.specs.Pending.{Holding};
 ghost use Rattle.machine.specs.Machine.{Advances};
 

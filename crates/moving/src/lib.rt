@@ -1,4 +1,6 @@
 // A grid's cells moved into row order (RULES 9.9), each once into a spare array and once back.
+#![tactic(auto)]
+
 ghost use Rattle.std.specs.Prelude.{◌≡◌, ◌+◌, ◌*◌, ◌≤◌, ◌<◌, length};
 ghost use Rattle.grids.specs.Arrange.{source, by_rows, rearranged};
 ghost use Rattle.moving.specs.Moving.{Gathered, Placed};

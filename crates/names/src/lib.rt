@@ -1,4 +1,6 @@
 // The table of names (RULES 1.13: at most 16, and the loop's variable), as words that the reader holds. specs/Table.antt has its layout.
+#![tactic(auto)]
+
 ghost use Rattle.std.specs.Prelude.{◌≡◌, true, List, ◌≤◌, ◌<◌, ◌+◌, ◌*◌, ◌/◌, length};
 ghost use Rattle.syntax.specs.Bytes.{same};
 ghost use Rattle.syntax.specs.Known.{Entry};

@@ -1,5 +1,7 @@
 // Notes of accesses in the shadow tables (crates/tables). A caller works out the places of a cell's row and of a processor's own part in it; each function then
 // takes a few steps.
+#![tactic(auto)]
+
 ghost use Rattle.std.specs.Prelude.{◌≡◌, max, ◌+◌, ◌*◌, ◌/◌, ◌%◌, ◌≤◌, ◌<◌, length};
 ghost use Rattle.shadow.specs.Tables.{lower};
 ghost use Rattle.tables.specs.Layout.{met_word, writers_word};

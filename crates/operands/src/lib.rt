@@ -1,5 +1,7 @@
 // The values that are pending while the code of a loop body is run, and the instructions that work on them alone, one function for each: it is given the place after
 // its instruction, the pending values and how many they are. An instruction that finds too few values, or no room for one more, ends the iteration.
+#![tactic(auto)]
+
 ghost use Rattle.std.specs.Prelude.{◌≡◌, ◌∷◌, ◌<◌, length, ℤ};
 ghost use Rattle.code.specs.Instr.{Instr, room};
 ghost use Rattle.operands.specs.Pending.{pendings, Holding, Pushed};

@@ -1,5 +1,7 @@
 // What is read off cells, words and records after a run: whether it met a fault or an obstacle, the cells that it leaves, and those at entry; and what Run
 // answers after the serial run.
+#![tactic(auto)]
+
 ghost use Rattle.std.specs.Prelude.{◌≡◌, ◌||◌, ◌≤◌};
 ghost use Rattle.trial.specs.Standing.{Stands};
 ghost use Rattle.outcome.specs.ReadOff.{Fails, Judges, Merges, CanRestore, Restores};

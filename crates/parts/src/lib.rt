@@ -1,4 +1,6 @@
 // The steps of the readers of expressions that call no reader: ranks, signs, the instructions that are emitted, and factors of one token.
+#![tactic(auto)]
+
 ghost use Rattle.std.specs.Prelude.{◌≡◌, [], ◌∷◌, cond, suc, ◌≤◌, ◌+◌, ◌*◌, max, leb, length, set};
 ghost use Rattle.syntax.specs.Bytes.{same};
 ghost use Rattle.code.specs.Instr.{add, subtract, multiply, divide, operation as operation_of, words};

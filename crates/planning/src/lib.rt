@@ -2,6 +2,8 @@
 // refusal leaves the list as it came. The cells are lent to be read only.
 //
 // The loop is run serially twice, each time over a copy of the cells: the first run tells whether there is a fault, so that the second can write to the list.
+#![tactic(auto)]
+
 ghost use Rattle.std.specs.Prelude.{◌≡◌, ◌≤◌, length, replicate};
 ghost use Rattle.syntax.specs.Text.{read as read_text};
 ghost use Rattle.answers.specs.Answers.{plan_of, list_planned, plan_workspace};

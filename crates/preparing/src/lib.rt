@@ -1,4 +1,6 @@
 // A text made ready for a run: what the reader found, its code, and the classes of its cells.
+#![tactic(auto)]
+
 ghost use Rattle.std.specs.Prelude.{◌≡◌, length};
 ghost use Rattle.syntax.specs.Text.{read as read_text};
 ghost use Rattle.code.specs.Compile.{code_words};

@@ -1,5 +1,7 @@
 // What the program prints (RULES 11), byte for byte, into a lent buffer. 2,236 bytes hold every report: the comment line has at most 44, each of
 // 16 data lines at most 41 besides its values, each of 128 values at most 12 with its comma.
+#![tactic(auto)]
+
 ghost use Rattle.std.specs.Prelude.{◌≡◌, List, [], ◌∷◌, ◌+◌, ◌*◌, ◌≤◌, ◌<◌, length};
 ghost use Rattle.names.specs.Table.{name_at, Tabled, first_at, size_at, name_words};
 ghost use Rattle.syntax.specs.Known.{Entry};

@@ -1,4 +1,6 @@
 // The reader of loop texts: one pass over the lines that checks them, keeps the names, the data and the bounds, and emits the code of the body.
+#![tactic(auto)]
+
 ghost use Rattle.std.specs.Prelude.{◌≡◌, true, false, ◌≤◌, ◌<◌, ◌+◌, length};
 ghost use Rattle.syntax.specs.Bytes.{lines, skipped_line, sound_line};
 ghost use Rattle.lines.specs.Lines.{Takes};

@@ -1,5 +1,7 @@
 // The rules of a loop run (RULES 4 to 7). What a run is stands in specs/, the theorem that order decides nothing in
 // proofs/Theorem.antt; the code here has the numbers of iterations, groups and processors, and deals the iterations out.
+#![tactic(auto)]
+
 ghost use Rattle.std.specs.Prelude.{◌≡◌, ◌≤◌, ◌<◌};
 ghost use Rattle.rules.specs.Blocks.{block_start};
 ghost use Rattle.rules.specs.Numbers.{grouped, operator_by};

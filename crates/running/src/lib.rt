@@ -1,5 +1,7 @@
 // Run (RULES 9.5): the trial, and the serial run where a fault or an obstacle rejects it. It takes any text and whatever is lent, and
 // refuses what it can't take; a refusal leaves all that is lent as it came.
+#![tactic(auto)]
+
 ghost use Rattle.std.specs.Prelude.{◌≡◌, length};
 ghost use Rattle.syntax.specs.Text.{read as read_text};
 ghost use Rattle.answers.specs.Answers.{run_of, cells_run, run_workspace};

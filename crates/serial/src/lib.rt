@@ -1,5 +1,7 @@
 // The serial run (RULES 6): by the step of crates/stepping, in place over the cells. Its accesses are noted for one processor, for the
 // write counts.
+#![tactic(auto)]
+
 ghost use Rattle.std.specs.Prelude.{◌≡◌, length};
 ghost use Rattle.serial.specs.Serving.{alone, CanSerial, RunsSerially};
 

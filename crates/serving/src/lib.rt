@@ -1,5 +1,7 @@
 // The serial run of a text (RULES 6, 9.7 b). It takes any text and whatever is lent, and refuses what it can't take; a refusal leaves all that is
 // lent as it came.
+#![tactic(auto)]
+
 ghost use Rattle.std.specs.Prelude.{◌≡◌, length};
 ghost use Rattle.syntax.specs.Text.{read as read_text};
 ghost use Rattle.answers.specs.Numbers.{served_numbers};

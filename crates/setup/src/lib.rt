@@ -1,4 +1,6 @@
 // From an accepted text to what a run takes: the class of each cell, as a number, off the table of names.
+#![tactic(auto)]
+
 ghost use Rattle.std.specs.Prelude.{◌≡◌, ◌≤◌, ◌<◌, min, length};
 ghost use Rattle.names.specs.Table.{most_names};
 ghost use Rattle.setup.specs.Classes.{Filled, Marked, Classifies};

@@ -1,4 +1,6 @@
 // The stage table (crates/reorder, StageTable): rows of four words for each cell, and the lent list of stages. An access is noted in a few steps.
+#![tactic(auto)]
+
 ghost use Rattle.std.specs.Prelude.{◌≡◌, cond, max, ◌+◌, ◌*◌, ◌≤◌, ◌<◌, length};
 ghost use Rattle.rules.specs.Log.{reads, writes};
 ghost use Rattle.reorder.specs.StageTable.{latest, opened};

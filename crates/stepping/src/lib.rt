@@ -3,6 +3,8 @@
 // crates/sweeping the same one by one.
 // What a step does to cells, words and pending values is in specs/Step.antt; that it is the step rule's is shown in crates/trial, the serial run's in
 // crates/serial.
+#![tactic(auto)]
+
 ghost use Rattle.std.specs.Prelude.{◌≡◌, ◌≤◌, pos, ◌+ℤ◌};
 ghost use Rattle.std.specs.Int.{w32};
 ghost use Rattle.std.proofs.Common.{SFits};

@@ -1,5 +1,7 @@
 // The sweep that finds the stages (RULES 8): the serial run of a loop that is known to meet no fault, once more and step by step, each access also noted
 // in the stage table (crates/staging). An iteration's stage is written to the list at its end.
+#![tactic(auto)]
+
 ghost use Rattle.std.specs.Prelude.{length};
 ghost use Rattle.sweeping.specs.Sweep.{CanNote, Notes, CanIterate, Iterates, CanSweep, Sweeps};
 

@@ -1,5 +1,7 @@
 // What a loop text is (RULES 1): the definitions stand in specs/, the theorems in proofs/Theorem.antt. The only code is two enums that
 // the grammar and the reader share.
+#![tactic(auto)]
+
 use rules::Operator;
 
 // The functions of two numbers: `rdiv(e, e)`, and `max(e, e)` (RULES 1.10).

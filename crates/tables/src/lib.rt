@@ -1,5 +1,7 @@
 // The shadow tables in words of a lent workspace: crates/shadow says what they are, specs/Layout.antt where each word stands. Accesses are noted by
 // crates/noting, and crates/findings reads off what they came to.
+#![tactic(auto)]
+
 ghost use Rattle.std.specs.Prelude.{◌≡◌, max, ◌+◌, ◌*◌, ◌≤◌, ◌<◌, length, replicate};
 ghost use Rattle.rules.specs.Choose.{pick};
 ghost use Rattle.tables.specs.Layout.{row_at, own_at, class_word};

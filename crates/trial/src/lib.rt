@@ -1,5 +1,7 @@
 // The trial of a loop (RULES 4): each processor's record, the steps of a schedule and the run to the end, both by the step of crates/stepping; the
 // shadow tables in the workspace are kept on the way. What records, cells and words stand for is in specs/Standing.antt, the step rule in crates/rules.
+#![tactic(auto)]
+
 ghost use Rattle.std.specs.Prelude.{◌≡◌, ◌<◌, ◌≤◌, length};
 ghost use Rattle.trial.specs.Running.{role_of, waiting, HasTurn, TakesTurn, HasRole, Carries, CanFollow, Follows, RunsOut, Over, AllOver, CanRun, RunsOn};
 ghost use Rattle.trial.specs.Start.{Entry, Enters, Crew, CanBegin, Begins, CanTry, Tries};

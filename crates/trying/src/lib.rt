@@ -1,5 +1,7 @@
 // The trial of a text (RULES 4.2, 9.7 a): it takes the schedule's bytes and then runs on to the end by the step that Look uses. It takes any
 // text and whatever is lent, and refuses what it can't take; a refusal leaves all that is lent as it came.
+#![tactic(auto)]
+
 ghost use Rattle.std.specs.Prelude.{◌≡◌};
 ghost use Rattle.syntax.specs.Text.{read as read_text};
 ghost use Rattle.trying.specs.Trial.{untried_of, TrialOf};

@@ -1,5 +1,7 @@
 // The forms of updates (RULES 3.1, 3.2): whether the right side of an assignment repeats the left one in the form of the
 // name's clause, and the remainder. What is emitted to find that out lies after a place of the code, and others write over it.
+#![tactic(auto)]
+
 ghost use Rattle.std.specs.Prelude.{◌≡◌, suc, ◌*◌, ◌≤◌, length, take, drop};
 ghost use Rattle.syntax.specs.Conditions.{mentions};
 ghost use Rattle.code.specs.Compile.{code as code_expr};

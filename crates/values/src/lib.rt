@@ -1,4 +1,6 @@
 // `data` lines (RULES 1.6), after their first word.
+#![tactic(auto)]
+
 ghost use Rattle.std.specs.Prelude.{◌≡◌, List, true, not, ◌&&◌, eqb, ℕ, ◌≤◌, ◌<◌, ◌+◌, ◌-◌, min, length, replicate};
 ghost use Rattle.std.proofs.lemmas.List.Edits.{sets};
 ghost use Rattle.std.proofs.Math.Option.{Option};

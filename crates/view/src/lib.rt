@@ -1,4 +1,6 @@
 // What Look shows of a loop's run: for each cell the shared value and the marks, after the steps of a schedule.
+#![tactic(auto)]
+
 ghost use Rattle.std.specs.Prelude.{◌≡◌, ◌*◌, ◌≤◌, length, replicate};
 ghost use Rattle.trial.specs.Standing.{Stands};
 ghost use Rattle.trial.specs.Start.{CanTry};

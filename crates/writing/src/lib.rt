@@ -1,5 +1,7 @@
 // Bytes and tokens written to lent bytes (RULES 1.15 b). What lies past the end of the lent bytes is counted and not written: over no bytes at all,
 // every function here only counts.
+#![tactic(auto)]
+
 ghost use Rattle.std.specs.Prelude.{◌≡◌, [], ◌∷◌, ◌≤◌, ◌<◌, ◌+◌, length, take, drop};
 ghost use Rattle.syntax.specs.Bytes.{tokens};
 ghost use Rattle.lexer.specs.Lex.{part, kind_number};
