@@ -12,7 +12,7 @@ ghost use Rattle.accesses.specs.Cells.{at_cell};
 use operands::{Move, Performed, fault, go_on, stop};
 
 // The cell of a subscript, or of a grid's two, if it is inside its bounds.
-#[derive(Drop)]
+#[derive(Clone, Copy)]
 pub enum Located {
     Cell(usize),
     Outside,

@@ -5,14 +5,14 @@
 use rules::Grouping;
 
 // What Check answers: N and P, or a refusal with its number and line.
-#[derive(Drop)]
+#[derive(Clone, Copy)]
 pub enum Checked {
     Sizes { cells: u32, processors: u32 },
     Refused { number: u32, line: u32 },
 }
 
 // What Bounds answers: the first value of v, the number of iterations and how they are grouped, or a refusal.
-#[derive(Drop)]
+#[derive(Clone, Copy)]
 pub enum Bounded {
     Range {
         from: i32,
@@ -26,7 +26,7 @@ pub enum Bounded {
 }
 
 // What Name answers: the first cell of a name, how many it has, how many subscripts it takes, the number of its class and its extents, or a refusal.
-#[derive(Drop)]
+#[derive(Clone, Copy)]
 pub enum Located {
     Cells {
         first: u32,
@@ -43,14 +43,14 @@ pub enum Located {
 }
 
 // What Load, Look, Rows and Columns answer.
-#[derive(Drop)]
+#[derive(Clone, Copy)]
 pub enum Completed {
     Done,
     Refused { number: u32, line: u32 },
 }
 
 // What Run answers: both write counts of a run that passed or was made again, a fault with its number, line and v, or a refusal.
-#[derive(Drop)]
+#[derive(Clone, Copy)]
 pub enum Ran {
     Passed { pairs: u32, cells: u32 },
     Rerun { pairs: u32, cells: u32 },
@@ -59,7 +59,7 @@ pub enum Ran {
 }
 
 // What Plan answers (RULES 9.6): the number of stages, a fault with its number, line and v, or a refusal.
-#[derive(Drop)]
+#[derive(Clone, Copy)]
 pub enum Planned {
     Staged { stages: u32 },
     Faulted { number: u32, line: u32, v: i32 },
@@ -67,14 +67,14 @@ pub enum Planned {
 }
 
 // What Print answers (RULES 9.8): the length of the printed form, or a refusal.
-#[derive(Drop)]
+#[derive(Clone, Copy)]
 pub enum Printed {
     Form { length: u32 },
     Refused { number: u32, line: u32 },
 }
 
 // What the serial run answers.
-#[derive(Drop)]
+#[derive(Clone, Copy)]
 pub enum Served {
     Finished { pairs: u32, cells: u32 },
     Faulted { number: u32, line: u32, v: i32 },

@@ -12,7 +12,7 @@ use describing::located;
 use moving::to_rows;
 
 // A grid's first cell and its extents, or a refusal with its number and line.
-#[derive(Drop)]
+#[derive(Clone, Copy)]
 enum Sought {
     Found {
         first: usize,

@@ -19,7 +19,7 @@ use updates::{Left, remainder, rest};
 // ---- the name that is assigned
 
 // Whether it has a subscript, whether it is a reduction's and by which operator, whether it is the loop's variable; and the argument of its accesses.
-#[derive(Drop)]
+#[derive(Clone, Copy)]
 struct Target {
     subscripted: bool,
     reduction: bool,

@@ -11,7 +11,7 @@ use lexer::{Leading, digits, lead, name, pass};
 use names::{Table, VARIABLE, find, put_name};
 
 // The name and the two bounds of the loop: the sign of the first and its size, the sign of the last and its size; sizes up to 2^31.
-#[derive(Drop)]
+#[derive(Clone, Copy)]
 pub struct Bounds {
     pub next: usize,
     pub start: usize,
@@ -70,7 +70,7 @@ fn count_from(first: u64, last: u64) -> u64
 }
 
 // What the loop's line comes to: m, and how many iterations there are.
-#[derive(Drop)]
+#[derive(Clone, Copy)]
 pub struct Looped {
     pub next: usize,
     pub rank: u32,

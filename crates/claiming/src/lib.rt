@@ -19,14 +19,14 @@ use syntax::ClauseKind;
 // ---- readings
 
 // Which of the two readings it is.
-#[derive(Drop)]
+#[derive(Clone, Copy)]
 pub enum Reading {
     Classes,
     Copies,
 }
 
 // What is done with a name of a clause: nothing; it gets the class of the clause; it is copied in.
-#[derive(Drop)]
+#[derive(Clone, Copy)]
 pub enum Deed {
     Skip,
     Claim { kind: ClauseKind },

@@ -55,7 +55,7 @@ fn claims(s: &[u8], at: usize, table: &mut Table, deed: Deed, rank: u32) -> Head
 // ---- clauses
 
 // The operator of a reduction (RULES 1.7), and the place after it; past the line's end where none stands.
-#[derive(Drop)]
+#[derive(Clone, Copy)]
 pub struct Operated {
     pub next: usize,
     pub operator: Operator,
@@ -86,7 +86,7 @@ fn operator_at(s: &[u8], at: usize) -> Operated
 }
 
 // What the words and signs before the names of a clause say, and the place after them.
-#[derive(Drop)]
+#[derive(Clone, Copy)]
 pub struct Opened {
     pub next: usize,
     pub kind: ClauseKind,
@@ -188,7 +188,7 @@ fn again(times: u32) -> u32
 
 // What clauses come to: the place after them, the highest rank, how often `num_threads` stands, up to 2, and the number that it gives last, up to 2^31;
 // how often `schedule(static)` stands, up to 2.
-#[derive(Drop)]
+#[derive(Clone, Copy)]
 pub struct Directed {
     pub next: usize,
     pub rank: u32,

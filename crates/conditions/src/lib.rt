@@ -17,7 +17,7 @@ use names::Table;
 use parts::{Got, expect, then_emit};
 
 // The relation that stands at a place, and the place after it; or none.
-#[derive(Drop)]
+#[derive(Clone, Copy)]
 enum Compared {
     By { relation: Relation, next: usize },
     Nothing,

@@ -13,7 +13,7 @@ use lexer::{digits, equal, name, pass};
 use names::{MOST, Shape, Table, add, count, find};
 
 // A declared name: where it lies, and its shape, with up to 4,097 cells and extents up to 2^31.
-#[derive(Drop)]
+#[derive(Clone, Copy)]
 pub struct Item {
     pub next: usize,
     pub start: usize,
@@ -157,7 +157,7 @@ fn enter(table: &mut Table, w: &[u8], cells: u32, shape: Shape, rank: u32) -> u3
 }
 
 // What an integer line comes to: with the number of cells so far.
-#[derive(Drop)]
+#[derive(Clone, Copy)]
 pub struct Listed {
     pub next: usize,
     pub cells: u32,

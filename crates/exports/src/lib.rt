@@ -12,7 +12,7 @@ use rules::Grouping;
 
 // Check's answer: a refusal's number (0: none), line and v; N and P (0 after a refusal).
 #[repr(C)]
-#[derive(Drop)]
+#[derive(Clone, Copy)]
 pub struct CheckAnswer {
     pub number: u32,
     pub line: u32,
@@ -23,7 +23,7 @@ pub struct CheckAnswer {
 
 // Bounds' answer: a refusal's number (0: none), line and v; m, the number of iterations, and 1 if the test is by blocks.
 #[repr(C)]
-#[derive(Drop)]
+#[derive(Clone, Copy)]
 pub struct BoundsAnswer {
     pub number: u32,
     pub line: u32,
@@ -36,7 +36,7 @@ pub struct BoundsAnswer {
 // Name's answer: a refusal's number (0: none), line and v; the first cell, how many, how many subscripts the name takes, its class, and its
 // rows and columns (0 where it has none; the rows of an array are its length).
 #[repr(C)]
-#[derive(Drop)]
+#[derive(Clone, Copy)]
 pub struct NameAnswer {
     pub number: u32,
     pub line: u32,
@@ -51,7 +51,7 @@ pub struct NameAnswer {
 
 // The answer of Load, Look, Rows and Columns: a refusal's number (0: done), line and v.
 #[repr(C)]
-#[derive(Drop)]
+#[derive(Clone, Copy)]
 pub struct DoneAnswer {
     pub number: u32,
     pub line: u32,
@@ -60,7 +60,7 @@ pub struct DoneAnswer {
 
 // Run's answer: a refusal's number (0: none), line and v; 1 if the loop was run again serially; both write counts.
 #[repr(C)]
-#[derive(Drop)]
+#[derive(Clone, Copy)]
 pub struct RunAnswer {
     pub number: u32,
     pub line: u32,
@@ -72,7 +72,7 @@ pub struct RunAnswer {
 
 // Plan's answer: a refusal's number (0: none), line and v; the number of stages.
 #[repr(C)]
-#[derive(Drop)]
+#[derive(Clone, Copy)]
 pub struct PlanAnswer {
     pub number: u32,
     pub line: u32,
@@ -82,7 +82,7 @@ pub struct PlanAnswer {
 
 // Print's answer: a refusal's number (0: none), line and v; the length of the printed form.
 #[repr(C)]
-#[derive(Drop)]
+#[derive(Clone, Copy)]
 pub struct PrintAnswer {
     pub number: u32,
     pub line: u32,

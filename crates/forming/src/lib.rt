@@ -15,7 +15,7 @@ use lexer::{line_end, lowered};
 use writing::put_bytes;
 
 // How a line is printed: with its own tokens; with the copies of its items; as an ending in two words; or not at all.
-#[derive(Drop)]
+#[derive(Clone, Copy)]
 pub enum Shape {
     Own,
     Copies,

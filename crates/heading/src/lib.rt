@@ -46,7 +46,7 @@ pub fn limited(copies: u32, size: u32) -> bool
 }
 
 // What a line comes to.
-#[derive(Drop)]
+#[derive(Clone, Copy)]
 pub struct Headed {
     pub next: usize,
     pub rank: u32,

@@ -62,7 +62,7 @@ pub fn maximum(x: i32, y: i32) -> i32
 }
 
 // The answer of a division.
-#[derive(Drop)]
+#[derive(Clone, Copy)]
 pub enum Divided {
     Value(i32),
     ByZero,
@@ -160,7 +160,7 @@ pub fn round_divide(x: i32, y: i32) -> Divided
 }
 
 // How two numbers of an `if` are compared.
-#[derive(Drop)]
+#[derive(Clone, Copy)]
 pub enum Relation {
     Equal,
     Unequal,

@@ -11,7 +11,7 @@ use lexer::cursor::take;
 use lexer::{Run, reads, run_end, starts, token};
 
 // What a line is, by its first words; the place after them where nothing else is to be read, and whether `end` and what it ends are one word.
-#[derive(Drop)]
+#[derive(Clone, Copy)]
 pub enum Kind {
     Broken,
     Integer,

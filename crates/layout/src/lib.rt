@@ -13,7 +13,7 @@ use writing::{Moved, put, put_bytes, put_next, put_span, start_of};
 
 // Where a literal with an optional sign stands: its first token from `first` up to `stop`, and its second, if any, from `second` up to `next`, without
 // leading zeros.
-#[derive(Drop)]
+#[derive(Clone, Copy)]
 pub struct Literal {
     pub first: usize,
     pub stop: usize,
@@ -98,7 +98,7 @@ fn put_copies(out: &mut [u8], to: usize, s: &[u8], at: usize, copies: u32) -> Mo
 // ---- the tokens of a line
 
 // `r*` of a data line: the place after it, past the line's end where none stands, and r up to 2^31.
-#[derive(Drop)]
+#[derive(Clone, Copy)]
 pub struct Repeat {
     pub next: usize,
     pub copies: u32,

@@ -4,14 +4,14 @@ ghost use Rattle.lexer.specs.Lex.{Lexed};
 
 use crate::Tok;
 
-#[derive(Drop)]
+#[derive(Clone, Copy)]
 pub struct Cursor<'a> {
     pub text: &'a [u8],
     pub at: usize,
 }
 
 // A token, and the place after it.
-#[derive(Drop)]
+#[derive(Clone, Copy)]
 pub struct Taken {
     pub token: Tok,
     pub next: usize,

@@ -14,7 +14,7 @@ ghost use Rattle.lexer.specs.Lex.{goes, part, kind_number, Lexed, ended, tens};
 pub mod cursor;
 
 // What a token is: the end of the line, a word that may be a name, a word that is no name, digits, or a sign.
-#[derive(Drop)]
+#[derive(Clone, Copy)]
 pub enum Kind {
     End,
     Name,
@@ -24,7 +24,7 @@ pub enum Kind {
 }
 
 // A token: its kind, and where it lies.
-#[derive(Drop)]
+#[derive(Clone, Copy)]
 pub struct Tok {
     pub kind: Kind,
     pub start: usize,
@@ -127,7 +127,7 @@ fn in_word(b: u8) -> bool
 }
 
 // The bytes that a run is of: blanks, those that go on in a word, or digits.
-#[derive(Drop)]
+#[derive(Clone, Copy)]
 pub enum Run {
     Blank,
     InWord,
@@ -355,21 +355,21 @@ pub fn literal(s: &[u8], t: Tok) -> u32
 // ---- a name, digits, a sign before digits
 
 // A name: where it lies, and the place after it, which lies past the line's end where there is none.
-#[derive(Drop)]
+#[derive(Clone, Copy)]
 pub struct Word {
     pub next: usize,
     pub start: usize,
 }
 
 // Digits: the number that they write, up to 2^31, and the place after them, which lies past the line's end where there are none.
-#[derive(Drop)]
+#[derive(Clone, Copy)]
 pub struct Number {
     pub next: usize,
     pub number: u32,
 }
 
 // What may begin digits.
-#[derive(Drop)]
+#[derive(Clone, Copy)]
 pub enum Leading {
     Bare,
     Plus,
@@ -377,7 +377,7 @@ pub enum Leading {
 }
 
 // A sign that may begin digits, or none, and the place after it.
-#[derive(Drop)]
+#[derive(Clone, Copy)]
 pub struct Sign {
     pub next: usize,
     pub sign: Leading,

@@ -23,7 +23,7 @@ use values::data_values;
 
 // How far a text was read: 0 or the number of its first bad line; which of 1 to 7 stood last; how many cells, processors and iterations there are,
 // how iterations are grouped, and the first value of the loop's variable; how many instructions are emitted, and how many ifs are open.
-#[derive(Drop)]
+#[derive(Clone, Copy)]
 pub struct Progress {
     pub number: u32,
     pub stage: u32,

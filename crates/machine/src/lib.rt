@@ -8,7 +8,7 @@ ghost use Rattle.machine.specs.Machine.{Advances};
 use operands::{Move, Next};
 
 // Where a processor then stands, and how many values are pending.
-#[derive(Drop)]
+#[derive(Clone, Copy)]
 pub struct Advanced {
     pub place: usize,
     pub depth: usize,

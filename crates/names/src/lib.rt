@@ -33,7 +33,7 @@ pub const WORDS: usize = 647;
 pub type Table = [u32; WORDS];
 
 // What a declaration says of a name: how many cells it has, and its extents. A single cell has none, an array one, a grid two; 0 stands where there is none.
-#[derive(Drop)]
+#[derive(Clone, Copy)]
 pub struct Shape {
     pub size: u32,
     pub rows: u32,
@@ -42,7 +42,7 @@ pub struct Shape {
 
 // What is known of a name: whether it is declared and where it stands in the table; its extents; whether it was given data and stands in a clause; the
 // number of its class; its first cell and how many it has.
-#[derive(Drop)]
+#[derive(Clone, Copy)]
 pub struct Named {
     pub known: bool,
     pub index: usize,

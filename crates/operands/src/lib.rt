@@ -10,7 +10,7 @@ ghost use Rattle.operands.specs.Performing.{onward, stopped, does, Performs, wit
 use int32::Divided;
 
 // What a processor does where it stops. A read's value is then pushed.
-#[derive(Drop)]
+#[derive(Clone, Copy)]
 pub enum Move {
     Read { cell: usize },
     Write { cell: usize, value: i32 },
@@ -20,14 +20,14 @@ pub enum Move {
 }
 
 // What comes after an instruction: the next one, or a move.
-#[derive(Drop)]
+#[derive(Clone, Copy)]
 pub enum Next {
     On,
     Stop(Move),
 }
 
 // Where the machine stands after an instruction, how many values are pending, and what comes then.
-#[derive(Drop)]
+#[derive(Clone, Copy)]
 pub struct Performed {
     pub place: usize,
     pub depth: usize,

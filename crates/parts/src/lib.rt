@@ -18,14 +18,14 @@ use names::{Table, VARIABLE, find, is_named, subscripts_of};
 use syntax::Function;
 
 // What a reader answers: the next place of the line and of the code, and the highest rank so far (0 in order, 1 over a limit, 2 a wrong name).
-#[derive(Drop)]
+#[derive(Clone, Copy)]
 pub enum Got {
     Broken,
     Done { at: usize, place: usize, rank: u32 },
 }
 
 // Which of two signs stands at a place.
-#[derive(Drop)]
+#[derive(Clone, Copy)]
 pub enum Joint {
     Neither,
     First,
@@ -33,14 +33,14 @@ pub enum Joint {
 }
 
 // A sign or none, and the place after it.
-#[derive(Drop)]
+#[derive(Clone, Copy)]
 pub struct Joined {
     pub joint: Joint,
     pub next: usize,
 }
 
 // How a factor begins: with a literal, a bracket, a function and a bracket, a name, a name and a bracket, or none of these.
-#[derive(Drop)]
+#[derive(Clone, Copy)]
 pub enum Beginning {
     Nothing,
     Literal,
@@ -51,14 +51,14 @@ pub enum Beginning {
 }
 
 // A beginning, and the place after it.
-#[derive(Drop)]
+#[derive(Clone, Copy)]
 pub struct Begun {
     pub beginning: Beginning,
     pub next: usize,
 }
 
 // What is emitted for a name: the read of its cell; that of an element, whose subscript is pending; the place of a grid's two subscripts, which are pending.
-#[derive(Drop)]
+#[derive(Clone, Copy)]
 pub enum Fetch {
     Cell,
     Indexed,
@@ -66,7 +66,7 @@ pub enum Fetch {
 }
 
 // The two words of an instruction.
-#[derive(Drop)]
+#[derive(Clone, Copy)]
 struct Words {
     operation: u32,
     argument: u32,

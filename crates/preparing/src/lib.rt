@@ -10,7 +10,7 @@ use rules::Grouping;
 use trial::Setting;
 
 // What is made ready for a run: a refusal's number (0: none) and line, N, the setting, and where the code ends.
-#[derive(Drop)]
+#[derive(Clone, Copy)]
 pub struct Ready {
     pub number: u32,
     pub line: u32,

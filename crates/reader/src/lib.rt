@@ -125,7 +125,7 @@ fn judge_line(
 // ---- whole texts
 
 // How far a text was read, and the line that was read last.
-#[derive(Drop)]
+#[derive(Clone, Copy)]
 pub struct Reading {
     pub line: u32,
     pub progress: Progress,

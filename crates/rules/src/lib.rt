@@ -8,26 +8,26 @@ ghost use Rattle.rules.specs.Numbers.{grouped, operator_by};
 ghost use Rattle.rules.specs.Operation.{operation};
 
 // The index of an iteration, from 0. It is never used for a processor's number.
-#[derive(Drop)]
+#[derive(Clone, Copy)]
 pub struct Iteration(pub u32);
 
 // The number of a group of neighbouring iterations, by which own writes, marks and obstacles go. It is never used for an iteration or a processor.
-#[derive(Drop)]
+#[derive(Clone, Copy)]
 pub struct Group(pub u32);
 
 // The number of a processor, from 0. It is never used for an iteration's index.
-#[derive(Drop)]
+#[derive(Clone, Copy)]
 pub struct Processor(pub u32);
 
 // How a text's iterations are grouped: each is a group of its own, or a processor's block is one (RULES 4.1 b).
-#[derive(Drop)]
+#[derive(Clone, Copy)]
 pub enum Grouping {
     Iterations,
     Blocks,
 }
 
 // The operator of a reduction (RULES 3.2 c): what an update does to its cell, and partial results to one another.
-#[derive(Drop)]
+#[derive(Clone, Copy)]
 pub enum Operator {
     Sum,
     Product,

@@ -18,14 +18,14 @@ use rules::{Grouping, Iteration, Processor};
 mod access;
 
 // How accesses work: by the class of the cell, with private values kept apart, or in place, whatever the class.
-#[derive(Drop)]
+#[derive(Clone, Copy)]
 pub enum Manner {
     ByClass,
     InPlace,
 }
 
 // How far a processor goes: one step, or until it is finished or stopped.
-#[derive(Drop)]
+#[derive(Clone, Copy)]
 pub enum Extent {
     Once,
     ToTheEnd,
@@ -33,7 +33,7 @@ pub enum Extent {
 
 // What is fixed for a processor: how its accesses work, how its iterations are grouped, for how many processors the tables are laid out, its number, the first
 // value of the loop's variable, and the iteration that its block ends before.
-#[derive(Drop)]
+#[derive(Clone, Copy)]
 pub struct Role {
     pub manner: Manner,
     pub grouping: Grouping,
@@ -45,7 +45,7 @@ pub struct Role {
 
 // Where a processor is: how many values are pending, its place in the code and its iteration; 0 or the number of the fault that stopped it, and that fault's
 // line.
-#[derive(Drop)]
+#[derive(Clone, Copy)]
 pub struct Point {
     pub depth: usize,
     pub place: usize,
@@ -55,7 +55,7 @@ pub struct Point {
 }
 
 // What a step came to: where the processor then is, and the move that it made.
-#[derive(Drop)]
+#[derive(Clone, Copy)]
 pub struct Stepped {
     pub point: Point,
     pub done: Move,

@@ -5,7 +5,7 @@
 use rules::Operator;
 
 // The functions of two numbers: `rdiv(e, e)`, and `max(e, e)` (RULES 1.10).
-#[derive(Drop)]
+#[derive(Clone, Copy)]
 pub enum Function {
     Rdiv,
     Max,
@@ -13,7 +13,7 @@ pub enum Function {
 
 // What a clause with a list of names says of them: `shared(list)`, `lastprivate(list)`, `firstprivate(list)`, `reduction(+:list)`,
 // `reduction(*:list)`, `reduction(max:list)` (Point 6).
-#[derive(Drop)]
+#[derive(Clone, Copy)]
 pub enum ClauseKind {
     Shared,
     Lastprivate,

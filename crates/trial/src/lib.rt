@@ -11,7 +11,7 @@ use rules::{Grouping, Iteration, Processor};
 use stepping::{Extent, Manner, Point, Role};
 
 // A processor's record: its pending values, and where it is (`stepping::Point`).
-#[derive(Drop)]
+#[derive(Clone, Copy)]
 pub struct Worker {
     pub pending: [i32; 32],
     pub depth: usize,
@@ -23,7 +23,7 @@ pub struct Worker {
 
 // What is fixed in a run: how many processors there are, how their iterations are grouped, how many iterations there are, and the first value of the loop's
 // variable.
-#[derive(Drop)]
+#[derive(Clone, Copy)]
 pub struct Setting {
     pub processors: u32,
     pub grouping: Grouping,

@@ -13,7 +13,7 @@ use trial::Worker;
 
 // What the trial answers: a refusal's number (0: none) and line; P; whether a fault stopped a processor, and whether a cell has an obstacle; the processors'
 // records.
-#[derive(Drop)]
+#[derive(Clone, Copy)]
 pub struct Tried {
     pub number: u32,
     pub line: u32,

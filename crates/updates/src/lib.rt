@@ -16,7 +16,7 @@ use parts::{Got, Joint, expect, join};
 use rules::Operator;
 
 // The left side of an assignment: where it ends in the line, the highest rank so far, its line, and the place after the code of its subscripts.
-#[derive(Drop)]
+#[derive(Clone, Copy)]
 pub struct Left {
     pub end: usize,
     pub rank: u32,

@@ -17,7 +17,7 @@ use lexer::{Leading, digits, lead, name, pass};
 use names::{Named, Table, find, give};
 
 // An item: how many copies, and the sign and size of the value; both numbers up to 2^31.
-#[derive(Drop)]
+#[derive(Clone, Copy)]
 pub struct Datum {
     pub next: usize,
     pub copies: u32,
@@ -83,7 +83,7 @@ fn place(cells: &mut [i32], first: u32, size: u32, values: u32, copies: u32, x: 
 }
 
 // What items come to.
-#[derive(Drop)]
+#[derive(Clone, Copy)]
 pub struct Filled {
     pub next: usize,
     pub values: u32,

@@ -11,7 +11,7 @@ ghost use Rattle.writing.specs.Written.{Fits, Writes, told, spanned, blanked, Mo
 use lexer::{Kind, Tok, same_kind, token};
 
 // The place reached in the lent bytes, and the place reached in the line.
-#[derive(Drop)]
+#[derive(Clone, Copy)]
 pub struct Moved {
     pub to: usize,
     pub at: usize,
