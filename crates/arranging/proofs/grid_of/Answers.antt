@@ -1,0 +1,19 @@
+-- `arranging::grid_of` meets its contract.
+use mathlib.Core.Path.{sym, ◌∙◌, ap}
+use native.Mathlib.Omega.{arith}
+use Rattle.arranging.specs.Sought.{grid_told}
+use Rattle.arranging.proofs.Answering.{told_few, told_two}
+use borrow.Author.Rules.{rules}
+use Rattle.arranging.proofs.grid_of.Goals as goal
+
+pub returns-then-subscripts-lt2 : goal.returns-then-subscripts-lt2
+returns-then-subscripts-lt2 c =
+    let g = c.l-1.given in
+    let v = g.0 in
+    told_few v.0 v.1.0 v.1.1.0 v.1.1.1.0 v.1.1.1.1.0 v.1.1.1.1.1.0 (omega (arith, c.if-subscripts-lt2.true)) ∙ ap grid_told (sym g.1)
+
+pub returns-else-subscripts-lt2 : goal.returns-else-subscripts-lt2
+returns-else-subscripts-lt2 c =
+    let g = c.l-1.given in
+    let v = g.0 in
+    told_two v.0 v.1.0 v.1.1.0 v.1.1.1.0 v.1.1.1.1.0 v.1.1.1.1.1.0 (omega (arith, c.if-subscripts-lt2.false)) ∙ ap grid_told (sym g.1)

@@ -1,0 +1,11 @@
+-- `assignments::test` meets its contract.
+use mathlib.Core.Path.{refl}
+use borrow.Author.Rules.{rules}
+use Rattle.assignments.proofs.Assigned.{tests_some, tests_none}
+use Rattle.assignments.proofs.test.Goals as goal
+
+pub returns-then-subscripted : goal.returns-then-subscripted
+returns-then-subscripted c = tests_some c.if-subscripted.true c.emit.ensures
+
+pub returns : goal.returns
+returns c = tests_none c.if-subscripted.false refl

@@ -1,0 +1,23 @@
+-- `bounds::raised` meets its contract, sign by sign.
+use mathlib.Core.Path.{◌≡◌, sym, ◌∙◌, ap}
+use Prim.Native.Nat.{ℕ}
+use Rattle.syntax.specs.Known.{signed}
+use Rattle.lexer.specs.Places.{lead_of}
+use Rattle.lexer.specs.declared.Leading.{Leading}
+use Rattle.bounds.specs.DoLine.{raise}
+use Rattle.bounds.proofs.DoLines.{raise_down}
+use borrow.Author.Rules.{rules}
+use Rattle.bounds.proofs.raised.Goals as goal
+
+-- the sign of the arm
+arm : {l k : Leading} (n : ℕ) → l ≡ k → raise (signed (lead_of k) n) ≡ raise (signed (lead_of l) n)
+arm n e = ap (λ (l : Leading). raise (signed (lead_of l) n)) (sym e)
+
+pub returns-in-Bare : goal.returns-in-Bare
+returns-in-Bare c = arm c.args.size c.in-Bare.is
+
+pub returns-in-Plus : goal.returns-in-Plus
+returns-in-Plus c = arm c.args.size c.in-Plus.is
+
+pub returns-in-Minus : goal.returns-in-Minus
+returns-in-Minus c = let n = c.args.size in sym (raise_down n) ∙ arm n c.in-Minus.is

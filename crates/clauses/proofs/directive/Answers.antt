@@ -1,0 +1,14 @@
+-- `clauses::directive` meets its contract: both readings of the clauses, one after the other.
+use Rattle.heading.proofs.Lists.{keeps_on}
+use Rattle.clauses.proofs.DirectiveRead.{after, directive_read}
+use borrow.Author.Rules.{rules}
+use Rattle.clauses.proofs.directive.Goals as goal
+
+pub returns : goal.returns
+returns c =
+    let one = c.clauses-classes in
+    let two = c.clauses in record {
+      directive = directive_read _ _ _ _ one.result (after c.none_before.ensures one.ensures.0) one.ensures.1.1 _ two.result
+          (after c.none_before-2.ensures two.ensures.0);
+      keeps = keeps_on _ _ _ one.ensures.1.0 two.ensures.1.0;
+    }

@@ -1,0 +1,18 @@
+-- `findings::total` meets its contract: the result is that of the processors passed.
+use mathlib.Core.Path.{◌≡◌, ◌∙◌}
+use Prim.Native.Nat.{◌-◌, ◌≤◌}
+use native.Mathlib.Omega.{arith}
+use native.Mathlib.Numerals.{add-one}
+use borrow.Author.Rules.{rules}
+use mir.Syntax.{w32}
+use mir.Val.{to_z, of_z}
+use Rattle.rules.specs.Operation.{operation}
+use Rattle.rules.specs.Merge.{join_all}
+use Rattle.findings.specs.Findings.{gathered}
+use Rattle.findings.proofs.total.Given as goal
+
+abbrev pub invariant-loop-q : goal.invariant-loop-q
+invariant-loop-q l = (l.q ≤ l.processors) × (to_z w32 l.x ≡ gathered (operation l.operator) l.w l.row l.q)
+
+abbrev pub decreases-loop-q : goal.decreases-loop-q
+decreases-loop-q l = l.processors - l.q

@@ -1,0 +1,40 @@
+use Rattle.std.proofs.Common.{ℕ, ◌<◌, ◌≤◌, ℤ, nat_abs, sym, ap, ◌∙◌, subst, w32, of_z, rules}
+use lib.Signed.{nat_abs-le}
+use mir.ValLaws.{to_z-of_z}
+use Rattle.int32.specs.declared.Divided.TheVariants.{Value}
+use Rattle.int32.specs.Integers.{rdiv}
+use Rattle.int32.specs.SignWord.{sign_word}
+use Rattle.int32.proofs.Laws.{landed}
+use Rattle.int32.proofs.Division.{divided_zero, divided_value, divided_end, rdiv_words, rdiv_fits}
+use Rattle.int32.proofs.Sizes.{size_pos}
+use Rattle.int32.proofs.Rounding.{rdiv_end}
+use Rattle.int32.proofs.round_divide.Goals as goal
+
+pub returns-then-y-eq0 : goal.returns-then-y-eq0
+returns-then-y-eq0 c = divided_zero rdiv c.args.x c.ranges.y c.if-y-eq0.true
+
+pub returns-then-x-eqminus2147483648 : goal.returns-then-x-eqminus2147483648
+returns-then-x-eqminus2147483648 c = divided_end rdiv rdiv_end c.ranges.x c.ranges.y c.if-x-eqminus2147483648.true c.if-y-eqminus1.true
+
+pub round_half_even-m-requires : goal.round_half_even-m-requires
+round_half_even-m-requires c =
+    (
+      subst (λ (n : ℕ). n ≤ 2147483648) (sym (c.magnitude.ensures ∙ ap nat_abs (to_z-of_z w32 c.args.x c.ranges.x)))
+          (nat_abs-le c.args.x c.ranges.x.sfits),
+      subst (λ (n : ℕ). 0 < n) (sym (c.magnitude-2.ensures ∙ ap nat_abs (to_z-of_z w32 c.args.y c.ranges.y)))
+          (size_pos c.args.y (λ e. c.if-y-eq0.false (ap (of_z w32) e))),
+    )
+
+pub returns : goal.returns
+returns c =
+    let bx = to_z-of_z w32 c.args.x c.ranges.x in
+    let by = to_z-of_z w32 c.args.y c.ranges.y in
+    ap Value
+    (landed
+    (c.of_word.ensures
+    ∙ rdiv_words c.args.x c.args.y (c.magnitude.ensures ∙ ap nat_abs bx) (c.magnitude-2.ensures ∙ ap nat_abs by)
+    c.round_half_even-m.ensures c.round_half_even-m.type_inv
+    (c.with_sign.ensures ∙ ap (λ (z : ℤ). sign_word z c.round_half_even-m.result) by)
+    (c.with_sign-2.ensures ∙ ap (λ (z : ℤ). sign_word z c.with_sign.result) bx))
+    (rdiv_fits c.args.x c.args.y))
+    ∙ divided_value rdiv c.args.x c.args.y c.if-y-eq0.false

@@ -1,0 +1,15 @@
+-- `kinds::is_printable` meets its contract.
+use mathlib.Core.Path.{◌≡◌, refl, sym, ◌∙◌}
+use Prim.Native.Nat.{◌≤◌, ◌-◌}
+use native.Mathlib.Omega.{arith}
+use lib.ListN.{length, drop}
+use Rattle.syntax.specs.Bytes.{all, printable}
+use Rattle.syntax.proofs.TestLaws.{all_on, all_off, all_out}
+use Rattle.kinds.proofs.WholeLines.{printable_low, printable_high, printable_mid}
+use Rattle.kinds.proofs.is_printable.Given as goal
+
+abbrev pub invariant-loop-i : goal.invariant-loop-i
+invariant-loop-i l = (l.i ≤ length l.s) × (all printable l.s ≡ all printable (drop l.i l.s))
+
+abbrev pub decreases-loop-i : goal.decreases-loop-i
+decreases-loop-i l = length l.s - l.i

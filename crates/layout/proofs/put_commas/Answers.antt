@@ -1,0 +1,30 @@
+-- `layout::put_commas` meets its contract: k copies are written, the first of them before.
+use Prim.Native.Nat.{◌-◌, ◌≤◌}
+use native.Mathlib.Omega.{arith}
+use Rattle.writing.proofs.Writing.{writes_length, fits_first, Along, along_none, along_more, along_all, along_fits}
+use Rattle.layout.specs.Copied.{literal_bytes, comma_bytes}
+use Rattle.layout.proofs.Literals.{comma_more, no_commas}
+use borrow.Author.Rules.{rules}
+use Rattle.layout.proofs.put_commas.Goals as goal
+
+pub loop-k-init : goal.loop-k-init
+loop-k-init c = (omega arith, along_none _ _ _)
+
+pub put_after_comma-p-requires : goal.put_after_comma-p-requires
+put_after_comma-p-requires c =
+    let b = literal_bytes c.args.s.now c.args.l in (
+      c.requires.0,
+      fits_first c.loop-k.p (comma_bytes 1 b) _ (comma_more c.loop-k.k c.args.copies b (omega arith))
+          (along_fits c.requires.1 c.loop-k.invariant.1),
+    )
+
+pub loop-k-preserved : goal.loop-k-preserved
+loop-k-preserved c =
+    (omega arith, along_more _ _ (comma_more c.loop-k.k c.args.copies _ (omega arith)) c.loop-k.invariant.1 c.put_after_comma-p.ensures)
+
+pub shape_of-out : goal.shape_of-out
+shape_of-out c = writes_length c.loop-k.invariant.1.writes
+
+pub returns : goal.returns
+returns c =
+    along_all (no_commas c.loop-k.k c.args.copies _ (omega arith)) c.loop-k.invariant.1

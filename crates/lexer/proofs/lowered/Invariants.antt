@@ -1,0 +1,17 @@
+-- `lexer::lowered` meets its contract: what is written up to i are the first i bytes in lower case.
+use Prim.Native.Nat.{ℕ, ◌≤◌, ◌<◌, ◌-◌}
+use mathlib.Core.Path.{◌≡◌, refl, sym, ◌∙◌, ap}
+use mathlib.Core.List.{List, map}
+use native.Mathlib.Omega.{arith}
+use borrow.Author.Rules.{rules}
+use lib.ListN.{length, take, get_or, set, length-set}
+use lib.Seq.{sets, take_all}
+use Rattle.syntax.specs.Bytes.{lower}
+use Rattle.lexer.proofs.Laws.{sets_map}
+use Rattle.lexer.proofs.lowered.Given as goal
+
+abbrev pub invariant-loop-i : goal.invariant-loop-i
+invariant-loop-i l = (l.i ≤ length l.text) × (length l.low ≡ length l.initial.low) × (l.low ≡ sets l.initial.low 0 (map lower (take l.i l.text)))
+
+abbrev pub decreases-loop-i : goal.decreases-loop-i
+decreases-loop-i l = length l.text - l.i

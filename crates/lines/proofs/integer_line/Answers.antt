@@ -1,0 +1,11 @@
+-- `lines::integer_line` meets its contract.
+use Rattle.lines.proofs.DeclareLine.{declare_line}
+use borrow.Author.Rules.{rules}
+use Rattle.lines.proofs.integer_line.Goals as goal
+
+pub returns : goal.returns
+returns c =
+    let found = c.integers-r in
+    let passed = c.pass-a in
+    λ k I C O. declare_line k _ _ _ _ passed.ensures found.result found.ensures.0 found.ensures.1.0 found.ensures.1.1 _
+    c.number_of.ensures _ c.before_do.ensures

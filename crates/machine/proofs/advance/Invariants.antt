@@ -1,0 +1,23 @@
+-- `machine::advance` meets its contract: what is done from the place that the loop has reached is what is done from the first.
+use mathlib.Core.Path.{◌≡◌, refl, ◌∙◌}
+use Prim.Native.Nat.{◌≤◌, ◌-◌}
+use native.Mathlib.Omega.{arith}
+use borrow.Author.Rules.{rules}
+use mir.Syntax.{w32}
+use mir.Val.{to_z, of_z}
+use lib.ListN.{length}
+use Rattle.operands.specs.declared.Next.TheVariants.{On, Stop}
+use Rattle.operands.specs.Pending.{pendings}
+use Rattle.operands.specs.Performing.{left, then}
+use Rattle.machine.proofs.Resuming.{from, from_past, from_performed, accesses_most}
+use Rattle.machine.proofs.advance.Given as goal
+
+abbrev pub invariant-loop-at : goal.invariant-loop-at
+invariant-loop-at l =
+    (length l.pending ≡ 32)
+    × (l.d ≤ 32)
+    × (l.place ≤ l.at)
+    × (from l.code (to_z w32 l.v) l.place (pendings l.initial.pending l.depth) ≡ from l.code (to_z w32 l.v) l.at (pendings l.pending l.d))
+
+abbrev pub decreases-loop-at : goal.decreases-loop-at
+decreases-loop-at l = l.count - l.at

@@ -1,0 +1,22 @@
+-- `names::put_name` meets its contract: the first k bytes stand in the entry's first k words, and no other word has changed.
+use Prim.Native.Nat.{ℕ, ◌≤◌, ◌<◌, ◌+◌, ◌*◌, ◌-◌}
+use mathlib.Core.Path.{◌≡◌, refl, sym, ◌∙◌, ap}
+use mathlib.Core.List.{List}
+use native.Mathlib.Decide.{ℕ_discrete}
+use native.Mathlib.Omega.{arith}
+use lib.ListN.{length, get_or, set, length-set}
+use lib.Seq.{get_or-set_same, get_or-set_other}
+use Rattle.names.specs.Table.{word_at, table_words, name_words, length_word, first_word, entry_words}
+use Rattle.names.proofs.Laws.{name_written, set_elsewhere}
+use Rattle.names.proofs.put_name.Given as goal
+
+abbrev pub invariant-loop-k : goal.invariant-loop-k
+invariant-loop-k l =
+    (l.k ≤ length l.w)
+    × (length l.table ≡ length l.initial.table)
+    × (table_words ≤ length l.initial.table → (j : ℕ) → j < l.k → word_at l.table l.i j ≡ get_or l.w j 0)
+    × ((p : ℕ) → p < entry_words * l.i → get_or l.table p 0 ≡ get_or l.initial.table p 0)
+    × ((p : ℕ) → entry_words * l.i + l.k ≤ p → get_or l.table p 0 ≡ get_or l.initial.table p 0)
+
+abbrev pub decreases-loop-k : goal.decreases-loop-k
+decreases-loop-k l = length l.w - l.k

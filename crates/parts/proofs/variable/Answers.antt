@@ -1,0 +1,16 @@
+-- `parts::variable` meets its contract.
+use mathlib.Core.Path.{sym, ◌∙◌}
+use native.Mathlib.Omega.{arith}
+use borrow.Author.Rules.{rules}
+use Rattle.parts.proofs.Leaves.{name_loads}
+use Rattle.parts.specs.Parts.{Room}
+use Rattle.parts.proofs.variable.Goals as goal
+
+pub then_read-requires : goal.then_read-requires
+unfolding Room
+then_read-requires c = c.requires
+
+pub returns : goal.returns
+returns c =
+    name_loads c.token-t.ensures (λ z. omega (arith, sym c.token-t.ensures.kinds ∙ c.requires.1)) _ _ _ _ _ _ _ _
+    c.then_read.ensures c.named-worse.ensures

@@ -1,0 +1,12 @@
+-- `setup::classes` meets its contract: the numbers are the classes by the names from i on.
+use Prim.Native.Nat.{◌-◌}
+use native.Mathlib.Omega.{arith}
+use borrow.Author.Rules.{rules}
+use Rattle.setup.proofs.ClassLaws.{Classing, classing_none, classing_more, classing_all}
+use Rattle.setup.proofs.classes.Given as goal
+
+abbrev pub invariant-loop-i : goal.invariant-loop-i
+invariant-loop-i l = Classing l.table l.count l.initial.out l.i l.out
+
+abbrev pub decreases-loop-i : goal.decreases-loop-i
+decreases-loop-i l = l.i

@@ -1,0 +1,6 @@
+-- `staging::raised` meets its contract.
+use borrow.Author.Rules.{rules}
+use Rattle.staging.proofs.raised.Goals as goal
+
+pub returns-then-b : goal.returns-then-b
+returns-then-b c = rw c.if-b.true c.higher_of.ensures

@@ -1,0 +1,9 @@
+-- `staging::row_of` meets its contract.
+use mathlib.Core.Path.{refl}
+use Rattle.staging.specs.Rows.{row_in}
+use borrow.Author.Rules.{rules}
+use Rattle.staging.proofs.row_of.Goals as goal
+
+pub returns : goal.returns
+unfolding row_in
+returns c = refl

@@ -1,0 +1,26 @@
+-- `sweeping::sweep` meets its contract: before each iteration the run comes to what it came to at the start, and the list has the stages of those before.
+use mathlib.Core.Path.{◌≡◌, refl, sym, ◌∙◌}
+use Prim.Native.Nat.{◌-◌, ◌≤◌, ◌<◌}
+use native.Mathlib.Omega.{arith}
+use lib.ListN.{length, length-set}
+use lib.IntN.{ℤ}
+use Rattle.rules.specs.Loop.{Loop}
+use Rattle.reorder.specs.Stages.{greatest}
+use Rattle.staging.specs.Rows.{stage_in}
+use Rattle.sweeping.specs.Sweep.{Before, Runs}
+use Rattle.sweeping.proofs.Ends.{sweep_start, sweep_runs, iterate_end, after_small, highest_next, sweep_end}
+use borrow.Author.Rules.{rules}
+use Rattle.sweeping.proofs.sweep.Given as goal
+
+abbrev pub invariant-loop-index : goal.invariant-loop-index
+invariant-loop-index l =
+    (l.index ≤ l.n)
+    × (length l.cells ≡ length l.initial.cells)
+    × (length l.w ≡ length l.initial.w)
+    × (length l.rows ≡ length l.initial.rows)
+    × (length l.list ≡ length l.initial.list)
+    × (l.stages ≡ greatest l.index (stage_in l.list))
+    × ((v : ℤ) (l : Loop) → Runs l.code l.role v l → l.n ≡ l.iterations → Before l 0 l.initial.cells l.initial.w l.initial.rows l.initial.list → Before l l.index l.cells l.w l.rows l.list)
+
+abbrev pub decreases-loop-index : goal.decreases-loop-index
+decreases-loop-index l = l.n - l.index

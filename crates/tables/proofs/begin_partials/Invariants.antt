@@ -1,0 +1,17 @@
+-- `tables::begin_partials` meets its contract: the partial results of the processors passed have begun.
+use mathlib.Core.Path.{◌≡◌, refl}
+use Prim.Native.Nat.{◌-◌, ◌≤◌}
+use native.Mathlib.Omega.{arith}
+use native.Mathlib.Numerals.{add-one}
+use borrow.Author.Rules.{rules}
+use mir.Syntax.{w32}
+use mir.Val.{to_z, of_z}
+use lib.ListN.{length, length-set}
+use Rattle.tables.specs.Entered.{started}
+use Rattle.tables.proofs.begin_partials.Given as goal
+
+abbrev pub invariant-loop-q : goal.invariant-loop-q
+invariant-loop-q l = (l.q ≤ l.processors) × (length l.w ≡ length l.initial.w) × (l.w ≡ started l.initial.w l.row (to_z w32 l.start) l.q)
+
+abbrev pub decreases-loop-q : goal.decreases-loop-q
+decreases-loop-q l = l.processors - l.q

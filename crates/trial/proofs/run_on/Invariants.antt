@@ -1,0 +1,25 @@
+-- `trial::run_on` meets its contract: the processors below q have run to their end.
+use borrow.Author.Rules.{rules}
+use mathlib.Core.Path.{◌≡◌, refl}
+use Prim.Native.Nat.{ℕ, ◌≤◌, ◌<◌, ◌-◌}
+use native.Mathlib.Numerals.{add-one}
+use native.Mathlib.Omega.{arith}
+use lib.ListN.{length, get_or, length-set}
+use Rattle.rules.specs.Loop.{Loop}
+use Rattle.rules.specs.Steps.{State, run_out, run_on}
+use Rattle.trial.specs.Running.{dealt, nobody, Run, Over}
+use Rattle.trial.proofs.Turns.{run_turn, run_moved}
+use Rattle.trial.proofs.RunningOut.{run_out_other, over_more}
+use Rattle.trial.proofs.run_on.Given as goal
+
+abbrev pub invariant-loop-q : goal.invariant-loop-q
+invariant-loop-q l =
+    (l.q ≤ l.setting.processors)
+    × (length l.cells ≡ length l.initial.cells)
+    × (length l.w ≡ length l.initial.w)
+    × (length l.ws ≡ 8)
+    × ((l : Loop) (s : State) → Run l.code l.setting l l.initial.cells l.initial.w l.initial.ws s → Run l.code l.setting l l.cells l.w l.ws (run_on l (dealt l.setting) l.q s))
+    × ((j : ℕ) → j < l.q → Over l.setting j (get_or l.ws j nobody))
+
+abbrev pub decreases-loop-q : goal.decreases-loop-q
+decreases-loop-q l = l.setting.processors - l.q

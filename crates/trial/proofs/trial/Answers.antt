@@ -1,0 +1,35 @@
+-- `trial::trial` meets its contract.
+use Rattle.rules.specs.Steps.{start, steps}
+use Rattle.trial.specs.Running.{dealt}
+use Rattle.trial.proofs.Starting.{run_tried}
+use borrow.Author.Rules.{rules}
+use Rattle.trial.proofs.trial.Goals as goal
+
+pub follow-then-requires : goal.follow-then-requires
+follow-then-requires c =
+    let a = c.args in
+    let (l, h, n) = c.requires in
+    (l, start l (dealt a.setting), c.begin-first.ensures a.code.now l h, n)
+
+pub run_on-requires : goal.run_on-requires
+run_on-requires c =
+    let a = c.args in
+    let (l, h, n) =
+    c.requires in (
+      l,
+      steps l (dealt a.setting) a.schedule.now (start l (dealt a.setting)),
+      c.follow-then.ensures l (start l (dealt a.setting))
+          (c.begin-first.ensures a.code.now l h),
+    )
+
+pub returns : goal.returns
+returns c =
+    let a = c.args in
+    let u = c.run_on in
+    let f = c.follow-then in
+    let b = c.begin-first in record {
+      tries = λ l h. run_tried _ a.setting l _ _ _ h a.schedule.now _ _ _
+          (u.ensures.0 l (steps l (dealt a.setting) a.schedule.now (start l (dealt a.setting)))
+          (f.ensures l (start l (dealt a.setting)) (b.ensures a.code.now l h)));
+      all_over = u.ensures.1;
+    }

@@ -1,0 +1,15 @@
+-- `writing::significant` meets its contract: the digits from i on are the same without their leading zeros.
+use mathlib.Core.Path.{◌≡◌, refl, sym, ◌∙◌}
+use Prim.Native.Nat.{◌-◌, ◌≤◌}
+use native.Mathlib.Omega.{arith}
+use Rattle.lexer.specs.Lex.{part}
+use Rattle.printed.specs.Form.{shortest}
+use Rattle.writing.proofs.TokenBytes.{zero_gone, zero_not, digit_last}
+use borrow.Author.Rules.{rules}
+use Rattle.writing.proofs.significant.Given as goal
+
+abbrev pub invariant-loop-i : goal.invariant-loop-i
+invariant-loop-i l = (l.a ≤ l.i) × (l.i ≤ l.e) × (shortest (part l.s l.i l.e) ≡ shortest (part l.s l.a l.e))
+
+abbrev pub decreases-loop-i : goal.decreases-loop-i
+decreases-loop-i l = l.e - l.i
