@@ -87,7 +87,7 @@ module _ (l m : Loop) (h : SameLoop l m) (δ : Partition) where
   steps_same : {s t : State} (ps : List ℕ) → SameState s t → SameState (steps l δ ps s) (steps m δ ps t)
   unfolding steps
   steps_same [] q = q
-  steps_same (p ∷ ps) q = steps_same ps (step_same p q)
+  steps_same {s = s} {t = t} (p ∷ ps) q = steps_same {s = step l δ p s} {t = step m δ p t} ps (step_same p q)
 
   start_same : SameState (start l δ) (start m δ)
   start_same = record { cells = h.entry; log = refl; places = λ p. record { at = refl; act = h.body (bound δ p) } }

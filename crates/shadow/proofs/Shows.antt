@@ -189,6 +189,7 @@ merged_right l δ s t w c = go (l.class c) refl
 
 -- the accessed cells are those below the size
 pub inside_cell : {n k c : ℕ} {q : Kind} {g : Log} → Inside n k g → Has q c g → c < k
+inside_cell {n = n} {k = k} {c = c} {q = q} inside_nil h = elim h [ ]
 inside_cell (inside_cons a b x) newest = b
 inside_cell (inside_cons a b x) (older h) = inside_cell x h
 

@@ -92,7 +92,7 @@ module _ {S : Type 0} (peek : S → Option Token) (skip : S → S) where
   pub spells_split : {s u : S} (xs : List Token) {ys : List Token} → Spells peek skip s (xs ++ ys) u
       → (m : S) × Spells peek skip s xs m × Spells peek skip m ys u
   spells_split {s} [] h = (s, here, h)
-  spells_split (x ∷ xs) (token e h) = let (m, a, b) = spells_split xs h in (m, token e a, b)
+  spells_split {s = s} {u = u} (x ∷ xs) {ys = ys} (token e h) = let (m, a, b) = spells_split {s = skip s} {u = u} xs {ys = ys} h in (m, token e a, b)
 
   pub one_token : {s : S} {t : Token} → peek s ≡ some t → Spells peek skip s (t ∷ []) (skip s)
   one_token e = token e here

@@ -16,7 +16,7 @@ overflow_add-result c =
     sum_fits _ _ _ (omega (arith, p, q)) (omega (arith, p, q)) (omega arith)
 
 pub overflow_mul-result : goal.overflow_mul-result
-overflow_mul-result c = record { fits = omega (arith, (overflow_add-result c).ranges) }
+overflow_mul-result c = record { fits = omega (arith, (overflow_add-result c).fits) }
 
 pub returns-in-Cell-column : goal.returns-in-Cell-column
 unfolding at_cell

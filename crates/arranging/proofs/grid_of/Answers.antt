@@ -8,12 +8,10 @@ use Rattle.arranging.proofs.grid_of.Goals as goal
 
 pub returns-then-subscripts-lt2 : goal.returns-then-subscripts-lt2
 returns-then-subscripts-lt2 c =
-    let g = c.l-1.given in
-    let v = g.0 in
-    told_few v.0 v.1.0 v.1.1.0 v.1.1.1.0 v.1.1.1.1.0 v.1.1.1.1.1.0 (omega (arith, c.if-subscripts-lt2.true)) ∙ ap grid_told (sym g.1)
+    let v = c.in-Cells in
+    told_few v.first v.count v.subscripts v.class v.rows v.columns (omega (arith, c.if-subscripts-lt2.true)) ∙ ap grid_told (sym v.is)
 
 pub returns-else-subscripts-lt2 : goal.returns-else-subscripts-lt2
 returns-else-subscripts-lt2 c =
-    let g = c.l-1.given in
-    let v = g.0 in
-    told_two v.0 v.1.0 v.1.1.0 v.1.1.1.0 v.1.1.1.1.0 v.1.1.1.1.1.0 (omega (arith, c.if-subscripts-lt2.false)) ∙ ap grid_told (sym g.1)
+    let v = c.in-Cells in
+    told_two v.first v.count v.subscripts v.class v.rows v.columns (omega (arith, c.if-subscripts-lt2.false)) ∙ ap grid_told (sym v.is)

@@ -27,7 +27,7 @@ claims-requires t c =
       claims_onward c.args.deed _ _ _ _ _
           c.claim_at-c.result c.claim_at-c.ensures.claim_at _
           c.pass-comma.ensures c.requires.1
-          c.requires_measure (omega arith),
+          c.decreases (omega arith),
       (c.requires.0, c.claim_at-c.ensures.keeps.1),
     )
 

@@ -34,16 +34,16 @@ pub returns-then-s-c : goal.returns-then-s-c
 returns-then-s-c t c =
     let one = c.clause_at-c in record {
       clauses = clauses_broken _ _ c.args.before _ _ one.result (omega arith)
-          (sym c.is_end.ensures ∙ c.if-is_end.false) one.ensures.0
+          (sym c.is_end.ensures ∙ c.if-is_end.false) one.ensures.clause_at
           (omega arith);
-      keeps = one.ensures.1.0;
+      keeps = one.ensures.keeps;
     }
 
 pub clauses-requires : goal.clauses-requires
 clauses-requires t c =
     let one = c.clause_at-c in (
-      omega (arith, c.requires_measure, one.ensures.1.1 (omega arith)),
-      (c.requires.0, one.ensures.1.0.1),
+      omega (arith, c.decreases, one.ensures.next_lt_next (omega arith)),
+      (c.requires.0, one.ensures.keeps.1),
     )
 
 pub returns : goal.returns
@@ -53,6 +53,6 @@ returns t c =
       clauses = clauses_more _ _ c.args.before _ _ one.result (omega arith)
           (sym c.is_end.ensures
           ∙ c.if-is_end.false)
-          one.ensures.0 (omega arith) (one.ensures.1.1 (omega arith)) _ _ rest.0;
-      keeps = (keeps_on _ _ _ one.ensures.1.0.0 rest.1.0, rest.1.1);
+          one.ensures.clause_at (omega arith) (one.ensures.next_lt_next (omega arith)) _ _ rest.clauses;
+      keeps = (keeps_on _ _ _ one.ensures.keeps.0 rest.keeps.0, rest.keeps.1);
     }

@@ -37,6 +37,8 @@ names_at-c-requires c =
 pub returns : goal.returns
 returns c =
     let n = c.names_at-c in
-    let read = clause_names _ _ _ c.args.before _ c.pass-word.ensures (omega arith) _ c.pass-other.ensures (omega arith) _ n.result n.ensures.0 in
-    let both = (read, n.ensures.1) in
-    record { clause_at = both.0; keeps = both.1; next_lt_next = both.2 }
+    record {
+      clause_at = clause_names _ _ _ c.args.before _ c.pass-word.ensures (omega arith) _ c.pass-other.ensures (omega arith) _ n.result n.ensures.names_at;
+      keeps = n.ensures.keeps;
+      next_lt_next = n.ensures.at_lt_next;
+    }

@@ -8,7 +8,7 @@ pub returns : goal.returns
 returns c =
     let one = c.clauses-classes in
     let two = c.clauses in record {
-      directive = directive_read _ _ _ _ one.result (after c.none_before.ensures one.ensures.0) one.ensures.1.1 _ two.result
-          (after c.none_before-2.ensures two.ensures.0);
-      keeps = keeps_on _ _ _ one.ensures.1.0 two.ensures.1.0;
+      directive = directive_read _ _ _ _ one.result (after c.none_before.ensures one.ensures.clauses) one.ensures.keeps.1 _ two.result
+          (after c.none_before-2.ensures two.ensures.clauses);
+      keeps = keeps_on _ _ _ one.ensures.keeps.0 two.ensures.keeps.0;
     }

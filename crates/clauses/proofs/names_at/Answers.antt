@@ -18,8 +18,8 @@ returns c =
     let k = c.kind_at-k in
     let d = c.deed_of-deed in
     let n = c.claims-c in record {
-      names_at = names_read c.args.reading _ _ _ _ _ k.result.kind k.ensures.0 k.ensures.1 d.result d.ensures _ n.result n.ensures.0 _ c.pass.ensures;
-      keeps = n.ensures.1;
-      at_lt_next = names_onward c.args.reading _ _ _ _ _ k.result.kind k.ensures.0 k.ensures.1 d.result d.ensures _ n.result n.ensures.0 _
+      names_at = names_read c.args.reading _ _ _ _ _ k.result.kind k.ensures.goes k.ensures.at_lt_next d.result d.ensures _ n.result n.ensures.claims _ c.pass.ensures;
+      keeps = n.ensures.keeps;
+      at_lt_next = names_onward c.args.reading _ _ _ _ _ k.result.kind k.ensures.goes k.ensures.at_lt_next d.result d.ensures _ n.result n.ensures.claims _
             c.pass.ensures c.requires.1;
     }

@@ -13,8 +13,8 @@ pub expression-g-requires : goal.expression-g-requires
 expression-g-requires c =
     let p = (related_by _ _ _ c.relation.ensures _ _ c.in-By.is).1 in
     let h = c.requires in record {
-      ready = ready_later _ _ _ _ _ h.0 1 _ _ _ p.from p.within (omega arith) refl;
-      line_bound = h.1;
+      ready = ready_later _ _ _ _ _ h.ready 1 _ _ _ p.from p.within (omega arith) refl;
+      line_bound = h.line_bound;
     }
 
 pub expect-requires : goal.expect-requires
@@ -29,7 +29,7 @@ then_emit-requires c =
     let p = (related_by _ _ _ c.relation.ensures _ _ c.in-By.is).1 in
     let x = c.expression-g in
     ready_room _ _ _ _ _ c.requires.ready 1 _ _ _ _ (omega (arith, p.from))
-    (within_word _ _ _ c.then_word-h.ensures (within_sealed _ _ _ c.expect.ensures x.ensures.within)) x.auto.1.1.1.1.1.1.0
+    (within_word _ _ _ c.then_word-h.ensures (within_sealed _ _ _ c.expect.ensures x.ensures.within)) x.auto.code
 
 pub returns : goal.returns
 returns c =

@@ -22,7 +22,7 @@ returns-then-s-comma t c = record {
 
 pub integers-requires : goal.integers-requires
 integers-requires t c = (
-  onward _ _ _ _ c.requires_measure c.integer-d.ensures.goes
+  onward _ _ _ _ c.decreases c.integer-d.ensures.goes
       c.pass-comma.ensures (omega arith),
   (c.requires.0, c.integer-d.ensures.keeps.1),
 )

@@ -47,7 +47,7 @@ pub later-requires : goal.later-requires
 later-requires t c = (
   omega (
     arith,
-    c.requires_measure,
+    c.decreases,
     pass_onward c.args.s.now (bytes ",")
         c.args.at
         c.pass-comma.result c.pass-comma.ensures

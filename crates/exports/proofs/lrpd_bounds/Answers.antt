@@ -10,10 +10,10 @@ use Rattle.exports.proofs.lrpd_bounds.Goals as goal
 pub returns-in-Range : goal.returns-in-Range
 unfolding bounds_numbers
 returns-in-Range c =
-    let g = c.r-1.given in
-    let m : to_z w32 (of_z w32 g.0.0) ≡ g.0.0 = search rules in
-    (λ i. record { number = 0; line = 0; v = pos 0; from = m i; iterations = g.0.1.0; blocks = c.blocks_of.ensures i })
-    ∙ ap bounds_numbers (sym g.1 ∙ c.bounds-r.ensures)
+    let g = c.in-Range in
+    let m : to_z w32 (of_z w32 g.from) ≡ g.from = search rules in
+    (λ i. record { number = 0; line = 0; v = pos 0; from = m i; iterations = g.iterations; blocks = c.blocks_of.ensures i })
+    ∙ ap bounds_numbers (sym g.is ∙ c.bounds-r.ensures)
 
 pub returns-in-Refused : goal.returns-in-Refused
 unfolding bounds_numbers

@@ -6,5 +6,8 @@ use Rattle.exports.proofs.lrpd_look.Goals as goal
 
 pub returns : goal.returns
 returns c =
-    let both = (c.done_answer.ensures ∙ ap done_numbers c.look-r.ensures.value, c.look-r.ensures.view_after) in
-    record { value = both.0; view_after = both.1; workspace_after = both.2 }
+    record {
+      value = c.done_answer.ensures ∙ ap done_numbers c.look-r.ensures.value;
+      view_after = c.look-r.ensures.view_after;
+      workspace_after = c.look-r.ensures.workspace_after;
+    }

@@ -6,5 +6,8 @@ use Rattle.exports.proofs.lrpd_run.Goals as goal
 
 pub returns : goal.returns
 returns c =
-    let both = (c.run_answer.ensures ∙ ap run_numbers c.run-r.ensures.value, c.run-r.ensures.cells_after) in
-    record { value = both.0; cells_after = both.1; workspace_after = both.2 }
+    record {
+      value = c.run_answer.ensures ∙ ap run_numbers c.run-r.ensures.value;
+      cells_after = c.run-r.ensures.cells_after;
+      workspace_after = c.run-r.ensures.workspace_after;
+    }

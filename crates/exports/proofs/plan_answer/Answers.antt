@@ -13,9 +13,9 @@ returns-in-Staged c = ap plan_numbers (sym c.in-Staged.is)
 pub returns-in-Faulted : goal.returns-in-Faulted
 unfolding plan_numbers
 returns-in-Faulted c =
-    let g = c.r-in-Faulted-1.given in
-    let u : to_z w32 (of_z w32 g.0.1.1.0) ≡ g.0.1.1.0 = search rules in
-    (λ i. record { number = g.0.0; line = g.0.1.0; v = u i; stages = 0 }) ∙ ap plan_numbers (sym g.1)
+    let g = c.in-Faulted in
+    let u : to_z w32 (of_z w32 g.x) ≡ g.x = search rules in
+    (λ i. record { number = g.n; line = g.k; v = u i; stages = 0 }) ∙ ap plan_numbers (sym g.is)
 
 pub returns-in-Refused : goal.returns-in-Refused
 unfolding plan_numbers

@@ -18,37 +18,26 @@ use Rattle.expressions.proofs.Sums.{goes_on, goes_not, lead_long, lead_within, s
 use Rattle.expressions.proofs.Factors.{passed, factor_literal, factor_name, factor_bracket, factor_call, factor_element, factor_none, ends_on, ends_not, call_answers, subscripts_unread, subscripts_unclosed, subscripts_one, subscripts_two}
 use Rattle.expressions.proofs.+expression_factor_more_factors_more_terms_pair_subscripts_term.Goals as goal
 
--- a call at the same place has a lower level; one further on has a byte less, and where the level rises by two a bracket has opened
-abbrev left : List ℕ → ℕ → ℕ → ℕ
-left s at depth = 2 * (length s - at) + (length s - depth)
-
--- one of two signs stands there
-signed : {j : Joint} {A B : Type 0} → A ⊎ B → (A → j ≡ First) → (B → j ≡ Second) → joined j ≡ 1
-signed w f g = ⊎_elim (λ a. ap joined (f a)) (λ b. ap joined (g b)) w
-
 pub expression-join-l-requires : goal.expression-join-l-requires
 expression-join-l-requires t c = (c.requires.ready.inside, refl, refl)
 
 pub expression-term-requires : goal.expression-term-requires
 expression-term-requires t c =
-    let c.before.before.before.before = c.before.before.before.before in
     let j = c.join-l.ensures.next in (
-      omega (arith, c.requires_measure, j.from, j.within),
+      omega (arith, c.decreases, j.from, j.within),
       (ready_later _ _ _ _ _ c.requires.ready 0 _ _ _ (omega (arith, j.from)) j.within (omega arith) refl, c.requires.line_bound),
     )
 
 pub expression-then_negate-requires : goal.expression-then_negate-requires
 expression-then_negate-requires t c =
-    let c.before.before.before = c.before.before.before in
     ready_room _ _ _ _ _ c.requires.ready _ _ _ _ _ (omega (arith, c.join-l.ensures.next.from, lead_long c.join-l.result.joint))
     c.term.ensures.within c.term.auto.code
 
 pub expression-more_terms-requires : goal.expression-more_terms-requires
 expression-more_terms-requires t c =
-    let c.before.before.before.before.before.before = c.before.before.before.before.before.before in
     let w = lead_within _ _ _ _ _ _ _ _ c.join-l.ensures c.then_negate.ensures c.term.ensures.within in
     let d = within_done _ _ _ _ _ _ _ _ w c.in-Done.is in (
-      omega (arith, c.requires_measure, d.0, d.1),
+      omega (arith, c.decreases, d.0, d.1),
       (
         ready_next _ _ _ _ _ c.requires.ready _ _ _ _ _ _ (omega arith) w c.in-Done.is
             (c.then_negate.auto.code ∙ c.term.auto.code),
@@ -58,23 +47,19 @@ expression-more_terms-requires t c =
 
 pub expression-shape_of-code-in-Done : goal.expression-shape_of-code-in-Done
 expression-shape_of-code-in-Done t c =
-    let c.before.before.before.before.before.before.before.before.before = c.before.before.before.before.before.before.before.before.before in
     c.more_terms.auto.code ∙ c.then_negate.auto.code ∙ c.term.auto.code
 
 pub expression-returns-in-Done : goal.expression-returns-in-Done
 expression-returns-in-Done t c =
-    let c.before.before.before.before.before = c.before.before.before.before.before in
     expression_answers _ _ _ _ _ _ _ _ _ _ _ _ _ _ _ c.join-l.ensures c.then_negate.ensures c.term.ensures
     (goes_on _ _ _ _ _ _ _ _ _ _ _ _ c.in-Done.is c.more_terms.ensures)
 
 pub expression-shape_of-code-in-Broken : goal.expression-shape_of-code-in-Broken
 expression-shape_of-code-in-Broken t c =
-    let c.before.before.before.before = c.before.before.before.before in
     c.then_negate.auto.code ∙ c.term.auto.code
 
 pub expression-returns-in-Broken : goal.expression-returns-in-Broken
 expression-returns-in-Broken t c =
-    let c.before.before.before.before = c.before.before.before.before in
     expression_answers _ _ _ _ _ _ _ _ _ _ _ _ _ _ _ c.join-l.ensures c.then_negate.ensures c.term.ensures
     (goes_not _ _ _ _ _ _ _ _ c.in-Broken.is)
 
@@ -83,7 +68,6 @@ factor-begin-b-requires t c = c.requires.ready.inside
 
 pub factor-overflow_add-inner : goal.factor-overflow_add-inner
 factor-overflow_add-inner t c =
-    let c.before.before.before = c.before.before.before in
     omega (
       arith,
       c.requires.ready.shallow,
@@ -93,7 +77,6 @@ factor-overflow_add-inner t c =
 
 pub factor-constant-requires : goal.factor-constant-requires
 factor-constant-requires t c =
-    let c.before.before.before = c.before.before.before in
     let p = passed _ _ _ c.begin-b.ensures Literal c.in-Literal.is in (
       c.requires.ready.inside,
       begins_digits _ (sym c.begin-b.ensures.beginning ∙ c.in-Literal.is),
@@ -105,22 +88,19 @@ factor-opened-worse-requires t c = tt
 
 pub factor-expression-g-requires : goal.factor-expression-g-requires
 factor-expression-g-requires t c =
-    let c.before.before.before.before = c.before.before.before.before in
     let p = passed _ _ _ c.begin-b.ensures Bracket c.in-Bracket.is in
-    (omega (arith, c.requires_measure, p.from, p.within), (ready_later _ _ _ _ _ c.requires.ready 1 _ _ _ p.from p.within (omega arith) refl, c.requires.line_bound))
+    (omega (arith, c.decreases, p.from, p.within), (ready_later _ _ _ _ _ c.requires.ready 1 _ _ _ p.from p.within (omega arith) refl, c.requires.line_bound))
 
 pub factor-expect-requires : goal.factor-expect-requires
 factor-expect-requires t c = (within_inside _ _ _ _ _ c.expression-g.ensures.within, refl)
 
 pub factor-pair-requires : goal.factor-pair-requires
 factor-pair-requires t c =
-    let c.before.before.before.before = c.before.before.before.before in
     let p = passed _ _ _ c.begin-b.ensures (Call _) c.in-Call.is in
-    (omega (arith, c.requires_measure, p.from, p.within), (ready_later _ _ _ _ _ c.requires.ready 2 _ _ _ p.from p.within (omega arith) refl, c.requires.line_bound))
+    (omega (arith, c.decreases, p.from, p.within), (ready_later _ _ _ _ _ c.requires.ready 2 _ _ _ p.from p.within (omega arith) refl, c.requires.line_bound))
 
 pub factor-variable-requires : goal.factor-variable-requires
 factor-variable-requires t c =
-    let c.before.before.before = c.before.before.before in
     let p = passed _ _ _ c.begin-b.ensures Name c.in-Name.is in (
       c.requires.ready.inside,
       begins_kind _
@@ -132,7 +112,7 @@ factor-variable-requires t c =
 pub factor-subscripts-g-requires : goal.factor-subscripts-g-requires
 factor-subscripts-g-requires t c =
     let p = passed _ _ _ c.begin-b.ensures Element c.in-Element.is in (
-      omega (arith, c.requires_measure, p.from, p.within),
+      omega (arith, c.decreases, p.from, p.within),
       (
         ready_later _ _ _ _ _ c.requires.ready 2 _ _ _ p.from p.within (omega arith) refl,
         (
@@ -158,7 +138,6 @@ factor-shape_of-code-in-Literal t c = c.constant.auto.code
 
 pub factor-returns-in-Literal : goal.factor-returns-in-Literal
 factor-returns-in-Literal t c =
-    let c.before.before.before.before = c.before.before.before.before in
     factor_literal _ _ _ _ _ _ _ _ _ _ _ c.begin-b.ensures c.in-Literal.is c.constant.ensures
 
 pub factor-shape_of-code-in-Bracket : goal.factor-shape_of-code-in-Bracket
@@ -167,7 +146,6 @@ factor-shape_of-code-in-Bracket t c =
 
 pub factor-returns-in-Bracket : goal.factor-returns-in-Bracket
 factor-returns-in-Bracket t c =
-    let c.before.before.before = c.before.before.before in
     factor_bracket _ _ _ _ _ _ _ _ _ _ _ c.begin-b.ensures _ _ _ c.in-Bracket.is (add-one _) c.opened-worse.ensures
     c.expression-g.ensures c.expect.ensures
 
@@ -176,7 +154,6 @@ factor-shape_of-code-in-Call t c = c.pair.auto.code
 
 pub factor-returns-in-Call : goal.factor-returns-in-Call
 factor-returns-in-Call t c =
-    let c.before.before.before.before.before = c.before.before.before.before.before in
     factor_call _ _ _ _ _ _ _ _ _ _ _ c.begin-b.ensures _ c.in-Call.is c.pair.ensures
 
 pub factor-shape_of-code-in-Name : goal.factor-shape_of-code-in-Name
@@ -184,7 +161,6 @@ factor-shape_of-code-in-Name t c = c.variable.auto.code
 
 pub factor-returns-in-Name : goal.factor-returns-in-Name
 factor-returns-in-Name t c =
-    let c.before.before.before.before = c.before.before.before.before in
     factor_name _ _ _ _ _ _ _ _ _ _ _ c.begin-b.ensures c.in-Name.is c.variable.ensures
 
 pub factor-shape_of-code-in-Element : goal.factor-shape_of-code-in-Element
@@ -204,36 +180,31 @@ more_factors-join-j-requires t c = (c.requires.ready.inside, refl, refl)
 
 pub more_factors-returns-in-Neither : goal.more_factors-returns-in-Neither
 more_factors-returns-in-Neither t c =
-    let c.before.before.before.before.before = c.before.before.before.before.before in
     factors_none _ _ _ _ _ _ _ _ _ c.join-j.ensures c.in-Neither.is c.requires.ready.inside
 
 pub more_factors-factor-requires : goal.more_factors-factor-requires
 more_factors-factor-requires t c =
-    let c.before.before.before.before.before = c.before.before.before.before.before in
     let p = (some_sign 42 47 _ _ _ c.join-j.ensures refl
-    (signed c.match-sign.branch (λ w. w.1.given.1) (λ w. w.1.given.1))).2 in
-    (omega (arith, c.requires_measure, p.from, p.within), (ready_later _ _ _ _ _ c.requires.ready 1 _ _ _ p.from p.within (omega arith) refl, c.requires.line_bound))
+    (elim c.match-sign.branch [ goal.more_factors-in-First w ↦ ap joined w.in-First.is | goal.more_factors-in-Second w ↦ ap joined w.in-Second.is ])).2 in
+    (omega (arith, c.decreases, p.from, p.within), (ready_later _ _ _ _ _ c.requires.ready 1 _ _ _ p.from p.within (omega arith) refl, c.requires.line_bound))
 
 pub more_factors-factor_operation-requires : goal.more_factors-factor_operation-requires
 more_factors-factor_operation-requires t c =
-    let c.before.before.before.before.before.before.before.before.before = c.before.before.before.before.before.before.before.before.before in
     c.requires.line_bound
 
 pub more_factors-then_emit-requires : goal.more_factors-then_emit-requires
 more_factors-then_emit-requires t c =
-    let c.before.before.before.before = c.before.before.before.before in
     ready_room _ _ _ _ _ c.requires.ready 1 _ _ _ _
-    (some_sign 42 47 _ _ _ c.join-j.ensures refl (signed c.match-sign.branch (λ w. w.1.given.1) (λ w. w.1.given.1))).2.from
+    (some_sign 42 47 _ _ _ c.join-j.ensures refl (elim c.match-sign.branch [ goal.more_factors-in-First w ↦ ap joined w.in-First.is | goal.more_factors-in-Second w ↦ ap joined w.in-Second.is ])).2.from
     c.factor.ensures.within c.factor.auto.code
 
 pub more_factors-more_factors-requires : goal.more_factors-more_factors-requires
 more_factors-more_factors-requires t c =
-    let c.before.before.before.before.before.before = c.before.before.before.before.before.before in
     let w = sign_within _ _ _ _ _ _ _ _ _
-    (some_sign 42 47 _ _ _ c.join-j.ensures refl (signed c.match-sign.branch (λ w. w.1.given.1) (λ w. w.1.given.1))).2
+    (some_sign 42 47 _ _ _ c.join-j.ensures refl (elim c.match-sign.branch [ goal.more_factors-in-First w ↦ ap joined w.in-First.is | goal.more_factors-in-Second w ↦ ap joined w.in-Second.is ])).2
     c.then_emit.ensures c.factor.ensures.within in
     let d = within_done _ _ _ _ _ _ _ _ w c.in-Done.is in (
-      omega (arith, c.requires_measure, d.0, d.1),
+      omega (arith, c.decreases, d.0, d.1),
       (
         ready_next _ _ _ _ _ c.requires.ready _ _ _ _ _ _ (omega arith) w c.in-Done.is
             (c.then_emit.auto.code ∙ c.factor.auto.code),
@@ -243,25 +214,21 @@ more_factors-more_factors-requires t c =
 
 pub more_factors-shape_of-code-in-Done : goal.more_factors-shape_of-code-in-Done
 more_factors-shape_of-code-in-Done t c =
-    let c.before.before.before.before.before.before.before.before.before = c.before.before.before.before.before.before.before.before.before in
     c.more_factors.auto.code ∙ c.then_emit.auto.code ∙ c.factor.auto.code
 
 pub more_factors-returns-in-Done : goal.more_factors-returns-in-Done
 more_factors-returns-in-Done t c =
-    let c.before.before.before.before.before = c.before.before.before.before.before in
-    factors_some _ _ _ _ _ _ _ _ _ c.join-j.ensures (signed c.match-sign.branch (λ w. w.1.given.1) (λ w. w.1.given.1)) _ _ _ _ _ _ _
+    factors_some _ _ _ _ _ _ _ _ _ c.join-j.ensures (elim c.match-sign.branch [ goal.more_factors-in-First w ↦ ap joined w.in-First.is | goal.more_factors-in-Second w ↦ ap joined w.in-Second.is ]) _ _ _ _ _ _ _
     c.factor_operation.ensures c.then_emit.ensures c.factor.ensures
     (goes_on _ _ _ _ _ _ _ _ _ _ _ _ c.in-Done.is c.more_factors.ensures)
 
 pub more_factors-shape_of-code-in-Broken : goal.more_factors-shape_of-code-in-Broken
 more_factors-shape_of-code-in-Broken t c =
-    let c.before.before.before.before = c.before.before.before.before in
     c.then_emit.auto.code ∙ c.factor.auto.code
 
 pub more_factors-returns-in-Broken : goal.more_factors-returns-in-Broken
 more_factors-returns-in-Broken t c =
-    let c.before.before.before.before = c.before.before.before.before in
-    factors_some _ _ _ _ _ _ _ _ _ c.join-j.ensures (signed c.match-sign.branch (λ w. w.1.given.1) (λ w. w.1.given.1)) _ _ _ _ _ _ _
+    factors_some _ _ _ _ _ _ _ _ _ c.join-j.ensures (elim c.match-sign.branch [ goal.more_factors-in-First w ↦ ap joined w.in-First.is | goal.more_factors-in-Second w ↦ ap joined w.in-Second.is ]) _ _ _ _ _ _ _
     c.factor_operation.ensures c.then_emit.ensures c.factor.ensures (goes_not _ _ _ _ _ _ _ _ c.in-Broken.is)
 
 pub more_terms-join-j-requires : goal.more_terms-join-j-requires
@@ -269,34 +236,30 @@ more_terms-join-j-requires t c = (c.requires.ready.inside, refl, refl)
 
 pub more_terms-returns-in-Neither : goal.more_terms-returns-in-Neither
 more_terms-returns-in-Neither t c =
-    let c.before.before.before.before.before = c.before.before.before.before.before in
     terms_none _ _ _ _ _ _ _ _ _ c.join-j.ensures c.in-Neither.is c.requires.ready.inside
 
 pub more_terms-term-requires : goal.more_terms-term-requires
 more_terms-term-requires t c =
-    let c.before.before.before.before.before = c.before.before.before.before.before in
     let p = (some_sign 43 45 _ _ _ c.join-j.ensures refl
-    (signed c.match-sign.branch (λ w. w.1.given.1) (λ w. w.1.given.1))).2 in
-    (omega (arith, c.requires_measure, p.from, p.within), (ready_later _ _ _ _ _ c.requires.ready 1 _ _ _ p.from p.within (omega arith) refl, c.requires.line_bound))
+    (elim c.match-sign.branch [ goal.more_terms-in-First w ↦ ap joined w.in-First.is | goal.more_terms-in-Second w ↦ ap joined w.in-Second.is ])).2 in
+    (omega (arith, c.decreases, p.from, p.within), (ready_later _ _ _ _ _ c.requires.ready 1 _ _ _ p.from p.within (omega arith) refl, c.requires.line_bound))
 
 pub more_terms-term_operation-requires : goal.more_terms-term_operation-requires
 more_terms-term_operation-requires t c = tt
 
 pub more_terms-then_emit-requires : goal.more_terms-then_emit-requires
 more_terms-then_emit-requires t c =
-    let c.before.before.before.before = c.before.before.before.before in
     ready_room _ _ _ _ _ c.requires.ready 1 _ _ _ _
-    (some_sign 43 45 _ _ _ c.join-j.ensures refl (signed c.match-sign.branch (λ w. w.1.given.1) (λ w. w.1.given.1))).2.from
+    (some_sign 43 45 _ _ _ c.join-j.ensures refl (elim c.match-sign.branch [ goal.more_terms-in-First w ↦ ap joined w.in-First.is | goal.more_terms-in-Second w ↦ ap joined w.in-Second.is ])).2.from
     c.term.ensures.within c.term.auto.code
 
 pub more_terms-more_terms-requires : goal.more_terms-more_terms-requires
 more_terms-more_terms-requires t c =
-    let c.before.before.before.before.before.before = c.before.before.before.before.before.before in
     let w = sign_within _ _ _ _ _ _ _ _ _
-    (some_sign 43 45 _ _ _ c.join-j.ensures refl (signed c.match-sign.branch (λ w. w.1.given.1) (λ w. w.1.given.1))).2
+    (some_sign 43 45 _ _ _ c.join-j.ensures refl (elim c.match-sign.branch [ goal.more_terms-in-First w ↦ ap joined w.in-First.is | goal.more_terms-in-Second w ↦ ap joined w.in-Second.is ])).2
     c.then_emit.ensures c.term.ensures.within in
     let d = within_done _ _ _ _ _ _ _ _ w c.in-Done.is in (
-      omega (arith, c.requires_measure, d.0, d.1),
+      omega (arith, c.decreases, d.0, d.1),
       (
         ready_next _ _ _ _ _ c.requires.ready _ _ _ _ _ _ (omega arith) w c.in-Done.is
             (c.then_emit.auto.code ∙ c.term.auto.code),
@@ -306,25 +269,21 @@ more_terms-more_terms-requires t c =
 
 pub more_terms-shape_of-code-in-Done : goal.more_terms-shape_of-code-in-Done
 more_terms-shape_of-code-in-Done t c =
-    let c.before.before.before.before.before.before.before.before.before = c.before.before.before.before.before.before.before.before.before in
     c.more_terms.auto.code ∙ c.then_emit.auto.code ∙ c.term.auto.code
 
 pub more_terms-returns-in-Done : goal.more_terms-returns-in-Done
 more_terms-returns-in-Done t c =
-    let c.before.before.before.before.before = c.before.before.before.before.before in
-    terms_some _ _ _ _ _ _ _ _ _ c.join-j.ensures (signed c.match-sign.branch (λ w. w.1.given.1) (λ w. w.1.given.1)) _ _ _ _ _ _ _
+    terms_some _ _ _ _ _ _ _ _ _ c.join-j.ensures (elim c.match-sign.branch [ goal.more_terms-in-First w ↦ ap joined w.in-First.is | goal.more_terms-in-Second w ↦ ap joined w.in-Second.is ]) _ _ _ _ _ _ _
     c.term_operation.ensures c.then_emit.ensures c.term.ensures
     (goes_on _ _ _ _ _ _ _ _ _ _ _ _ c.in-Done.is c.more_terms.ensures)
 
 pub more_terms-shape_of-code-in-Broken : goal.more_terms-shape_of-code-in-Broken
 more_terms-shape_of-code-in-Broken t c =
-    let c.before.before.before.before = c.before.before.before.before in
     c.then_emit.auto.code ∙ c.term.auto.code
 
 pub more_terms-returns-in-Broken : goal.more_terms-returns-in-Broken
 more_terms-returns-in-Broken t c =
-    let c.before.before.before.before = c.before.before.before.before in
-    terms_some _ _ _ _ _ _ _ _ _ c.join-j.ensures (signed c.match-sign.branch (λ w. w.1.given.1) (λ w. w.1.given.1)) _ _ _ _ _ _ _
+    terms_some _ _ _ _ _ _ _ _ _ c.join-j.ensures (elim c.match-sign.branch [ goal.more_terms-in-First w ↦ ap joined w.in-First.is | goal.more_terms-in-Second w ↦ ap joined w.in-Second.is ]) _ _ _ _ _ _ _
     c.term_operation.ensures c.then_emit.ensures c.term.ensures (goes_not _ _ _ _ _ _ _ _ c.in-Broken.is)
 
 pub pair-overflow_add-inner : goal.pair-overflow_add-inner
@@ -335,18 +294,17 @@ pair-opened-requires t c = tt
 
 pub pair-expression-a-requires : goal.pair-expression-a-requires
 pair-expression-a-requires t c =
-    (omega (arith, c.requires_measure), c.requires)
+    (omega (arith, c.decreases), (c.requires.ready, c.requires.line_bound))
 
 pub pair-expect-requires : goal.pair-expect-requires
 pair-expect-requires t c = (within_inside _ _ _ _ _ c.expression-a.ensures.within, refl)
 
 pub pair-expression-b-requires : goal.pair-expression-b-requires
 pair-expression-b-requires t c =
-    let c.before.before.before.before = c.before.before.before.before in
     let w = within_from _ _ _ _ c.args.at c.args.place (suc c.args.at) _ (omega arith) (omega arith)
     (within_sealed _ _ _ c.expect.ensures c.expression-a.ensures.within) in
     let d = within_done _ _ _ _ _ _ _ _ w c.in-Done.is in (
-      omega (arith, c.requires_measure, d.0, d.1),
+      omega (arith, c.decreases, d.0, d.1),
       (
         ready_next _ _ _ _ _ c.requires.ready _ _ _ _ _ _ (omega arith) w c.in-Done.is
             c.expression-a.auto.code,
@@ -359,12 +317,10 @@ pair-expect-requires-in-Done t c = (within_inside _ _ _ _ _ c.expression-b.ensur
 
 pub pair-call_operation-requires : goal.pair-call_operation-requires
 pair-call_operation-requires t c =
-    let c.before.before.before.before.before.before.before.before.before.before.before.before.before.before.before.before.before = c.before.before.before.before.before.before.before.before.before.before.before.before.before.before.before.before.before in
-    c.pre.1.1
+    c.requires.line_bound
 
 pub pair-then_emit-requires : goal.pair-then_emit-requires
 pair-then_emit-requires t c =
-    let c.before.before.before.before.before = c.before.before.before.before.before in
     let a = c.args in
     let d = within_done _ _ _ _ _ _ _ _ (within_sealed _ _ _ c.expect.ensures c.expression-a.ensures.within) c.in-Done.is in
     let w = within_from _ _ _ _ (a.at + 1) a.place 0 _ (omega arith) (omega (arith, d.2))
@@ -374,24 +330,20 @@ pair-then_emit-requires t c =
 
 pub pair-shape_of-code-in-Done : goal.pair-shape_of-code-in-Done
 pair-shape_of-code-in-Done t c =
-    let c.before.before.before.before.before.before.before.before = c.before.before.before.before.before.before.before.before in
     c.then_emit.auto.code ∙ c.expression-b.auto.code ∙ c.expression-a.auto.code
 
 pub pair-returns-in-Done : goal.pair-returns-in-Done
 pair-returns-in-Done t c =
-    let c.before.before.before = c.before.before.before in
     call_answers _ _ _ _ _ _ _ _ _ _ _ _ _ _ _ _ _ c.call_operation.ensures (add-one _) c.opened.ensures c.expression-a.ensures
     c.expect.ensures
     (ends_on _ _ _ _ _ _ _ _ _ _ _ _ _ _ _ c.in-Done.is c.expression-b.ensures c.expect-in-Done.ensures c.then_emit.ensures)
 
 pub pair-shape_of-code-in-Broken : goal.pair-shape_of-code-in-Broken
 pair-shape_of-code-in-Broken t c =
-    let c.before.before.before.before.before = c.before.before.before.before.before in
     c.expression-a.auto.code
 
 pub pair-returns-in-Broken : goal.pair-returns-in-Broken
 pair-returns-in-Broken t c =
-    let c.before.before.before.before.before = c.before.before.before.before.before in
     call_answers c.args.function _ _ _ _ _ _ _ _ _ _ _ _ _ _ _ _ refl (add-one _) c.opened.ensures c.expression-a.ensures
     c.expect.ensures (ends_not _ _ _ _ _ _ _ _ c.in-Broken.is)
 
@@ -403,7 +355,7 @@ subscripts-opened-requires t c = tt
 
 pub subscripts-expression-requires : goal.subscripts-expression-requires
 subscripts-expression-requires t c =
-    (omega (arith, c.requires_measure), (c.requires.ready, c.requires.line_bound.0))
+    (omega (arith, c.decreases), (c.requires.ready, c.requires.line_bound.0))
 
 pub subscripts-join-j-requires : goal.subscripts-join-j-requires
 subscripts-join-j-requires t c =
@@ -422,7 +374,7 @@ subscripts-expression-g-requires t c =
     let w = c.expression.ensures.within in
     let d = within_done _ _ _ _ _ _ _ _ w c.in-Done.is in
     let p = (first_stands _ _ _ _ _ c.join-j.ensures c.in-First.is).1 in (
-      omega (arith, c.requires_measure, d.0, d.1, p.from, p.within),
+      omega (arith, c.decreases, d.0, d.1, p.from, p.within),
       (
         ready_past _ _ _ _ _ c.requires.ready _ _ _ _ _ _ _ (omega arith) w c.in-Done.is (omega (arith, p.from)) p.within
             c.expression.auto.code,
@@ -489,14 +441,13 @@ subscripts-returns-in-Broken t c =
 
 pub term-factor-requires : goal.term-factor-requires
 term-factor-requires t c =
-    (omega (arith, c.requires_measure), c.requires)
+    (omega (arith, c.decreases), (c.requires.ready, c.requires.line_bound))
 
 pub term-more_factors-requires : goal.term-more_factors-requires
 term-more_factors-requires t c =
-    let c.before.before.before.before.before.before = c.before.before.before.before.before.before in
     let w = c.factor.ensures.within in
     let d = within_done _ _ _ _ _ _ _ _ w c.in-Done.is in (
-      omega (arith, c.requires_measure, d.0, d.1),
+      omega (arith, c.decreases, d.0, d.1),
       (
         ready_next _ _ _ _ _ c.requires.ready _ _ _ _ _ _ (omega arith) w c.in-Done.is
             c.factor.auto.code,
@@ -506,12 +457,10 @@ term-more_factors-requires t c =
 
 pub term-shape_of-code-in-Done : goal.term-shape_of-code-in-Done
 term-shape_of-code-in-Done t c =
-    let c.before.before.before.before.before.before.before.before.before = c.before.before.before.before.before.before.before.before.before in
     c.more_factors.auto.code ∙ c.factor.auto.code
 
 pub term-returns-in-Done : goal.term-returns-in-Done
 term-returns-in-Done t c =
-    let c.before.before.before.before.before = c.before.before.before.before.before in
     term_answers _ _ _ _ _ _ _ _ _ _ _ _ c.factor.ensures
     (goes_on _ _ _ _ _ _ _ _ _ _ _ _ c.in-Done.is c.more_factors.ensures)
 
@@ -521,5 +470,4 @@ term-shape_of-code-in-Broken t c =
 
 pub term-returns-in-Broken : goal.term-returns-in-Broken
 term-returns-in-Broken t c =
-    let c.before.before.before.before = c.before.before.before.before in
     term_answers _ _ _ _ _ _ _ _ _ _ _ _ c.factor.ensures (goes_not _ _ _ _ _ _ _ _ c.in-Broken.is)

@@ -18,6 +18,10 @@ use Rattle.expressions.proofs.Sums.{goes_on, goes_not, lead_long, lead_within, s
 use Rattle.expressions.proofs.Factors.{passed, factor_literal, factor_name, factor_bracket, factor_call, factor_element, factor_none, ends_on, ends_not, call_answers, subscripts_unread, subscripts_unclosed, subscripts_one, subscripts_two}
 use Rattle.expressions.proofs.+expression_factor_more_factors_more_terms_pair_subscripts_term.Given as goal
 
+-- a call at the same place has a lower level; one further on has a byte less, and where the level rises by two a bracket has opened
+abbrev pub left : List ℕ → ℕ → ℕ → ℕ
+left s at depth = 2 * (length s - at) + (length s - depth)
+
 abbrev pub decreases-expression : goal.decreases-expression
 decreases-expression l = left l.s.now l.at l.depth + 2
 

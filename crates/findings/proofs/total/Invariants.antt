@@ -12,7 +12,7 @@ use Rattle.findings.specs.Findings.{gathered}
 use Rattle.findings.proofs.total.Given as goal
 
 abbrev pub invariant-loop-q : goal.invariant-loop-q
-invariant-loop-q l = (l.q ≤ l.processors) × (to_z w32 l.x ≡ gathered (operation l.operator) l.w l.row l.q)
+invariant-loop-q l = (l.q ≤ l.processors) × (l.x ≡ gathered (operation l.operator) l.w l.row l.q)
 
 abbrev pub decreases-loop-q : goal.decreases-loop-q
 decreases-loop-q l = l.processors - l.q

@@ -13,7 +13,7 @@ use Rattle.forming.proofs.put_form.Goals as goal
 pub returns-then-bytes-size : goal.returns-then-bytes-size
 returns-then-bytes-size c =
     let b = c.args.bytes.now in
-    let e = none_lent c.put_lines-size.new.0 b c.put_lines-size.auto.out in
+    let e = none_lent c.put_lines-size.new.out b c.put_lines-size.auto.out in
     let q = form_refused (lines_form c.args.s.now) b (omega (arith, c.if-bytes-size.true, c.put_lines-size.ensures.place, ap length e)) in record {
       value = q.0;
       bytes_after = e ∙ q.1;
@@ -22,8 +22,8 @@ returns-then-bytes-size c =
 pub returns : goal.returns
 returns c =
     let b = c.args.bytes.now in
-    let e = none_lent c.put_lines-size.new.0 b c.put_lines-size.auto.out in
+    let e = none_lent c.put_lines-size.new.out b c.put_lines-size.auto.out in
     let f = lines_form c.args.s.now in
     let both = form_given f b (omega (arith, c.if-bytes-size.false, c.put_lines-size.ensures.place, ap length e))
-    (subst (λ (x : List ℕ). Writes x 0 f c.put_lines-end.new.0 c.put_lines-end.result) e c.put_lines-end.ensures) in
+    (subst (λ (x : List ℕ). Writes x 0 f c.put_lines-end.new.out c.put_lines-end.result) e c.put_lines-end.ensures) in
     record { value = both.0; bytes_after = both.1 }

@@ -128,6 +128,6 @@ unfolding perform
 returns-in_default c =
     let a = c.args in
     let p = c.requires in
-    let k : 19 ≤ a.word % 32 = past_all 19 (a.word % 32) c.in_default.rest in
+    let k : 19 ≤ a.word % 32 = past_all 19 (a.word % 32) c.in_default.in_default-own.rest in
     performs_as a.place a.depth a.pending.now _ a.v (decode_last a.word a.arg k)
     (ends (does Instr.end a.place a.depth a.pending.now a.v) _ _ _ p.0.size p.0.most c.stop.ensures (λ go. refl))

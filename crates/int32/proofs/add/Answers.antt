@@ -6,5 +6,5 @@ pub returns : goal.returns
 returns c =
     landed (c.of_word.ensures
     ∙ sum_words c.args.x c.args.y (c.to_word.ensures ∙ seen c.ranges.x) (c.to_word-2.ensures ∙ seen c.ranges.y)
-    c.wrapping_add_u32.ensures)
+    c.wrapping_add_u32.ensures.value)
     (sum_fits c.args.x c.args.y)

@@ -16,7 +16,11 @@ returns-then-y-eqminus1 c = divided_end quotient quotient_end c.ranges.x c.range
 
 -- what the two tests leave
 apart : (c : goal.Joined-x-eqminus2147483648) → End c.args.x c.args.y → ⊥
-apart c e = ⊎_elim (λ w. w.1.left (ap (of_z w32) e.1)) (λ w. w.left (ap (of_z w32) e.0)) c.if-x-eqminus2147483648.branch
+apart c e =
+    elim c.if-x-eqminus2147483648.branch [
+      goal.then-x-eqminus2147483648+else-y-eqminus1 w ↦ w.if-y-eqminus1.false (ap (of_z w32) e.1)
+      | goal.else-x-eqminus2147483648 w ↦ w.if-x-eqminus2147483648.false (ap (of_z w32) e.0)
+    ]
 
 fits : (c : goal.Joined-x-eqminus2147483648) → SFits w32 (truncated c.args.x c.args.y)
 fits c = truncated_fits c.args.x c.args.y c.ranges.x (apart c)

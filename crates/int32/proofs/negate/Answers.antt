@@ -8,6 +8,6 @@ unfolding word
 returns c =
     landed (c.of_word.ensures
     ∙ difference_words (pos 0) c.args.x refl (c.to_word.ensures ∙ seen c.ranges.x) c.wrapping_sub_u32.type_inv
-    c.wrapping_sub_u32.ensures
+    c.wrapping_sub_u32.ensures.value
     ∙ difference_zero c.args.x)
     (negation_fits c.args.x)

@@ -63,17 +63,17 @@ module _ {u v : ℤ} {a b : ℕ} (p : Size u a) (q : Size v b) where
 
 -- ---- the dividend
 
-above : (c : goal.Then-x-ge0) → c.args.x ≡ pos (mag c.args.x)
+above : (c : goal.Then-y-ge0) → c.args.x ≡ pos (mag c.args.x)
 above c = test_pos c.args.x c.ranges.x c.if-x-ge0.true
 
-below : (c : goal.Else-x-ge0) → c.args.x ≡ negsuc (mag c.args.x)
+above' : (c : goal.Else-y-ge0) → c.args.x ≡ pos (mag c.args.x)
+above' c = test_pos c.args.x c.ranges.x c.if-x-ge0.true
+
+below : (c : goal.Then-y-ge0-2) → c.args.x ≡ negsuc (mag c.args.x)
 below c = test_neg c.args.x c.ranges.x c.if-x-ge0.false
 
-size_above : (c : goal.Then-x-ge0) → Size (read c.args.x) (mag c.args.x)
-size_above c = plain c.requires.0 (above c)
-
-size_below : (c : goal.Else-x-ge0) → Size (read (pos 0 -ℤ read c.args.x)) (suc (mag c.args.x))
-size_below c = negated c.requires.0 (below c)
+below' : (c : goal.Else-y-ge0-2) → c.args.x ≡ negsuc (mag c.args.x)
+below' c = test_neg c.args.x c.ranges.x c.if-x-ge0.false
 
 -- ---- neither is negative
 
@@ -81,10 +81,10 @@ y-1 : (c : goal.Then-y-ge0) → c.args.y ≡ pos (mag c.args.y)
 y-1 c = test_pos c.args.y c.ranges.y c.if-y-ge0.true
 
 pub returns-then-y-ge0 : goal.returns-then-y-ge0
-returns-then-y-ge0 c = quotient-back (size_above c.before) (plain c.requires.1 (y-1 c)) ∙ sym (λ i. truncated (above c.before i) (y-1 c i))
+returns-then-y-ge0 c = quotient-back (plain c.requires.0 (above c)) (plain c.requires.1 (y-1 c)) ∙ sym (λ i. truncated (above c i) (y-1 c i))
 
 pub nonzero_div-result : goal.nonzero_div-result
-nonzero_div-result c = (plain-bits c.requires.1 (y-1 c) c.requires.2, quotient_fits (size_above c.before) (plain c.requires.1 (y-1 c)))
+nonzero_div-result c = (plain-bits c.requires.1 (y-1 c) c.requires.2, quotient_fits (plain c.requires.0 (above c)) (plain c.requires.1 (y-1 c)))
 
 -- ---- the divisor alone is negative
 
@@ -92,16 +92,16 @@ y-2 : (c : goal.Else-y-ge0) → c.args.y ≡ negsuc (mag c.args.y)
 y-2 c = test_neg c.args.y c.ranges.y c.if-y-ge0.false
 
 pub returns-else-y-ge0 : goal.returns-else-y-ge0
-returns-else-y-ge0 c = negative_back (size_above c.before) (negated c.requires.1 (y-2 c)) ∙ sym (λ i. truncated (above c.before i) (y-2 c i))
+returns-else-y-ge0 c = negative_back (plain c.requires.0 (above' c)) (negated c.requires.1 (y-2 c)) ∙ sym (λ i. truncated (above' c i) (y-2 c i))
 
 pub overflow_sub-result : goal.overflow_sub-result
 overflow_sub-result c = minus-fits c.requires.1 (y-2 c)
 
 pub nonzero_div-result-else-y-ge0 : goal.nonzero_div-result-else-y-ge0
-nonzero_div-result-else-y-ge0 c = (negated-bits c.requires.1 (y-2 c), quotient_fits (size_above c.before) (negated c.requires.1 (y-2 c)))
+nonzero_div-result-else-y-ge0 c = (negated-bits c.requires.1 (y-2 c), quotient_fits (plain c.requires.0 (above' c)) (negated c.requires.1 (y-2 c)))
 
 pub overflow_sub-result-else-y-ge0 : goal.overflow_sub-result-else-y-ge0
-overflow_sub-result-else-y-ge0 c = negative_fits (size_above c.before) (negated c.requires.1 (y-2 c))
+overflow_sub-result-else-y-ge0 c = negative_fits (plain c.requires.0 (above' c)) (negated c.requires.1 (y-2 c))
 
 -- ---- the dividend alone is negative
 
@@ -109,16 +109,16 @@ y-3 : (c : goal.Then-y-ge0-2) → c.args.y ≡ pos (mag c.args.y)
 y-3 c = test_pos c.args.y c.ranges.y c.if-y-ge0-2.true
 
 pub returns-then-y-ge0-2 : goal.returns-then-y-ge0-2
-returns-then-y-ge0-2 c = negative_back (size_below c.before) (plain c.requires.1 (y-3 c)) ∙ sym (λ i. truncated (below c.before i) (y-3 c i))
+returns-then-y-ge0-2 c = negative_back (negated c.requires.0 (below c)) (plain c.requires.1 (y-3 c)) ∙ sym (λ i. truncated (below c i) (y-3 c i))
 
 pub overflow_sub-result-then-y-ge0-2 : goal.overflow_sub-result-then-y-ge0-2
-overflow_sub-result-then-y-ge0-2 c = minus-fits c.requires.0 (below c.before)
+overflow_sub-result-then-y-ge0-2 c = minus-fits c.requires.0 (below c)
 
 pub nonzero_div-result-then-y-ge0-2 : goal.nonzero_div-result-then-y-ge0-2
-nonzero_div-result-then-y-ge0-2 c = (plain-bits c.requires.1 (y-3 c) c.requires.2, quotient_fits (size_below c.before) (plain c.requires.1 (y-3 c)))
+nonzero_div-result-then-y-ge0-2 c = (plain-bits c.requires.1 (y-3 c) c.requires.2, quotient_fits (negated c.requires.0 (below c)) (plain c.requires.1 (y-3 c)))
 
 pub overflow_sub-result-then-y-ge0-2-2 : goal.overflow_sub-result-then-y-ge0-2-2
-overflow_sub-result-then-y-ge0-2-2 c = negative_fits (size_below c.before) (plain c.requires.1 (y-3 c))
+overflow_sub-result-then-y-ge0-2-2 c = negative_fits (negated c.requires.0 (below c)) (plain c.requires.1 (y-3 c))
 
 -- ---- both are negative
 
@@ -126,13 +126,13 @@ y-4 : (c : goal.Else-y-ge0-2) → c.args.y ≡ negsuc (mag c.args.y)
 y-4 c = test_neg c.args.y c.ranges.y c.if-y-ge0-2.false
 
 pub returns-else-y-ge0-2 : goal.returns-else-y-ge0-2
-returns-else-y-ge0-2 c = quotient-back (size_below c.before) (negated c.requires.1 (y-4 c)) ∙ sym (λ i. truncated (below c.before i) (y-4 c i))
+returns-else-y-ge0-2 c = quotient-back (negated c.requires.0 (below' c)) (negated c.requires.1 (y-4 c)) ∙ sym (λ i. truncated (below' c i) (y-4 c i))
 
 pub overflow_sub-result-else-y-ge0-2 : goal.overflow_sub-result-else-y-ge0-2
-overflow_sub-result-else-y-ge0-2 c = minus-fits c.requires.0 (below c.before)
+overflow_sub-result-else-y-ge0-2 c = minus-fits c.requires.0 (below' c)
 
 pub overflow_sub-result-else-y-ge0-2-2 : goal.overflow_sub-result-else-y-ge0-2-2
 overflow_sub-result-else-y-ge0-2-2 c = minus-fits c.requires.1 (y-4 c)
 
 pub nonzero_div-result-else-y-ge0-2 : goal.nonzero_div-result-else-y-ge0-2
-nonzero_div-result-else-y-ge0-2 c = (negated-bits c.requires.1 (y-4 c), quotient_fits (size_below c.before) (negated c.requires.1 (y-4 c)))
+nonzero_div-result-else-y-ge0-2 c = (negated-bits c.requires.1 (y-4 c), quotient_fits (negated c.requires.0 (below' c)) (negated c.requires.1 (y-4 c)))

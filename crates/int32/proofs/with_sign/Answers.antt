@@ -13,5 +13,5 @@ negated r m h k e = omega arith
 pub returns-else-x-ge0 : goal.returns-else-x-ge0
 unfolding sign_word
 returns-else-x-ge0 c =
-    negated c.wrapping_sub_u32.result c.args.m c.wrapping_sub_u32.type_inv c.ranges.m.fits c.wrapping_sub_u32.ensures
+    negated c.wrapping_sub_u32.result c.args.m c.wrapping_sub_u32.type_inv c.ranges.m.fits c.wrapping_sub_u32.ensures.value
     ∙ ap (λ (z : ℤ). sign_word z c.args.m) (sym (test_neg c.args.x c.ranges.x c.if-x-ge0.false))

@@ -7,12 +7,12 @@ use Rattle.lines.proofs.directive_line.Goals as goal
 pub returns-then-stands_rightly : goal.returns-then-stands_rightly
 returns-then-stands_rightly c =
     let d = c.directive-r in
-    λ k I C O. direct_line k _ _ _ _ _ _ c.pass-a.ensures c.pass-b.ensures c.pass-c.ensures d.result d.ensures.0 d.ensures.1 _ _
+    λ k I C O. direct_line k _ _ _ _ _ _ c.pass-a.ensures c.pass-b.ensures c.pass-c.ensures d.result d.ensures.directive d.ensures.keeps _ _
     c.grouping_of-grouping.ensures (sym c.stands_rightly.ensures ∙ c.if-stands_rightly.true) c.number_of.ensures _
     c.before_do.ensures
 
 pub returns : goal.returns
 returns c =
     let d = c.directive-r in
-    λ k I C O. direct_broken k _ _ _ _ _ _ c.pass-a.ensures c.pass-b.ensures c.pass-c.ensures d.result d.ensures.0 d.ensures.1 2 _
+    λ k I C O. direct_broken k _ _ _ _ _ _ c.pass-a.ensures c.pass-b.ensures c.pass-c.ensures d.result d.ensures.directive d.ensures.keeps 2 _
     c.grouping_of-grouping.ensures (sym c.stands_rightly.ensures ∙ c.if-stands_rightly.false) refl _ c.before_do-2.ensures

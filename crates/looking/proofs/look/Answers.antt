@@ -11,9 +11,9 @@ use Rattle.looking.proofs.look.Goals as goal
 
 pub returns-then-r-ne0 : goal.returns-then-r-ne0
 returns-then-r-ne0 c =
-    let both = look_refused c.args.text.now c.prepare-r.result c.prepare-r.new.1.0 c.prepare-r.new.1.1.0 c.args.cells.now
+    let both = look_refused c.args.text.now c.prepare-r.result c.prepare-r.new.code c.prepare-r.new.classes c.args.cells.now
     c.args.workspace.now c.args.schedule.now c.args.view.now (ready_bad _ _ _ _ _ c.prepare-r.ensures c.if-r-ne0.true) in
-    record { value = both.0; view_after = both.1; workspace_after = both.2 }
+    record { value = both.0; view_after = both.1.0; workspace_after = both.1.1 }
 
 pub unfit-number-requires : goal.unfit-number-requires
 unfit-number-requires c =
@@ -23,13 +23,13 @@ pub returns-then-number-ne0 : goal.returns-then-number-ne0
 returns-then-number-ne0 c =
     let both = look_unfit _ _ _ _ c.args.cells.now c.args.workspace.now c.args.schedule.now c.args.view.now
     (ready_fine _ _ _ _ _ c.prepare-r.ensures c.if-r-ne0.false) _ c.unfit-number.ensures c.if-number-ne0.true in
-    record { value = both.0; view_after = both.1; workspace_after = both.2 }
+    record { value = both.0; view_after = both.1.0; workspace_after = both.1.1 }
 
 pub returns-then-view-r : goal.returns-then-view-r
 returns-then-view-r c =
     let both = look_view _ _ _ _ c.args.cells.now c.args.workspace.now c.args.schedule.now c.args.view.now
     (ready_fine _ _ _ _ _ c.prepare-r.ensures c.if-r-ne0.false) _ c.unfit-number.ensures c.if-number-ne0.false c.if-view-r.true in
-    record { value = both.0; view_after = both.1; workspace_after = both.2 }
+    record { value = both.0; view_after = both.1.0; workspace_after = both.1.1 }
 
 pub slice_bounds-show_copied-end : goal.slice_bounds-show_copied-end
 slice_bounds-show_copied-end c =
@@ -58,4 +58,4 @@ returns c =
     let both = look_done _ _ _ _ c.args.cells.now c.args.workspace.now c.args.schedule.now c.args.view.now
     (ready_fine _ _ _ _ _ c.prepare-r.ensures c.if-r-ne0.false) _ c.unfit-number.ensures c.if-number-ne0.false c.if-view-r.false _ _
     c.show_copied.ensures.shows_after c.show_copied.ensures.w_after in
-    record { value = both.0; view_after = both.1; workspace_after = both.2 }
+    record { value = both.0; view_after = both.1.0; workspace_after = both.1.1 }

@@ -17,7 +17,7 @@ invariant-loop-at l =
     (length l.pending ≡ 32)
     × (l.d ≤ 32)
     × (l.place ≤ l.at)
-    × (from l.code (to_z w32 l.v) l.place (pendings l.initial.pending l.depth) ≡ from l.code (to_z w32 l.v) l.at (pendings l.pending l.d))
+    × (from l.code l.v l.place (pendings l.initial.pending l.depth) ≡ from l.code l.v l.at (pendings l.pending l.d))
 
 abbrev pub decreases-loop-at : goal.decreases-loop-at
 decreases-loop-at l = l.count - l.at

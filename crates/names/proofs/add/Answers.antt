@@ -10,5 +10,5 @@ returns-then-n-ge-MOST c = full _ _ _ _ (omega arith)
 pub returns : goal.returns
 returns c =
     let a = c.args in
-    added a.table.now a.w.now c.count-n.result a.first a.shape c.put_name.new.0
+    added a.table.now a.w.now c.count-n.result a.first a.shape c.put_name.new.table
     c.put_name.ensures c.count-n.ensures (omega arith) (omega arith)

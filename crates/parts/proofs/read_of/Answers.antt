@@ -27,7 +27,7 @@ returns-then-is_named c =
     let a = c.args in
     λ t d.
     let e = reads_by t (variable_of a.table.now) a.line a.w.now (sym c.is_named.ensures ∙ c.if-is_named.true) ∙ ap
-    (reads_of t _ a.line _) (sym c.in-Cell.is) in
+    (reads_of t (variable_of a.table.now) a.line a.w.now) (sym c.in-Cell.is) in
     (ap operation e, ap argument e)
 
 pub returns : goal.returns
@@ -35,5 +35,5 @@ returns c =
     let a = c.args in
     λ t d.
     let e = reads_by t (variable_of a.table.now) a.line a.w.now (sym c.is_named.ensures ∙ c.if-is_named.false) ∙ ap
-    (reads_of t _ a.line _) (sym c.in-Cell.is) in
+    (reads_of t (variable_of a.table.now) a.line a.w.now) (sym c.in-Cell.is) in
     (ap operation e, (c.find-n.ensures.1 t d).first ∙ ap argument e)

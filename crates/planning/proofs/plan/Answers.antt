@@ -13,7 +13,7 @@ pub returns-then-r-ne0 : goal.returns-then-r-ne0
 returns-then-r-ne0 c =
     let a = c.args in
     let both = plan_refused a.text.now a.cells.now a.workspace.now a.list.now _ _ (ready_bad _ _ _ _ _ c.prepare-r.ensures c.if-r-ne0.true) in
-    record { value = both.0; list_after = both.1; workspace_after = both.2 }
+    record { value = both.0; list_after = both.1.0; workspace_after = both.1.1 }
 
 pub unfit-number-requires : goal.unfit-number-requires
 unfit-number-requires c =
@@ -24,7 +24,7 @@ returns-then-number-ne0 c =
     let a = c.args in
     let both = plan_unfit _ a.cells.now a.workspace.now a.list.now _ _ _ (ready_fine _ _ _ _ _ c.prepare-r.ensures c.if-r-ne0.false) _
     c.unfit-number.ensures c.if-number-ne0.true in
-    record { value = both.0; list_after = both.1; workspace_after = both.2 }
+    record { value = both.0; list_after = both.1.0; workspace_after = both.1.1 }
 
 pub returns-then-list-setting : goal.returns-then-list-setting
 returns-then-list-setting c =
@@ -32,7 +32,7 @@ returns-then-list-setting c =
     let a = c.args in
     let both = plan_list _ a.cells.now a.workspace.now a.list.now _ _ _ (ready_fine _ _ _ _ _ c.prepare-r.ensures c.if-r-ne0.false) _ c.unfit-number.ensures
     c.if-number-ne0.false (λ (z : length a.list.now ≡ r.setting.iterations). omega (arith, c.if-list-setting.true, z)) in
-    record { value = both.0; list_after = both.1; workspace_after = both.2 }
+    record { value = both.0; list_after = both.1.0; workspace_after = both.1.1 }
 
 pub slice_bounds-stages_of-end : goal.slice_bounds-stages_of-end
 slice_bounds-stages_of-end c =
@@ -58,4 +58,4 @@ returns c =
     let both = plan_done _ a.cells.now a.workspace.now a.list.now _ _ _ (ready_fine _ _ _ _ _ c.prepare-r.ensures c.if-r-ne0.false) _ c.unfit-number.ensures
     c.if-number-ne0.false (let z : length a.list.now ≡ r.setting.iterations = omega (arith, c.if-list-setting.false) in z) _ _ _ c.stages_of.ensures.plans
     c.stages_of.ensures.w_after in
-    record { value = both.0; list_after = both.1; workspace_after = both.2 }
+    record { value = both.0; list_after = both.1.0; workspace_after = both.1.1 }

@@ -8,14 +8,12 @@ use Rattle.planning.proofs.run_copied.Goals as goal
 
 pub run-t-requires : goal.run-t-requires
 run-t-requires c =
-    let c.before.before.before = c.before.before.before in
     let a = c.args in
-    can_run c.copy_front.new.0 a.cells.now c.copy_front.ensures a.code.now a.setting a.classes.now _ c.requires.0
+    can_run c.copy_front.new.own a.cells.now c.copy_front.ensures a.code.now a.setting a.classes.now _ c.requires.0
 
 pub returns : goal.returns
 returns c =
-    let c.before.before.before.before.before.before.before = c.before.before.before.before.before.before.before in
     let a = c.args in record {
-      ends = ends_front c.copy_front.new.0 a.cells.now c.copy_front.ensures a.code.now a.setting a.classes.now _ _ _ _ c.run-t.ensures;
+      ends = ends_front c.copy_front.new.own a.cells.now c.copy_front.ensures a.code.now a.setting a.classes.now _ _ _ _ c.run-t.ensures;
       w_after = c.clear.ensures ∙ ap (λ (n : ℕ). replicate {A = ℕ} n 0) c.run-t.auto.w;
     }

@@ -17,7 +17,7 @@ returns-then-is_next c =
     λ h g st rp sane.
     let fo = (λ i. may_follow (sym rp.stage i) (sym c.stage_of-stage.ensures.0 i)) ∙ sym c.is_next.ensures ∙ c.if-is_next.true in
     judged_line _ _ _ st _ h g _ c.kind_of-k.ensures fo
-    (ends_right c.args.last _ _ c.stage_of-stage.ensures.0 (elim c.if-last.branch [ inl x ↦ inr x.1.left | inr y ↦ inl y.left ]))
+    (ends_right c.args.last _ _ c.stage_of-stage.ensures.0 (elim c.if-last.branch [ goal.then-last+else-stage-lt6 x ↦ inr x.if-stage-lt6.false | goal.else-last y ↦ inl y.if-last.false ]))
     (c.line_by.ensures st rp sane fo _ (omega arith))
 
 pub returns : goal.returns

@@ -10,7 +10,7 @@ use Rattle.running.proofs.run.Goals as goal
 pub returns-then-t-ne0 : goal.returns-then-t-ne0
 returns-then-t-ne0 c =
     let both = run_refused c.args.text.now c.args.cells.now c.args.workspace.now c.args.schedule.now _ _ _ c.trial-t.ensures c.if-t-ne0.true in
-    record { value = both.0; cells_after = both.1; workspace_after = both.2 }
+    record { value = both.0; cells_after = both.1.0; workspace_after = both.1.1 }
 
 pub restore-requires : goal.restore-requires
 restore-requires c =
@@ -32,7 +32,7 @@ returns-then-is_rejected c =
     c.if-t-ne0.false)
     _ c.restore.ensures c.trial-t.auto.workspace _ _ _ c.run_serially-s.ensures.serial_of (sym c.is_rejected.ensures ∙ c.if-is_rejected.true)
     c.run_serially-s.auto.workspace _ _ _ c.conclude.ensures in
-    record { value = both.0; cells_after = both.1; workspace_after = both.2 }
+    record { value = both.0; cells_after = both.1.0; workspace_after = both.1.1 }
 
 pub merge-requires : goal.merge-requires
 merge-requires c =
@@ -67,4 +67,4 @@ returns c =
     c.if-t-ne0.false)
     (sym c.is_rejected.ensures ∙ c.if-is_rejected.false) _ _ _ _ c.merge.ensures c.pair_count-pairs.ensures c.cell_count-written.ensures
     (c.clear.ensures ∙ ap (λ (n : ℕ). replicate n 0) c.trial-t.auto.workspace) in
-    record { value = both.0; cells_after = both.1; workspace_after = both.2 }
+    record { value = both.0; cells_after = both.1.0; workspace_after = both.1.1 }

@@ -1,6 +1,6 @@
 -- `staging::note_change` meets its contract.
 use native.Mathlib.Omega.{arith}
-use Rattle.reorder.specs.StageTable.{rules as needed, marked}
+use Rattle.reorder.specs.StageTable.{needs, marked}
 use Rattle.staging.specs.Rows.{noted_in, over_in}
 use borrow.Author.Rules.{rules}
 use Rattle.staging.proofs.note_change.Goals as goal
@@ -11,9 +11,8 @@ open-row-requires c =
     (rw c.row_of-found.ensures p.known, omega (arith, p.early))
 
 pub returns : goal.returns
-unfolding noted_in over_in needed marked
+unfolding noted_in over_in needs marked
 returns c =
-    let c.before.before.before = c.before.before.before in
     record {
       words = rw (c.open-row.ensures, c.row_of-found.ensures) at c.set_row.ensures;
       over = rw (c.open-row.ensures, c.row_of-found.ensures) at c.higher_of.ensures;

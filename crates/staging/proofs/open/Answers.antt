@@ -11,7 +11,6 @@ returns-then-row-stamp c =
 
 pub returns : goal.returns
 returns c =
-    let c.before.before.before = c.before.before.before in
     let a = c.args in
     rw (c.higher_of-touched.ensures, c.raised-changed.ensures, c.stage_of-stage.ensures)
     (sym (opened_first _ a.i.0 a.row (λ (e : _). c.if-row-stamp.false (e ∙ sym (add-one _)))))

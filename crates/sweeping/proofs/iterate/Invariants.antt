@@ -20,8 +20,8 @@ invariant-loop-t l =
     (length l.cells ≡ length l.initial.cells)
     × (length l.w ≡ length l.initial.w)
     × (length l.rows ≡ length l.initial.rows)
-    × ((v : ℤ) (l : Loop) → Runs l.code l.role v l → l.i.0 < l.iterations → Before l l.i.0 l.initial.cells l.initial.w l.initial.rows l.list
-    → Reached l.code v l l.i.0 l.list l.rows l.over (scene l.cells l.w l.pending l.t))
+    × ((v : ℤ) (m : Loop) → Runs l.code l.role v m → l.i.0 < m.iterations → Before m l.i.0 l.initial.cells l.initial.w l.initial.rows l.list
+    → Reached l.code v m l.i.0 l.list l.rows l.over (scene l.cells l.w l.pending l.t))
 
 abbrev pub decreases-loop-t : goal.decreases-loop-t
 decreases-loop-t l = togo (length l.code / 2) l.role.end.0 l.t

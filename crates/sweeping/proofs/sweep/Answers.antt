@@ -92,9 +92,9 @@ loop-index-preserved c =
     let y = c.iterate-over in
     let small : u.index < length u.list = omega (arith, c.loop-index-test.true, u.invariant.4, p.numbers) in (
       omega (arith, c.loop-index-test.true),
-      y.auto.1.1.1.1.0 ∙ u.invariant.1,
-      y.auto.1.1.1.1.1.0 ∙ u.invariant.2,
-      y.auto.1.1.1.1.1.1.0 ∙ u.invariant.3,
+      y.auto.cells ∙ u.invariant.1,
+      y.auto.w ∙ u.invariant.2,
+      y.auto.rows ∙ u.invariant.3,
       length-set u.list u.index _ ∙ u.invariant.4,
       c.higher_of-stages.ensures ∙ rw u.invariant.5 (sym (highest_next u.list u.index _ small)),
       λ v l s e b.

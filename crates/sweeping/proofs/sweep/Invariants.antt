@@ -20,7 +20,7 @@ invariant-loop-index l =
     × (length l.rows ≡ length l.initial.rows)
     × (length l.list ≡ length l.initial.list)
     × (l.stages ≡ greatest l.index (stage_in l.list))
-    × ((v : ℤ) (l : Loop) → Runs l.code l.role v l → l.n ≡ l.iterations → Before l 0 l.initial.cells l.initial.w l.initial.rows l.initial.list → Before l l.index l.cells l.w l.rows l.list)
+    × ((v : ℤ) (m : Loop) → Runs l.code l.role v m → l.n ≡ m.iterations → Before m 0 l.initial.cells l.initial.w l.initial.rows l.initial.list → Before m l.index l.cells l.w l.rows l.list)
 
 abbrev pub decreases-loop-index : goal.decreases-loop-index
 decreases-loop-index l = l.n - l.index

@@ -31,7 +31,7 @@ only_times-requires t c =
     let w = within_done _ _ _ _ _ _ _ _ c.factor.ensures.within c.in-Done.is in
     let p = (some_sign 42 47 _ _ _ c.join-j.ensures refl (ap joined c.in-First.is)).2 in
     let r = c.requires.ready in (
-      omega (arith, c.requires_measure, w.0, p.from, p.within),
+      omega (arith, c.decreases, w.0, p.from, p.within),
       (
         record {
           inside = p.within;

@@ -20,7 +20,7 @@ pub returns-in-Done : goal.returns-in-Done
 returns-in-Done c =
     let a = c.args in
     let room : 2 * a.left.place ≤ length a.code.now = omega (arith, c.requires.ready.room) in
-    let kept = take_put (2 * a.left.place) (length a.code.now - 2 * a.left.place) a.code.now c.expression-g.new.1.1.1.1.1.1.0 room in record {
+    let kept = take_put (2 * a.left.place) (length a.code.now - 2 * a.left.place) a.code.now c.expression-g.new.code room in record {
       closed = closed_after _ _ _ _ _ _ c.expression-g.ensures c.expect.ensures _ _ _ c.in-Done.is c.ended.ensures;
       code_unchanged = kept;
     }
@@ -29,7 +29,7 @@ pub returns-in-Broken : goal.returns-in-Broken
 returns-in-Broken c =
     let a = c.args in
     let room : 2 * a.left.place ≤ length a.code.now = omega (arith, c.requires.ready.room) in
-    let kept = take_put (2 * a.left.place) (length a.code.now - 2 * a.left.place) a.code.now c.expression-g.new.1.1.1.1.1.1.0 room in record {
+    let kept = take_put (2 * a.left.place) (length a.code.now - 2 * a.left.place) a.code.now c.expression-g.new.code room in record {
       closed = closed_unread _ _ _ _ _ _ c.expression-g.ensures c.expect.ensures c.in-Broken.is;
       code_unchanged = kept;
     }

@@ -33,18 +33,18 @@ only_times-requires c =
 pub returns-then-not-only_times : goal.returns-then-not-only_times
 returns-then-not-only_times c =
     let a = c.args in
-    let room : 2 * a.left.place ≤ length c.repeats.new.1.1.1.1.1.0 = omega (arith, c.requires.ready.room, c.repeats.auto.code) in
-    let kept = take_put (2 * a.left.place) (length c.repeats.new.1.1.1.1.1.0 - 2 * a.left.place)
-    c.repeats.new.1.1.1.1.1.0 c.only_times.new.1.1.1.1.0 room ∙ c.repeats.ensures.kept in
+    let room : 2 * a.left.place ≤ length c.repeats.new.code = omega (arith, c.requires.ready.room, c.repeats.auto.code) in
+    let kept = take_put (2 * a.left.place) (length c.repeats.new.code - 2 * a.left.place)
+    c.repeats.new.code c.only_times.new.code room ∙ c.repeats.ensures.kept in
     product_untimed _ _ _ _ _ _ _ _ c.repeats.ensures kept _ _ _ c.in-Done.is c.pass-a.ensures (omega (arith, c.if-s-a.false))
     c.only_times.ensures (not-true _ c.if-not-only_times.true-raw)
 
 pub returns-else-not-only_times : goal.returns-else-not-only_times
 returns-else-not-only_times c =
     let a = c.args in
-    let room : 2 * a.left.place ≤ length c.repeats.new.1.1.1.1.1.0 = omega (arith, c.requires.ready.room, c.repeats.auto.code) in
-    let kept = take_put (2 * a.left.place) (length c.repeats.new.1.1.1.1.1.0 - 2 * a.left.place)
-    c.repeats.new.1.1.1.1.1.0 c.only_times.new.1.1.1.1.0 room ∙ c.repeats.ensures.kept in
+    let room : 2 * a.left.place ≤ length c.repeats.new.code = omega (arith, c.requires.ready.room, c.repeats.auto.code) in
+    let kept = take_put (2 * a.left.place) (length c.repeats.new.code - 2 * a.left.place)
+    c.repeats.new.code c.only_times.new.code room ∙ c.repeats.ensures.kept in
     product_found _ _ _ _ _ _ _ _ c.repeats.ensures kept _ _ _ c.in-Done.is c.pass-a.ensures (omega (arith, c.if-s-a.false))
     c.only_times.ensures (not-false _ c.if-not-only_times.false-raw)
 

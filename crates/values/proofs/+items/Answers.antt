@@ -27,7 +27,7 @@ returns-then-s-comma t c = record {
 
 pub items-requires : goal.items-requires
 items-requires t c = (
-  onward _ _ _ _ c.requires_measure
+  onward _ _ _ _ c.decreases
       c.put_item-d.ensures.goes c.pass-comma.ensures (omega arith),
   (
     c.requires.0,

@@ -14,7 +14,7 @@ use Rattle.values.proofs.fill.Given as goal
 
 abbrev pub invariant-loop-i : goal.invariant-loop-i
 invariant-loop-i l =
-    (l.from ≤ l.i) × (l.i ≤ l.end) × (l.end ≡ l.from + l.copies) × (length l.cells ≡ length l.initial.cells) × (l.cells ≡ sets l.initial.cells l.from (replicate (l.i - l.from) (to_z w32 l.x)))
+    (l.from ≤ l.i) × (l.i ≤ l.end) × (l.end ≡ l.from + l.copies) × (length l.cells ≡ length l.initial.cells) × (l.cells ≡ sets l.initial.cells l.from (replicate (l.i - l.from) l.x))
 
 abbrev pub decreases-loop-i : goal.decreases-loop-i
 decreases-loop-i l = l.end - l.i

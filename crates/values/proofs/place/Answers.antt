@@ -23,4 +23,4 @@ returns c =
     let e : to_z w32 (of_z w32 a.x) ≡ a.x = search rules in
     let f = c.fill in
     placed _ _ _ _ _ _ _ (omega arith) (omega arith)
-    (f.ensures ∙ ap (λ (x : ℤ). sets a.cells.now (a.first + a.values) (replicate a.copies x)) e) f.auto.0
+    (f.ensures ∙ ap (λ (x : ℤ). sets a.cells.now (a.first + a.values) (replicate a.copies x)) e) f.auto.cells
