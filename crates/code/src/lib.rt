@@ -2,7 +2,6 @@
 // specs/Instr.antt, `operation`.
 #![tactic(auto)]
 
-
 // The operations: the first word is an operation and LINE times the line.
 pub const PUSH: u32 = 0;
 

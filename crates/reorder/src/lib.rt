@@ -2,7 +2,6 @@
 // proofs/Theorem.antt. The one type here is what a run can keep of a cell to find the stages (specs/StageTable.antt).
 #![tactic(auto)]
 
-
 // What is kept of a cell: 1 + the iteration that touched it last (0: none), and whether that one writes or updates it; of the lower iterations, the highest stage
 // of one that writes or updates it, and of one that touches it.
 #[derive(Clone, Copy)]

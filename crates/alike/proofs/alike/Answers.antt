@@ -33,14 +33,13 @@ loop-i-smaller c =
     omega (arith, t.from, t.some (same_some _ _ _ _ c.same_token.ensures (not-false _ c.if-not-same_token.false-raw)))
 
 pub loop-i-preserved : goal.loop-i-preserved
-loop-i-preserved c =
-    (
-      c.token-t.ensures.within,
-      c.token-u.ensures.within,
-      walk_on c.args.s.now c.args.n c.args.from c.args.to c.loop-i.i
-          c.loop-i.j c.requires.0 c.requires.2 c.loop-i.invariant.2 c.token-t.ensures c.token-u.ensures (omega arith) (omega arith)
-          c.same_token.ensures (not-false _ c.if-not-same_token.false-raw),
-    )
+loop-i-preserved c = (
+  c.token-t.ensures.within,
+  c.token-u.ensures.within,
+  walk_on c.args.s.now c.args.n c.args.from c.args.to c.loop-i.i
+      c.loop-i.j c.requires.0 c.requires.2 c.loop-i.invariant.2 c.token-t.ensures c.token-u.ensures (omega arith) (omega arith)
+      c.same_token.ensures (not-false _ c.if-not-same_token.false-raw),
+)
 
 pub returns : goal.returns
 returns c =

@@ -13,18 +13,18 @@ overflow_add-result t c = omega arith
 
 pub returns-then-s-at : goal.returns-then-s-at
 returns-then-s-at t c = record {
-      clauses = clauses_lost _ _ c.args.before _ (omega arith);
-      keeps = (λ h. (h, refl), c.requires.1);
-    }
+  clauses = clauses_lost _ _ c.args.before _ (omega arith);
+  keeps = (λ h. (h, refl), c.requires.1);
+}
 
 pub is_end-requires : goal.is_end-requires
 is_end-requires t c = omega arith
 
 pub returns-then-is_end : goal.returns-then-is_end
 returns-then-is_end t c = record {
-      clauses = clauses_done _ _ c.args.before _ (omega arith) (sym c.is_end.ensures ∙ c.if-is_end.true);
-      keeps = (λ h. (h, refl), c.requires.1);
-    }
+  clauses = clauses_done _ _ c.args.before _ (omega arith) (sym c.is_end.ensures ∙ c.if-is_end.true);
+  keeps = (λ h. (h, refl), c.requires.1);
+}
 
 pub clause_at-c-requires : goal.clause_at-c-requires
 clause_at-c-requires t c =

@@ -9,9 +9,9 @@ use Rattle.clauses.proofs.claim_at.Goals as goal
 
 pub returns-then-s-e : goal.returns-then-s-e
 returns-then-s-e c = record {
-      claim_at = λ σ m. goes_saying c.name-x.ensures (λ b. absurd (omega arith));
-      keeps = (λ h. (h, refl), c.requires.1);
-    }
+  claim_at = λ σ m. goes_saying c.name-x.ensures (λ b. absurd (omega arith));
+  keeps = (λ h. (h, refl), c.requires.1);
+}
 
 pub slice_bounds-dispose-count : goal.slice_bounds-dispose-count
 slice_bounds-dispose-count c = let (w, _, _, p) = goes_some c.name-x.ensures (omega arith) in p.order
@@ -26,6 +26,6 @@ dispose-requires c =
 
 pub returns : goal.returns
 returns c = record {
-      claim_at = λ σ m. goes_saying c.name-x.ensures (λ b x p. claiming_at _ σ _ _ _ _ x _ p.bytes c.dispose.ensures.claims_one m);
-      keeps = c.dispose.ensures.keeps;
-    }
+  claim_at = λ σ m. goes_saying c.name-x.ensures (λ b x p. claiming_at _ σ _ _ _ _ x _ p.bytes c.dispose.ensures.claims_one m);
+  keeps = c.dispose.ensures.keeps;
+}

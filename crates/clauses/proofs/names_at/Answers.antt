@@ -21,5 +21,5 @@ returns c =
       names_at = names_read c.args.reading _ _ _ _ _ k.result.kind k.ensures.goes k.ensures.at_lt_next d.result d.ensures _ n.result n.ensures.claims _ c.pass.ensures;
       keeps = n.ensures.keeps;
       at_lt_next = names_onward c.args.reading _ _ _ _ _ k.result.kind k.ensures.goes k.ensures.at_lt_next d.result d.ensures _ n.result n.ensures.claims _
-            c.pass.ensures c.requires.1;
+          c.pass.ensures c.requires.1;
     }

@@ -15,10 +15,10 @@ pass-comma-requires t c = c.requires.0
 
 pub returns-then-s-comma : goal.returns-then-s-comma
 returns-then-s-comma t c = record {
-      integers = integers_last _ _ _ _ _ _ c.integer-d.result c.integer-d.ensures.goes _
+  integers = integers_last _ _ _ _ _ _ c.integer-d.result c.integer-d.ensures.goes _
       c.pass-comma.ensures c.if-s-comma.true c.integer-d.ensures.keeps.1;
-      keeps = c.integer-d.ensures.keeps;
-    }
+  keeps = c.integer-d.ensures.keeps;
+}
 
 pub integers-requires : goal.integers-requires
 integers-requires t c = (
@@ -29,8 +29,8 @@ integers-requires t c = (
 
 pub returns : goal.returns
 returns t c = record {
-      integers = integers_more _ _ _ _ _ _ c.integer-d.result
+  integers = integers_more _ _ _ _ _ _ c.integer-d.result
       c.integer-d.ensures.goes _ c.pass-comma.ensures (omega arith) _ _
       c.integers.ensures.integers;
-      keeps = (keeps_on _ _ _ c.integer-d.ensures.keeps.0 c.integers.ensures.keeps.0, c.integers.ensures.keeps.1);
-    }
+  keeps = (keeps_on _ _ _ c.integer-d.ensures.keeps.0 c.integers.ensures.keeps.0, c.integers.ensures.keeps.1);
+}

@@ -10,9 +10,9 @@ use Rattle.declarations.proofs.integer.Goals as goal
 
 pub returns-then-s-next : goal.returns-then-s-next
 returns-then-s-next c = record {
-      goes = goes_saying c.declared-d.ensures (λ b. absurd (omega arith));
-      keeps = (λ h. (h, refl), omega arith);
-    }
+  goes = goes_saying c.declared-d.ensures (λ b. absurd (omega arith));
+  keeps = (λ h. (h, refl), omega arith);
+}
 
 pub slice_bounds-repeated-count : goal.slice_bounds-repeated-count
 slice_bounds-repeated-count c = let (d, i, e, p) = goes_some c.declared-d.ensures (omega arith) in p.order

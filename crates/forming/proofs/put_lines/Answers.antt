@@ -61,12 +61,11 @@ loop-at-smaller c =
     omega (arith, end_after _ _ _ c.line_end-e.ensures c.loop-at.invariant.1.within, c.loop-at.invariant.1.within)
 
 pub loop-at-preserved : goal.loop-at-preserved
-loop-at-preserved c =
-    (
-      c.loop-at.invariant.0,
-      reached_more _ _ _ _ _ c.loop-at.invariant.1 c.requires.2 _ c.line_end-e.ensures c.put_line_of-to.ensures
-          (omega (arith, c.if-n-e.false, c.loop-at.invariant.0)),
-    )
+loop-at-preserved c = (
+  c.loop-at.invariant.0,
+  reached_more _ _ _ _ _ c.loop-at.invariant.1 c.requires.2 _ c.line_end-e.ensures c.put_line_of-to.ensures
+      (omega (arith, c.if-n-e.false, c.loop-at.invariant.0)),
+)
 
 pub shape_of-out : goal.shape_of-out
 shape_of-out c = writes_length c.loop-at.invariant.1.along.writes

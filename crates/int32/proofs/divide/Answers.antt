@@ -18,7 +18,7 @@ returns-then-y-eqminus1 c = divided_end quotient quotient_end c.ranges.x c.range
 apart : (c : goal.Joined-x-eqminus2147483648) → End c.args.x c.args.y → ⊥
 apart c e =
     elim c.if-x-eqminus2147483648.branch [
-      goal.then-x-eqminus2147483648+else-y-eqminus1 w ↦ w.if-y-eqminus1.false (ap (of_z w32) e.1)
+      | goal.then-x-eqminus2147483648+else-y-eqminus1 w ↦ w.if-y-eqminus1.false (ap (of_z w32) e.1)
       | goal.else-x-eqminus2147483648 w ↦ w.if-x-eqminus2147483648.false (ap (of_z w32) e.0)
     ]
 
@@ -32,12 +32,11 @@ pub overflow_cast-y : goal.overflow_cast-y
 overflow_cast-y c = widens c.ranges.y
 
 pub truncate-requires : goal.truncate-requires
-truncate-requires c =
-    (
-      narrows c.ranges.x (to_z-of_z w32 c.args.x c.ranges.x),
-      narrows c.ranges.y (to_z-of_z w32 c.args.y c.ranges.y),
-      λ e. c.if-y-eq0.false (ap (of_z w32) (sym (widened c.ranges.y) ∙ e)),
-    )
+truncate-requires c = (
+  narrows c.ranges.x (to_z-of_z w32 c.args.x c.ranges.x),
+  narrows c.ranges.y (to_z-of_z w32 c.args.y c.ranges.y),
+  λ e. c.if-y-eq0.false (ap (of_z w32) (sym (widened c.ranges.y) ∙ e)),
+)
 
 truncates : (c : goal.After-truncate) → c.truncate.result ≡ truncated c.args.x c.args.y
 truncates c = c.truncate.ensures ∙ (λ i. truncated (widened c.ranges.x i) (widened c.ranges.y i))

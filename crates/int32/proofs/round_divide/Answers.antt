@@ -17,13 +17,12 @@ pub returns-then-x-eqminus2147483648 : goal.returns-then-x-eqminus2147483648
 returns-then-x-eqminus2147483648 c = divided_end rdiv rdiv_end c.ranges.x c.ranges.y c.if-x-eqminus2147483648.true c.if-y-eqminus1.true
 
 pub round_half_even-m-requires : goal.round_half_even-m-requires
-round_half_even-m-requires c =
-    (
-      subst (λ (n : ℕ). n ≤ 2147483648) (sym (c.magnitude.ensures ∙ ap nat_abs (to_z-of_z w32 c.args.x c.ranges.x)))
-          (nat_abs-le c.args.x c.ranges.x.sfits),
-      subst (λ (n : ℕ). 0 < n) (sym (c.magnitude-2.ensures ∙ ap nat_abs (to_z-of_z w32 c.args.y c.ranges.y)))
-          (size_pos c.args.y (λ e. c.if-y-eq0.false (ap (of_z w32) e))),
-    )
+round_half_even-m-requires c = (
+  subst (λ (n : ℕ). n ≤ 2147483648) (sym (c.magnitude.ensures ∙ ap nat_abs (to_z-of_z w32 c.args.x c.ranges.x)))
+      (nat_abs-le c.args.x c.ranges.x.sfits),
+  subst (λ (n : ℕ). 0 < n) (sym (c.magnitude-2.ensures ∙ ap nat_abs (to_z-of_z w32 c.args.y c.ranges.y)))
+      (size_pos c.args.y (λ e. c.if-y-eq0.false (ap (of_z w32) e))),
+)
 
 pub returns : goal.returns
 returns c =

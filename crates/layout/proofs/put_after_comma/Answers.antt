@@ -21,11 +21,10 @@ put-q-requires c =
     omega (arith, ap length (comma_one (literal_bytes c.args.s.now c.args.l)), c.put-p.ensures.place, c.requires.1)
 
 pub put_literal-requires : goal.put_literal-requires
-put_literal-requires c =
-    (
-      c.requires.0,
-      omega (arith, ap length (comma_one (literal_bytes c.args.s.now c.args.l)), c.put-p.ensures.place, c.put-q.ensures.place, c.requires.1),
-    )
+put_literal-requires c = (
+  c.requires.0,
+  omega (arith, ap length (comma_one (literal_bytes c.args.s.now c.args.l)), c.put-p.ensures.place, c.put-q.ensures.place, c.requires.1),
+)
 
 pub returns : goal.returns
 returns c =

@@ -18,12 +18,11 @@ put_bytes-p-requires c =
     line_first c.args.s.now _ c.token-t.ensures c.args.copying _ c.start_of-a.ensures.1 c.args.to c.requires.1
 
 pub put_rest-q-requires : goal.put_rest-q-requires
-put_rest-q-requires c =
-    (
-      c.requires.0,
-      c.token-t.ensures.within,
-      line_rest c.args.s.now _ c.token-t.ensures c.args.copying _ c.start_of-a.ensures.1 c.requires.1 c.put_bytes-p.ensures,
-    )
+put_rest-q-requires c = (
+  c.requires.0,
+  c.token-t.ensures.within,
+  line_rest c.args.s.now _ c.token-t.ensures c.args.copying _ c.start_of-a.ensures.1 c.requires.1 c.put_bytes-p.ensures,
+)
 
 pub put-requires : goal.put-requires
 put-requires c =

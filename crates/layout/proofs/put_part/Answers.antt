@@ -5,11 +5,10 @@ use borrow.Author.Rules.{rules}
 use Rattle.layout.proofs.put_part.Goals as goal
 
 pub put_copies-requires : goal.put_copies-requires
-put_copies-requires c =
-    (
-      c.if-r-s.true,
-      found_room c.args.s.now c.args.at _ c.args.copying c.repeat_at-r.ensures c.if-r-s.true c.args.to c.requires.2,
-    )
+put_copies-requires c = (
+  c.if-r-s.true,
+  found_room c.args.s.now c.args.at _ c.args.copying c.repeat_at-r.ensures c.if-r-s.true c.args.to c.requires.2,
+)
 
 pub returns-then-r-s : goal.returns-then-r-s
 returns-then-r-s c =

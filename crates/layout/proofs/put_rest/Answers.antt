@@ -15,13 +15,12 @@ pub loop-i-init : goal.loop-i-init
 loop-i-init c = (c.requires.1, along_none _ _ _)
 
 pub put_part-m-requires : goal.put_part-m-requires
-put_part-m-requires c =
-    (
-      c.requires.0,
-      c.loop-i.invariant.0,
-      spread_room c.loop-i.p c.args.copying (tokens (drop c.loop-i.i c.args.s.now))
-          (along_fits c.requires.2 c.loop-i.invariant.1),
-    )
+put_part-m-requires c = (
+  c.requires.0,
+  c.loop-i.invariant.0,
+  spread_room c.loop-i.p c.args.copying (tokens (drop c.loop-i.i c.args.s.now))
+      (along_fits c.requires.2 c.loop-i.invariant.1),
+)
 
 pub loop-i-smaller : goal.loop-i-smaller
 loop-i-smaller c = omega (arith, c.put_part-m.ensures.onward (omega arith), c.put_part-m.ensures.within)

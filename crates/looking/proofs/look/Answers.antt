@@ -36,22 +36,21 @@ slice_bounds-show_copied-end c =
     omega (arith, (ready_fine _ _ _ _ _ c.prepare-r.ensures c.if-r-ne0.false).prepares.short)
 
 pub show_copied-requires : goal.show_copied-requires
-show_copied-requires c =
-    (
-      can_try _ _ _ _ (ready_fine _ _ _ _ _ c.prepare-r.ensures c.if-r-ne0.false) c.args.cells.now _ c.args.schedule.now
-          (fit_zero c.prepare-r.result.cells c.prepare-r.result.setting.processors (length c.args.cells.now)
-          (length c.args.workspace.now) c.args.schedule.now (sym c.unfit-number.ensures ∙ c.if-number-ne0.false)),
-      c.if-view-r.false
-          ∙ ap (λ (n : ℕ). 2 * n)
-          (sym (fit_zero c.prepare-r.result.cells c.prepare-r.result.setting.processors (length c.args.cells.now)
-          (length c.args.workspace.now) c.args.schedule.now (sym c.unfit-number.ensures ∙ c.if-number-ne0.false)).cells_are),
-      omega (
-        arith,
-        (fit_zero c.prepare-r.result.cells c.prepare-r.result.setting.processors (length c.args.cells.now)
-            (length c.args.workspace.now) c.args.schedule.now (sym c.unfit-number.ensures ∙ c.if-number-ne0.false)).cells_are,
-        (ready_few _ _ _ _ _ c.prepare-r.ensures (ready_fine _ _ _ _ _ c.prepare-r.ensures c.if-r-ne0.false)).0,
-      ),
-    )
+show_copied-requires c = (
+  can_try _ _ _ _ (ready_fine _ _ _ _ _ c.prepare-r.ensures c.if-r-ne0.false) c.args.cells.now _ c.args.schedule.now
+      (fit_zero c.prepare-r.result.cells c.prepare-r.result.setting.processors (length c.args.cells.now)
+      (length c.args.workspace.now) c.args.schedule.now (sym c.unfit-number.ensures ∙ c.if-number-ne0.false)),
+  c.if-view-r.false
+      ∙ ap (λ (n : ℕ). 2 * n)
+      (sym (fit_zero c.prepare-r.result.cells c.prepare-r.result.setting.processors (length c.args.cells.now)
+      (length c.args.workspace.now) c.args.schedule.now (sym c.unfit-number.ensures ∙ c.if-number-ne0.false)).cells_are),
+  omega (
+    arith,
+    (fit_zero c.prepare-r.result.cells c.prepare-r.result.setting.processors (length c.args.cells.now)
+        (length c.args.workspace.now) c.args.schedule.now (sym c.unfit-number.ensures ∙ c.if-number-ne0.false)).cells_are,
+    (ready_few _ _ _ _ _ c.prepare-r.ensures (ready_fine _ _ _ _ _ c.prepare-r.ensures c.if-r-ne0.false)).0,
+  ),
+)
 
 pub returns : goal.returns
 returns c =

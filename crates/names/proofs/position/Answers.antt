@@ -28,12 +28,11 @@ pub loop-i-smaller : goal.loop-i-smaller
 loop-i-smaller c = omega arith
 
 pub loop-i-preserved : goal.loop-i-preserved
-loop-i-preserved c =
-    (
-      omega arith,
-      below_more (λ k. same c.args.w.now (name_at c.args.table.now k) ≡ false) c.loop-i.i c.loop-i.invariant.1
-          (sym c.is_named.ensures ∙ c.if-is_named.false),
-    )
+loop-i-preserved c = (
+  omega arith,
+  below_more (λ k. same c.args.w.now (name_at c.args.table.now k) ≡ false) c.loop-i.i c.loop-i.invariant.1
+      (sym c.is_named.ensures ∙ c.if-is_named.false),
+)
 
 pub returns : goal.returns
 returns c = record {

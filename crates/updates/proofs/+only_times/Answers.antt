@@ -14,9 +14,9 @@ use Rattle.updates.proofs.+only_times.Goals as goal
 
 pub factor-requires : goal.factor-requires
 factor-requires t c = record {
-      ready = c.requires.ready;
-      line_bound = c.requires.line_bound;
-    }
+  ready = c.requires.ready;
+  line_bound = c.requires.line_bound;
+}
 
 pub join-j-requires : goal.join-j-requires
 join-j-requires t c =

@@ -20,10 +20,10 @@ shape_of-cells-then-s-comma t c = c.put_item-d.ensures.cells_len_unchanged.0
 
 pub returns-then-s-comma : goal.returns-then-s-comma
 returns-then-s-comma t c = record {
-      items = items_last _ _ _ _ _ _ _ _ c.put_item-d.result c.put_item-d.ensures.goes
+  items = items_last _ _ _ _ _ _ _ _ c.put_item-d.result c.put_item-d.ensures.goes
       (omega (arith, c.put_item-d.ensures.cells_len_unchanged.1)) _ c.pass-comma.ensures c.if-s-comma.true;
-      cells_len_unchanged = c.put_item-d.ensures.cells_len_unchanged;
-    }
+  cells_len_unchanged = c.put_item-d.ensures.cells_len_unchanged;
+}
 
 pub items-requires : goal.items-requires
 items-requires t c = (
@@ -46,12 +46,12 @@ shape_of-cells t c = c.items.ensures.cells_len_unchanged.0 ∙ c.put_item-d.ensu
 
 pub returns : goal.returns
 returns t c = record {
-      items = items_more _ _ _ _ _ _ _ _ c.put_item-d.result
+  items = items_more _ _ _ _ _ _ _ _ c.put_item-d.result
       c.put_item-d.ensures.goes
       (omega (arith, c.put_item-d.ensures.cells_len_unchanged.1)) _
       c.pass-comma.ensures (omega arith) _ _ c.items.ensures.items;
-      cells_len_unchanged = (
+  cells_len_unchanged = (
     c.items.ensures.cells_len_unchanged.0 ∙ c.put_item-d.ensures.cells_len_unchanged.0,
     c.items.ensures.cells_len_unchanged.1,
   );
-    }
+}

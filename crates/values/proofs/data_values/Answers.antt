@@ -14,10 +14,10 @@ use Rattle.values.proofs.data_values.Goals as goal
 
 pub returns-then-s-open : goal.returns-then-s-open
 returns-then-s-open c = record {
-      fact = λ t tab f b. data_broken _ _ c.name-x.result c.name-x.ensures _ c.pass-open.ensures _
+  fact = λ t tab f b. data_broken _ _ c.name-x.result c.name-x.ensures _ c.pass-open.ensures _
       c.if-s-open.true f;
-      keeps = (λ h. (h, refl), refl);
-    }
+  keeps = (λ h. (h, refl), refl);
+}
 
 pub slice_bounds-find-count : goal.slice_bounds-find-count
 slice_bounds-find-count c =

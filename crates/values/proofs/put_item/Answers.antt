@@ -14,15 +14,15 @@ use Rattle.values.proofs.put_item.Goals as goal
 
 pub returns-then-s-next : goal.returns-then-s-next
 returns-then-s-next c = record {
-      goes = item_broken c.item_at-d.ensures _ (omega arith);
-      cells_len_unchanged = (refl, omega arith);
-    }
+  goes = item_broken c.item_at-d.ensures _ (omega arith);
+  cells_len_unchanged = (refl, omega arith);
+}
 
 pub returns-then-d-eq0 : goal.returns-then-d-eq0
 returns-then-d-eq0 c = record {
-      goes = item_zero c.item_at-d.ensures _ c.if-d-eq0.true (omega arith);
-      cells_len_unchanged = (refl, omega arith);
-    }
+  goes = item_zero c.item_at-d.ensures _ c.if-d-eq0.true (omega arith);
+  cells_len_unchanged = (refl, omega arith);
+}
 
 pub returns : goal.returns
 returns c =

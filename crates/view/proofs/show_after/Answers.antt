@@ -11,16 +11,15 @@ follow-then-requires c =
     can_follow _ _ _ _ c.args.schedule.now _ _ _ c.begin-first.ensures c.requires.0
 
 pub show-requires : goal.show-requires
-show-requires c =
-    (
-      can_show _ _ _ _ c.args.schedule.now _ _ _ c.begin-first.ensures _ _ _ c.follow-then.ensures c.requires.0,
-      c.requires.1
-          ∙ ap (λ (n : ℕ). 2 * n)
-          (sym (same_size _ _ _ _ c.args.schedule.now _ _ _ c.begin-first.ensures _ _ _ c.follow-then.ensures c.requires.0)),
-    )
+show-requires c = (
+  can_show _ _ _ _ c.args.schedule.now _ _ _ c.begin-first.ensures _ _ _ c.follow-then.ensures c.requires.0,
+  c.requires.1
+      ∙ ap (λ (n : ℕ). 2 * n)
+      (sym (same_size _ _ _ _ c.args.schedule.now _ _ _ c.begin-first.ensures _ _ _ c.follow-then.ensures c.requires.0)),
+)
 
 pub returns : goal.returns
 returns c = record {
-      shows_after = shows_after _ _ _ _ c.args.schedule.now _ _ _ c.begin-first.ensures _ _ _ c.follow-then.ensures _ c.show.ensures;
-      w_after = c.clear.ensures ∙ ap (λ (n : ℕ). replicate n 0) (c.follow-then.auto.w ∙ c.begin-first.auto.w);
-    }
+  shows_after = shows_after _ _ _ _ c.args.schedule.now _ _ _ c.begin-first.ensures _ _ _ c.follow-then.ensures _ c.show.ensures;
+  w_after = c.clear.ensures ∙ ap (λ (n : ℕ). replicate n 0) (c.follow-then.auto.w ∙ c.begin-first.auto.w);
+}

@@ -10,6 +10,6 @@ show_after-requires c =
 
 pub returns : goal.returns
 returns c = record {
-      shows_after = shows_front c.copy_front.new.own c.args.cells.now c.copy_front.ensures _ _ _ _ _ _ c.show_after.ensures.shows_after;
-      w_after = c.show_after.ensures.w_after;
-    }
+  shows_after = shows_front c.copy_front.new.own c.args.cells.now c.copy_front.ensures _ _ _ _ _ _ c.show_after.ensures.shows_after;
+  w_after = c.show_after.ensures.w_after;
+}

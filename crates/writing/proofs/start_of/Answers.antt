@@ -6,11 +6,10 @@ use borrow.Author.Rules.{rules}
 use Rattle.writing.proofs.start_of.Goals as goal
 
 pub returns-then-same_kind : goal.returns-then-same_kind
-returns-then-same_kind c =
-    (
-      c.significant.ensures.1,
-      c.significant.ensures.2 ∙ sym (told_digits (kind_number c.args.t.kind) _ (sym c.same_kind.ensures ∙ c.if-same_kind.true)),
-    )
+returns-then-same_kind c = (
+  c.significant.ensures.1,
+  c.significant.ensures.2 ∙ sym (told_digits (kind_number c.args.t.kind) _ (sym c.same_kind.ensures ∙ c.if-same_kind.true)),
+)
 
 pub returns : goal.returns
 returns c = (
