@@ -21,7 +21,7 @@ pub loop-c-init : goal.loop-c-init
 loop-c-init c =
     let a = c.args in
     let e = c.clear.ensures in
-    let n : length c.clear.new.0 ≡ length a.w.now = search rules in
+    let n : length c.clear.new.w ≡ length a.w.now = search rules in
     (omega arith, refl, λ l δ h. rw e (entry_clear a.processors l δ a.cells.now a.classes.now (length a.w.now) (rw n at h)))
 
 pub row_of-row-requires : goal.row_of-row-requires
@@ -44,7 +44,7 @@ begin_row-requires c =
     let i = c.loop-c.c in
     let lt = c.loop-c-test.true in
     let low = suits_low h.suits (entry_size a.processors l δ a.cells.now a.classes.now (length a.w.now) h) i lt in
-    let n : length c.clear.new.0 ≡ length a.w.now = search rules in (
+    let n : length c.clear.new.w ≡ length a.w.now = search rules in (
       omega (arith, c.row_of-row.ensures, row_small a.processors i low.0 low.1),
       omega (
         arith,
@@ -60,19 +60,19 @@ unfolding cell_of
 loop-c-preserved c =
     let a = c.args in
     let u = c.loop-c in
-    let n : length c.clear.new.0 ≡ length a.w.now = search rules in
+    let n : length c.clear.new.w ≡ length a.w.now = search rules in
     let e : to_z w32 (of_z w32 (get_or a.cells.now u.c (pos 0))) ≡ get_or a.cells.now u.c (pos 0) = search rules in (
       omega arith,
       search rules,
       λ l δ h. rw (add-one, c.begin_row.ensures, c.row_of-row.ensures, e)
           (entry_more a.processors l δ a.cells.now a.classes.now _ h u.c u.w c.loop-c-test.true
-          (record { sfits = c.begin_row-arg-in-loop-c-1.given }) (u.invariant.2 l δ h)),
+          (search rules) (u.invariant.2 l δ h)),
     )
 
 pub returns : goal.returns
 returns c =
     let a = c.args in
     let u = c.loop-c in
-    let n : length c.clear.new.0 ≡ length a.w.now = search rules in
+    let n : length c.clear.new.w ≡ length a.w.now = search rules in
     λ l δ h. entry_all a.processors l δ a.cells.now a.classes.now (length a.w.now) h u.c u.w
     (omega (arith, u.invariant.0, c.loop-c-test.false)) (u.invariant.2 l δ (rw n h))
