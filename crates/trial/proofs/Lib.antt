@@ -7,5 +7,3 @@ pub mod AccessLaws
 -- The argument: a step, and the run to the end.
 mod Stepping
 mod RunningOut
--- A record in a local, which is lent for a step.
-mod Local

@@ -6,7 +6,6 @@ use native.Mathlib.Omega.{arith}
 use Rattle.syntax.specs.Grammar.{number}
 use Rattle.lexer.proofs.PlaceLaws.{kind_there, kind_other}
 use borrow.Author.Tests.{eqb-true, eqb-false}
-use borrow.Author.Rules.{rules}
 use Rattle.lexer.proofs.digits.Goals as goal
 
 pub returns-then-s-at : goal.returns-then-s-at

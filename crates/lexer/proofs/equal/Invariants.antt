@@ -1,10 +1,8 @@
 -- `lexer::equal` meets its contract: two strings are the same where they are as long, and from each place on where nothing differed before it.
 use Prim.Native.Nat.{◌≤◌, ◌-◌}
-use mathlib.Core.Path.{◌≡◌, refl, sym, ◌∙◌}
-use native.Mathlib.Omega.{arith}
+use mathlib.Core.Path.{◌≡◌}
 use lib.ListN.{length, drop}
 use Rattle.syntax.specs.Bytes.{same}
-use Rattle.lexer.proofs.Laws.{same_lengths, same_on, same_off, same_out}
 use Rattle.lexer.proofs.equal.Given as goal
 
 abbrev pub invariant-loop-i : goal.invariant-loop-i

@@ -1,7 +1,6 @@
 -- `lexer::goes_on` meets its contract, run by run.
 use Prim.Native.Nat.{ℕ}
 use mathlib.Core.Path.{◌≡◌, sym, ◌∙◌, ap}
-use borrow.Author.Rules.{rules}
 use Rattle.lexer.specs.declared.Run.{Run}
 use Rattle.lexer.specs.Lex.{goes}
 use Rattle.lexer.proofs.goes_on.Goals as goal

@@ -1,6 +1,5 @@
 -- `lexer::in_word` meets its contract.
 use mathlib.Core.Path.{refl, sym, ◌∙◌}
-use borrow.Author.Rules.{rules}
 use Rattle.lexer.proofs.Laws.{or_yes, or_no}
 use Rattle.lexer.proofs.in_word.Goals as goal
 

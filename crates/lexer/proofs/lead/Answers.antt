@@ -2,7 +2,6 @@
 use mathlib.Core.Path.{refl}
 use native.Mathlib.Omega.{arith}
 use Rattle.lexer.proofs.PlaceLaws.{lead_plus, lead_minus, lead_bare}
-use borrow.Author.Rules.{rules}
 use Rattle.lexer.proofs.lead.Goals as goal
 
 pub returns-then-s-at : goal.returns-then-s-at

@@ -1,14 +1,10 @@
 -- `lexer::line_end` meets its contract: the end found from i on is the end from the place on.
 use Prim.Native.Nat.{◌≤◌, ◌-◌, ◌+◌}
-use mathlib.Core.Path.{◌≡◌, refl, sym, ◌∙◌, ap}
+use mathlib.Core.Path.{◌≡◌}
 use mathlib.Core.Bool.{not}
-use native.Mathlib.Omega.{arith}
-use borrow.Author.Tests.{eq-eqb, ne_eqb}
 use lib.Dec.{eqb}
-use lib.ListN.{length, drop, get_or}
+use lib.ListN.{length, drop}
 use Rattle.syntax.specs.Bytes.{run}
-use Rattle.lexer.specs.Lex.{ended}
-use Rattle.lexer.proofs.Laws.{run_on, run_off, run_out}
 use Rattle.lexer.proofs.line_end.Given as goal
 
 abbrev pub invariant-loop-i : goal.invariant-loop-i

@@ -1,9 +1,8 @@
 -- `lexer::literal` meets its contract: n is the number of the digits passed, up to 2^31.
-use Prim.Native.Nat.{ℕ, ◌≤◌, ◌+◌, ◌-◌, ◌*◌, min}
+use Prim.Native.Nat.{ℕ, ◌+◌, ◌-◌, ◌*◌, min}
 use mathlib.Core.Path.{◌≡◌, sym, ◌∙◌, ap}
 use mathlib.Core.List.{List}
 use native.Mathlib.Omega.{arith}
-use borrow.Author.Rules.{rules}
 use lib.ListN.{get_or}
 use Rattle.syntax.specs.Grammar.{number, number_from}
 use Rattle.lexer.specs.Lex.{part, tens}

@@ -1,13 +1,8 @@
 -- `lexer::literal` meets its contract: n is the number of the digits passed, up to 2^31.
-use Prim.Native.Nat.{ℕ, ◌≤◌, ◌+◌, ◌-◌, ◌*◌, min}
-use mathlib.Core.Path.{◌≡◌, sym, ◌∙◌, ap}
-use mathlib.Core.List.{List}
-use native.Mathlib.Omega.{arith}
-use borrow.Author.Rules.{rules}
-use lib.ListN.{get_or}
-use Rattle.syntax.specs.Grammar.{number, number_from}
-use Rattle.lexer.specs.Lex.{part, tens}
-use Rattle.lexer.proofs.Laws.{number_part, part_none}
+use Prim.Native.Nat.{◌≤◌, ◌-◌, min}
+use mathlib.Core.Path.{◌≡◌}
+use Rattle.syntax.specs.Grammar.{number}
+use Rattle.lexer.specs.Lex.{part}
 use Rattle.lexer.proofs.literal.Given as goal
 
 abbrev pub invariant-loop-i : goal.invariant-loop-i

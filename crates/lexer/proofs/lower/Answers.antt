@@ -1,6 +1,5 @@
 -- `lexer::lower` meets its contract: each way is the one that the definition takes by the same tests.
 use borrow.Author.Tests.{le-leb, lt-leb}
-use borrow.Author.Rules.{rules}
 use Rattle.lexer.proofs.lower.Goals as goal
 
 pub returns-then-b-le90 : goal.returns-then-b-le90

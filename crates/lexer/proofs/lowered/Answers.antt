@@ -1,9 +1,8 @@
 -- `lexer::lowered` meets its contract: what is written up to i are the first i bytes in lower case.
-use Prim.Native.Nat.{ℕ, ◌≤◌, ◌<◌, ◌-◌}
+use Prim.Native.Nat.{ℕ, ◌<◌}
 use mathlib.Core.Path.{◌≡◌, refl, sym, ◌∙◌, ap}
 use mathlib.Core.List.{List, map}
 use native.Mathlib.Omega.{arith}
-use borrow.Author.Rules.{rules}
 use lib.ListN.{length, take, get_or, set, length-set}
 use lib.Seq.{sets, take_all}
 use Rattle.syntax.specs.Bytes.{lower}

@@ -1,13 +1,10 @@
 -- `lexer::lowered` meets its contract: what is written up to i are the first i bytes in lower case.
-use Prim.Native.Nat.{ℕ, ◌≤◌, ◌<◌, ◌-◌}
-use mathlib.Core.Path.{◌≡◌, refl, sym, ◌∙◌, ap}
-use mathlib.Core.List.{List, map}
-use native.Mathlib.Omega.{arith}
-use borrow.Author.Rules.{rules}
-use lib.ListN.{length, take, get_or, set, length-set}
-use lib.Seq.{sets, take_all}
+use Prim.Native.Nat.{◌≤◌, ◌-◌}
+use mathlib.Core.Path.{◌≡◌}
+use mathlib.Core.List.{map}
+use lib.ListN.{length, take}
+use lib.Seq.{sets}
 use Rattle.syntax.specs.Bytes.{lower}
-use Rattle.lexer.proofs.Laws.{sets_map}
 use Rattle.lexer.proofs.lowered.Given as goal
 
 abbrev pub invariant-loop-i : goal.invariant-loop-i

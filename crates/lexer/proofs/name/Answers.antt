@@ -3,7 +3,6 @@ use mathlib.Core.Path.{refl, sym, ◌∙◌}
 use native.Mathlib.Omega.{arith}
 use Rattle.lexer.proofs.PlaceLaws.{kind_there, kind_other, spells}
 use borrow.Author.Tests.{eqb-true, eqb-false}
-use borrow.Author.Rules.{rules}
 use Rattle.lexer.proofs.name.Goals as goal
 
 pub returns-then-s-at : goal.returns-then-s-at

@@ -2,7 +2,6 @@
 use mathlib.Core.Path.{refl, sym, ◌∙◌}
 use native.Mathlib.Omega.{arith}
 use Rattle.lexer.proofs.PlaceLaws.{passes_there, passes_other}
-use borrow.Author.Rules.{rules}
 use Rattle.lexer.proofs.pass.Goals as goal
 
 pub returns-then-s-at : goal.returns-then-s-at

@@ -1,5 +1,5 @@
 -- `lexer::reserved` meets its contract: word by word, as the definition goes.
-use mathlib.Core.Path.{refl, sym, ◌∙◌}
+use mathlib.Core.Path.{sym, ◌∙◌}
 use Rattle.lexer.proofs.Laws.{or_yes, or_no, or_last}
 use Rattle.lexer.proofs.reserved.Goals as goal
 

@@ -1,11 +1,6 @@
 -- `lexer::run_end` meets its contract: the run from i on ends where the run from the place on does.
-use Prim.Native.Nat.{◌≤◌, ◌-◌, ◌+◌}
-use mathlib.Core.Path.{◌≡◌, refl, sym, ◌∙◌}
+use mathlib.Core.Path.{refl, sym, ◌∙◌}
 use native.Mathlib.Omega.{arith}
-use borrow.Author.Rules.{rules}
-use borrow.Author.Tests.{not-true, not-false}
-use lib.ListN.{length, drop}
-use Rattle.syntax.specs.Bytes.{run}
 use Rattle.lexer.specs.Lex.{goes}
 use Rattle.lexer.proofs.Laws.{run_on, run_off, run_out}
 use Rattle.lexer.proofs.run_end.Goals as goal
@@ -20,7 +15,7 @@ pub returns-then-not-goes_on : goal.returns-then-not-goes_on
 returns-then-not-goes_on c =
     let l = c.loop-i in
     let a = c.args in record {
-      value = sym (l.invariant.1 ∙ run_off (goes a.what) a.s.now l.i (omega arith) (sym c.goes_on.ensures ∙ not-true _ c.if-not-goes_on.true-raw));
+      value = sym (l.invariant.1 ∙ run_off (goes a.what) a.s.now l.i (omega arith) (sym c.goes_on.ensures ∙ c.if-not-goes_on.true));
       upper_bound = omega arith;
     }
 
@@ -34,7 +29,7 @@ pub loop-i-preserved : goal.loop-i-preserved
 loop-i-preserved c =
     let l = c.loop-i in
     let a = c.args in
-    (omega arith, l.invariant.1 ∙ run_on (goes a.what) a.s.now l.i (omega arith) (sym c.goes_on.ensures ∙ not-false _ c.if-not-goes_on.false-raw))
+    (omega arith, l.invariant.1 ∙ run_on (goes a.what) a.s.now l.i (omega arith) (sym c.goes_on.ensures ∙ c.if-not-goes_on.false))
 
 pub returns : goal.returns
 returns c =

@@ -1,13 +1,9 @@
 -- `lexer::run_end` meets its contract: the run from i on ends where the run from the place on does.
 use Prim.Native.Nat.{◌≤◌, ◌-◌, ◌+◌}
-use mathlib.Core.Path.{◌≡◌, refl, sym, ◌∙◌}
-use native.Mathlib.Omega.{arith}
-use borrow.Author.Rules.{rules}
-use borrow.Author.Tests.{not-true, not-false}
+use mathlib.Core.Path.{◌≡◌}
 use lib.ListN.{length, drop}
 use Rattle.syntax.specs.Bytes.{run}
 use Rattle.lexer.specs.Lex.{goes}
-use Rattle.lexer.proofs.Laws.{run_on, run_off, run_out}
 use Rattle.lexer.proofs.run_end.Given as goal
 
 abbrev pub invariant-loop-i : goal.invariant-loop-i

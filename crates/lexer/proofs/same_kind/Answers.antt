@@ -1,6 +1,5 @@
 -- `lexer::same_kind` meets its contract.
 use lib.Dec.{eqb}
-use borrow.Author.Rules.{rules}
 use Rattle.lexer.proofs.same_kind.Goals as goal
 
 pub returns : goal.returns

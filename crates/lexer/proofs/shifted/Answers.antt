@@ -1,6 +1,5 @@
 -- `lexer::shifted` meets its contract.
 use native.Mathlib.Omega.{arith}
-use borrow.Author.Rules.{rules}
 use Rattle.lexer.specs.Lex.{tens}
 use Rattle.lexer.proofs.shifted.Goals as goal
 

@@ -1,12 +1,11 @@
 -- `trial::crew` meets its contract: the records below q are at the start of their blocks.
 use borrow.Author.Rules.{rules}
 use mathlib.Core.Path.{◌≡◌, ◌∙◌, ap}
-use Prim.Native.Nat.{ℕ, ◌≤◌, ◌<◌, ◌-◌}
 use native.Mathlib.Numerals.{add-one}
 use native.Mathlib.Omega.{arith}
-use lib.ListN.{length, get_or, length-set}
+use lib.ListN.{length-set}
 use Rattle.rules.specs.Blocks.{block_start}
-use Rattle.trial.specs.Running.{waiting, nobody}
+use Rattle.trial.specs.Running.{waiting}
 use Rattle.trial.proofs.Starting.{crew_more}
 use Rattle.trial.proofs.crew.Goals as goal
 

@@ -1,13 +1,9 @@
 -- `trial::crew` meets its contract: the records below q are at the start of their blocks.
-use borrow.Author.Rules.{rules}
-use mathlib.Core.Path.{◌≡◌, ◌∙◌, ap}
+use mathlib.Core.Path.{◌≡◌}
 use Prim.Native.Nat.{ℕ, ◌≤◌, ◌<◌, ◌-◌}
-use native.Mathlib.Numerals.{add-one}
-use native.Mathlib.Omega.{arith}
-use lib.ListN.{length, get_or, length-set}
+use lib.ListN.{length, get_or}
 use Rattle.rules.specs.Blocks.{block_start}
 use Rattle.trial.specs.Running.{waiting, nobody}
-use Rattle.trial.proofs.Starting.{crew_more}
 use Rattle.trial.proofs.crew.Given as goal
 
 abbrev pub invariant-loop-q : goal.invariant-loop-q

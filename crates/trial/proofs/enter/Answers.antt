@@ -66,7 +66,7 @@ loop-c-preserved c =
       search rules,
       λ l δ h. rw (add-one, c.begin_row.ensures, c.row_of-row.ensures, e)
           (entry_more a.processors l δ a.cells.now a.classes.now _ h u.c u.w c.loop-c-test.true
-          (record { sfits = c.begin_row-arg-in-loop-c-1.given }) (u.invariant.2 l δ h)),
+          (search rules) (u.invariant.2 l δ h)),
     )
 
 pub returns : goal.returns

@@ -21,7 +21,7 @@ abbrev pub invariant-loop-c : goal.invariant-loop-c
 invariant-loop-c l =
     (l.c ≤ length l.cells)
     × (length l.w ≡ length l.initial.w)
-    × ((l : Loop) (δ : Partition) → Entry l.processors l δ l.cells l.classes (length l.initial.w) → Begun l.size l.processors l.class l.entry l.c l.w)
+    × ((o : Loop) (δ : Partition) → Entry l.processors o δ l.cells l.classes (length l.initial.w) → Begun o.size l.processors o.class o.entry l.c l.w)
 
 abbrev pub decreases-loop-c : goal.decreases-loop-c
 decreases-loop-c l = length l.cells - l.c

@@ -18,8 +18,8 @@ invariant-loop-j l =
     × (length l.cells ≡ length l.initial.cells)
     × (length l.w ≡ length l.initial.w)
     × (length l.ws ≡ 8)
-    × ((l : Loop) (s : State) → Run l.code l.setting l l.initial.cells l.initial.w l.initial.ws s
-    → Run l.code l.setting l l.cells l.w l.ws (steps l (dealt l.setting) (take l.j l.schedule) s))
+    × ((o : Loop) (s : State) → Run l.code l.setting o l.initial.cells l.initial.w l.initial.ws s
+    → Run l.code l.setting o l.cells l.w l.ws (steps o (dealt l.setting) (take l.j l.schedule) s))
 
 abbrev pub decreases-loop-j : goal.decreases-loop-j
 decreases-loop-j l = length l.schedule - l.j

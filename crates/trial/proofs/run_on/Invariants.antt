@@ -18,7 +18,7 @@ invariant-loop-q l =
     × (length l.cells ≡ length l.initial.cells)
     × (length l.w ≡ length l.initial.w)
     × (length l.ws ≡ 8)
-    × ((l : Loop) (s : State) → Run l.code l.setting l l.initial.cells l.initial.w l.initial.ws s → Run l.code l.setting l l.cells l.w l.ws (run_on l (dealt l.setting) l.q s))
+    × ((o : Loop) (s : State) → Run l.code l.setting o l.initial.cells l.initial.w l.initial.ws s → Run l.code l.setting o l.cells l.w l.ws (run_on o (dealt l.setting) l.q s))
     × ((j : ℕ) → j < l.q → Over l.setting j (get_or l.ws j nobody))
 
 abbrev pub decreases-loop-q : goal.decreases-loop-q

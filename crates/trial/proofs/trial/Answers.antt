@@ -29,7 +29,7 @@ returns c =
     let f = c.follow-then in
     let b = c.begin-first in record {
       tries = λ l h. run_tried _ a.setting l _ _ _ h a.schedule.now _ _ _
-          (u.ensures.0 l (steps l (dealt a.setting) a.schedule.now (start l (dealt a.setting)))
+          (u.ensures.runs_on l (steps l (dealt a.setting) a.schedule.now (start l (dealt a.setting)))
           (f.ensures l (start l (dealt a.setting)) (b.ensures a.code.now l h)));
-      all_over = u.ensures.1;
+      all_over = u.ensures.all_over;
     }
