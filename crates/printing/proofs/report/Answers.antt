@@ -11,54 +11,40 @@ pub put_data_lines-requires : goal.put_data_lines-requires
 put_data_lines-requires c =
     let args = c.args in
     let pre = c.requires in
-    let put-comment = c.put_comment-at in
-    let enum_told-1 = c.enum_told-1 in
-    (omega (arith, comment_few args.answer, put-comment.ensures.place), pre.1 (subst Completes (sym enum_told-1.given.1) tt))
+    (omega (arith, comment_few args.answer, c.put_comment-at.ensures.place), pre.1 (subst Completes (sym c.in-Passed.is) tt))
 
 pub put_data_lines-requires-in-Rerun : goal.put_data_lines-requires-in-Rerun
 put_data_lines-requires-in-Rerun c =
     let args = c.args in
     let pre = c.requires in
-    let put-comment = c.put_comment-at in
-    let enum-told2 = c.enum_told-in-Rerun-1 in
-    (omega (arith, comment_few args.answer, put-comment.ensures.place), pre.1 (subst Completes (sym enum-told2.given.1) tt))
+    (omega (arith, comment_few args.answer, c.put_comment-at.ensures.place), pre.1 (subst Completes (sym c.in-Rerun.is) tt))
 
 pub returns-in-Passed : goal.returns-in-Passed
 returns-in-Passed c =
     let args = c.args in
     let pre = c.requires in
-    let put-comment = c.put_comment-at in
-    let enum_told-1 = c.enum_told-1 in
-    let put-data-lines = c.put_data_lines in
-    let k = pre.1 (subst Completes (sym enum_told-1.given.1) tt) in
-    reports_lines args.answer args.table.now args.cells.now _ pre.0 (subst Completes (sym enum_told-1.given.1) tt) k.0 k.1
-    put-comment.ensures put-data-lines.ensures
+    let k = pre.1 (subst Completes (sym c.in-Passed.is) tt) in
+    reports_lines args.answer args.table.now args.cells.now _ pre.0 (subst Completes (sym c.in-Passed.is) tt) k.0 k.1
+    c.put_comment-at.ensures c.put_data_lines.ensures
 
 pub returns-in-Rerun : goal.returns-in-Rerun
 returns-in-Rerun c =
     let args = c.args in
     let pre = c.requires in
-    let put-comment = c.put_comment-at in
-    let enum-told2 = c.enum_told-in-Rerun-1 in
-    let put-data-lines2 = c.put_data_lines-in-Rerun in
-    let k = pre.1 (subst Completes (sym enum-told2.given.1) tt) in
-    reports_lines args.answer args.table.now args.cells.now _ pre.0 (subst Completes (sym enum-told2.given.1) tt) k.0 k.1
-    put-comment.ensures put-data-lines2.ensures
+    let k = pre.1 (subst Completes (sym c.in-Rerun.is) tt) in
+    reports_lines args.answer args.table.now args.cells.now _ pre.0 (subst Completes (sym c.in-Rerun.is) tt) k.0 k.1
+    c.put_comment-at.ensures c.put_data_lines-in-Rerun.ensures
 
 pub returns-in-Faulted : goal.returns-in-Faulted
 returns-in-Faulted c =
     let args = c.args in
     let pre = c.requires in
-    let put-comment = c.put_comment-at in
-    let enum-told3 = c.enum_told-in-Faulted-1 in
     reports_refusal args.answer args.table.now args.cells.now _ pre.0
-    (λ (z : Completes args.answer). subst Completes enum-told3.given.1 z) put-comment.ensures
+    (λ (z : Completes args.answer). subst Completes c.in-Faulted.is z) c.put_comment-at.ensures
 
 pub returns-in-Refused : goal.returns-in-Refused
 returns-in-Refused c =
     let args = c.args in
     let pre = c.requires in
-    let put-comment = c.put_comment-at in
-    let enum-told4 = c.enum_told-in-Refused-1 in
     reports_refusal args.answer args.table.now args.cells.now _ pre.0
-    (λ (z : Completes args.answer). subst Completes enum-told4.given.1 z) put-comment.ensures
+    (λ (z : Completes args.answer). subst Completes c.in-Refused.is z) c.put_comment-at.ensures
