@@ -1,7 +1,6 @@
 -- `exports::done_answer` meets its contract.
 use mathlib.Core.Path.{sym, ap}
 use Rattle.exports.specs.Numbers.{done_numbers}
-use borrow.Author.Rules.{rules}
 use Rattle.exports.proofs.done_answer.Goals as goal
 
 pub returns-in-Done : goal.returns-in-Done

@@ -1,7 +1,6 @@
 -- `exports::lrpd_check` meets its contract.
 use mathlib.Core.Path.{sym, ap, ◌∙◌}
 use Rattle.exports.specs.Numbers.{check_numbers}
-use borrow.Author.Rules.{rules}
 use Rattle.exports.proofs.lrpd_check.Goals as goal
 
 pub returns-in-Sizes : goal.returns-in-Sizes

@@ -1,7 +1,6 @@
 -- `exports::lrpd_name` meets its contract.
 use mathlib.Core.Path.{sym, ap, ◌∙◌}
 use Rattle.exports.specs.Numbers.{name_numbers}
-use borrow.Author.Rules.{rules}
 use Rattle.exports.proofs.lrpd_name.Goals as goal
 
 pub returns-in-Cells : goal.returns-in-Cells

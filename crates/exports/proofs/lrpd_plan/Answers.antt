@@ -1,7 +1,6 @@
 -- `exports::lrpd_plan` meets its contract.
 use mathlib.Core.Path.{ap, ◌∙◌}
 use Rattle.exports.specs.Numbers.{plan_numbers}
-use borrow.Author.Rules.{rules}
 use Rattle.exports.proofs.lrpd_plan.Goals as goal
 
 pub returns : goal.returns
