@@ -7,6 +7,8 @@ ghost use Rattle.syntax.specs.Text.{read};
 ghost use Rattle.lrpd.specs.Output.{lent_for, printed_over, printed, Prints};
 
 use answers::Checked;
+use std::io;
+use std::io::{Read, Write};
 
 // The words that are lent: as many as 128 cells and 8 processors need.
 const WORKSPACE: usize = 13568;
@@ -48,10 +50,10 @@ fn print(text: &[u8], out: &mut [u8; 2236]) -> usize
     print_over(text, &mut cells[..n], out)
 }
 
-fn main() {
-    let mut text: [u8; 2049] = [0; 2049];
-    let n = io::read_full(0, &mut text);
+fn main(rt: HostRuntime) -> io::Result<()> {
+    let mut text = Vec::new(rt.alloc());
+    rt.stdin().take(2049).read_to_end(&mut text)?;
     let mut out: [u8; 2236] = [0; 2236];
-    let r = print(&text[..n], &mut out);
-    io::write_all(1, &out[..r]);
+    let r = print(&text, &mut out);
+    rt.stdout().write_all(&out[..r])
 }
