@@ -1,6 +1,6 @@
 -- RULES 2.1 to 2.4 (document 01, Integers; document 02, Points 2, 4 and 6). A cell's value is a number of ℤ from -2^31 to 2^31 - 1. Each operation is
 -- done on ℤ and its result wrapped, so that "wrap at 32 bits" is said once; `/` goes by cases instead. Assumes nothing.
-use Rattle.std.specs.Prelude.{ℕ, suc, ◌+◌, ◌-◌, ◌*◌, ◌/◌, ◌%◌, ◌^◌, min, max, Bool, false, cond, not, ℤ, pos, negsuc, ◌+ℤ◌, ◌-ℤ◌, ◌*ℤ◌, neg_ℤ, ◌==◌, int_le, int_lt, nat_lt}
+use Rattle.std.specs.Prelude.{ℕ, suc, ◌+◌, ◌-◌, ◌/◌, ◌%◌, ◌^◌, min, max, Bool, false, cond, not, ℤ, pos, negsuc, ◌+ℤ◌, ◌-ℤ◌, ◌*ℤ◌, neg_ℤ, ◌==◌, int_le, int_lt, nat_lt}
 use Rattle.int32.specs.declared.Divided.{Divided}
 use Rattle.int32.specs.declared.Divided.TheVariants.{Value, ByZero}
 use Rattle.int32.specs.declared.Relation.{Relation}

@@ -51,9 +51,17 @@ fn print(text: &[u8], out: &mut [u8; 2236]) -> usize
 }
 
 fn main(rt: HostRuntime) -> io::Result<()> {
-    let mut text = Vec::new(rt.alloc());
-    rt.stdin().take(2049).read_to_end(&mut text)?;
+    let mut text: [u8; 2049] = [0; 2049];
+    let mut input = rt.stdin();
+    let mut n = 0;
+    while n < 2049 {
+        let more = input.read(&mut text[n..])?;
+        if more == 0 {
+            break;
+        }
+        n += more;
+    }
     let mut out: [u8; 2236] = [0; 2236];
-    let r = print(&text, &mut out);
+    let r = print(&text[..n], &mut out);
     rt.stdout().write_all(&out[..r])
 }

@@ -1,5 +1,5 @@
 use Rattle.int32.proofs.Laws.{landed, seen, sum_words, sum_fits}
-use Rattle.std.proofs.Common.{◌∙◌, rules}
+use Rattle.std.proofs.Common.{◌∙◌}
 use Rattle.int32.proofs.add.Goals as goal
 
 pub returns : goal.returns

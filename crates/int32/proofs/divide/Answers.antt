@@ -1,4 +1,4 @@
-use Rattle.std.proofs.Common.{◌≡◌, sym, ap, ◌∙◌, ⊎_elim, w32, SFits, of_z}
+use Rattle.std.proofs.Common.{◌≡◌, sym, ap, ◌∙◌, w32, SFits, of_z}
 use mir.ValLaws.{to_z-of_z}
 use Rattle.int32.specs.declared.Divided.TheVariants.{Value}
 use Rattle.int32.specs.Integers.{truncated, quotient}

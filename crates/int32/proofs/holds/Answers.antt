@@ -1,4 +1,4 @@
-use Rattle.std.proofs.Common.{◌≡◌, Bool, not, ℤ, sym, ap, ◌∙◌, w32, SFits, to_z, of_z, rules}
+use Rattle.std.proofs.Common.{◌≡◌, Bool, not, ℤ, sym, ap, ◌∙◌, w32, SFits, to_z, of_z}
 use lib.Signed.{lt_z, le_z}
 use mir.ValLaws.{to_z-of_z}
 use Rattle.int32.specs.declared.Relation.{Relation}

@@ -1,5 +1,5 @@
 use Rattle.int32.proofs.Laws.{landed, seen, product_words, product_fits, words_fit}
-use Rattle.std.proofs.Common.{refl, ◌∙◌, rules}
+use Rattle.std.proofs.Common.{refl, ◌∙◌}
 use Rattle.int32.proofs.multiply.Goals as goal
 
 pub overflow_mul-p : goal.overflow_mul-p

@@ -1,6 +1,6 @@
 use Rattle.int32.specs.Integers.{word}
 use Rattle.int32.proofs.Laws.{landed, seen, difference_words, difference_zero, negation_fits}
-use Rattle.std.proofs.Common.{pos, refl, ◌∙◌, rules}
+use Rattle.std.proofs.Common.{pos, refl, ◌∙◌}
 use Rattle.int32.proofs.negate.Goals as goal
 
 pub returns : goal.returns

@@ -1,4 +1,4 @@
-use Rattle.std.proofs.Common.{◌≡◌, ℕ, suc, ◌-◌, ◌^◌, ◌<◌, ◌≤◌, ℤ, negsuc, ◌-ℤ◌, sym, ap, ◌∙◌, subst, arith, w32, SFits, to_z, rules}
+use Rattle.std.proofs.Common.{◌≡◌, ℕ, suc, ◌-◌, ◌^◌, ◌<◌, ◌≤◌, ℤ, negsuc, ◌-ℤ◌, sym, ap, ◌∙◌, subst, arith, w32, SFits, to_z}
 use mir.ValLaws.{to_z-of_z, to_z_pos}
 use Rattle.int32.specs.Integers.{value}
 use Rattle.int32.proofs.Laws.{value_to_z, value_cases}

@@ -1,4 +1,4 @@
-use Rattle.std.proofs.Common.{ℕ, ◌<◌, ◌≤◌, ℤ, nat_abs, sym, ap, ◌∙◌, subst, w32, of_z, rules}
+use Rattle.std.proofs.Common.{ℕ, ◌<◌, ◌≤◌, ℤ, nat_abs, sym, ap, ◌∙◌, subst, w32, of_z}
 use lib.Signed.{nat_abs-le}
 use mir.ValLaws.{to_z-of_z}
 use Rattle.int32.specs.declared.Divided.TheVariants.{Value}

@@ -1,4 +1,4 @@
-use Rattle.std.proofs.Common.{le_of_lt, mod-lt, div-le_self, arith, rules}
+use Rattle.std.proofs.Common.{le_of_lt, mod-lt, div-le_self, arith}
 use Rattle.int32.proofs.Division.{nearest_below, nearest_above, nearest_tie}
 use Rattle.int32.proofs.round_half_even.Goals as goal
 

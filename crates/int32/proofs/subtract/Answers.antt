@@ -1,5 +1,5 @@
 use Rattle.int32.proofs.Laws.{landed, seen, difference_words, difference_fits}
-use Rattle.std.proofs.Common.{◌∙◌, rules}
+use Rattle.std.proofs.Common.{◌∙◌}
 use Rattle.int32.proofs.subtract.Goals as goal
 
 pub returns : goal.returns

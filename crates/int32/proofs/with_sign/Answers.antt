@@ -1,4 +1,4 @@
-use Rattle.std.proofs.Common.{◌≡◌, ℕ, ◌+◌, ◌-◌, ◌%◌, ◌^◌, ◌<◌, ℤ, sym, ap, ◌∙◌, arith, rules}
+use Rattle.std.proofs.Common.{◌≡◌, ℕ, ◌+◌, ◌-◌, ◌%◌, ◌^◌, ◌<◌, ℤ, sym, ap, ◌∙◌, arith}
 use Rattle.int32.specs.SignWord.{sign_word}
 use Rattle.int32.proofs.Signs.{test_pos, test_neg}
 use Rattle.int32.proofs.with_sign.Goals as goal
