@@ -29,22 +29,22 @@ pub record Accepted (text : List ℕ) (r : Ready) (K C : List ℕ) : Type 0 wher
   pub verdict : read text ≡ good state
   pub prepares : Prepares state r K C
 
-module _ (text : List ℕ) (r : Ready) (K C₀ C : List ℕ) (h : Prepared (read text) r K C₀ C) where
+module _ (text : List ℕ) (r : Ready) (K C : List ℕ) (h : Prepared (read text) r K C) where
   pub ready_bad : (r.number ≡ 0 → ⊥) → read text ≡ refused r.number r.line
   unfolding Prepared
   ready_bad nz = go (read text) refl h
     where
-      go : (v : Verdict) → read text ≡ v → Prepared v r K C₀ C → read text ≡ refused r.number r.line
-      go (refused n k) e q = e ∙ (λ i. refused (sym q.0 i).number (sym q.0 i).line)
-      go (good s) e q = absurd (nz q.0.number)
+      go : (v : Verdict) → read text ≡ v → Prepared v r K C → read text ≡ refused r.number r.line
+      go (refused n k) e q = e ∙ (λ i. refused (sym q.0 i) (sym q.1 i))
+      go (good s) e q = absurd (nz q.number)
 
   pub ready_fine : r.number ≡ 0 → Accepted text r K C
   unfolding Prepared
   ready_fine z = go (read text) refl h
     where
-      go : (v : Verdict) → read text ≡ v → Prepared v r K C₀ C → Accepted text r K C
-      go (refused n k) e q = absurd (omega (arith, ap (λ (x : Ready). x.number) q.0, q.2, z))
-      go (good s) e q = record { state = s; verdict = e; prepares = q.0 }
+      go : (v : Verdict) → read text ≡ v → Prepared v r K C → Accepted text r K C
+      go (refused n k) e q = absurd (omega (arith, q.0, q.2, z))
+      go (good s) e q = record { state = s; verdict = e; prepares = q }
 
   pub ready_few : (a : Accepted text r K C) → (r.cells ≤ 4096) × (r.setting.processors ≤ 8)
   ready_few a =

@@ -1,6 +1,5 @@
 -- What is made ready for a run: what the reader found, the code, and the classes of the cells.
-use Rattle.std.specs.Prelude.{◌≡◌, List, ℕ, ◌≤◌, ◌<◌, length, get_or, take, pos}
-use Rattle.rules.specs.declared.Grouping.TheVariants.{Iterations}
+use Rattle.std.specs.Prelude.{◌≡◌, List, ℕ, ◌≤◌, ◌<◌, length, get_or, take}
 use Rattle.rules.specs.Numbers.{class_number}
 use Rattle.syntax.specs.Known.{State, cells}
 use Rattle.syntax.specs.Text.{Verdict, refused, good}
@@ -12,7 +11,6 @@ use Rattle.preparing.specs.declared.Ready.{Ready}
 -- for the text of s: the first words of K are its code, and C has its cells' classes
 pub record Prepares (s : State) (r : Ready) (K C : List ℕ) : Type 0 where
   pub number : r.number ≡ 0
-  pub line : r.line ≡ 0
   pub cells_are : r.cells ≡ cells s.table
   pub processors : r.setting.processors ≡ s.processors
   pub grouping : r.setting.grouping ≡ s.grouping
@@ -24,17 +22,6 @@ pub record Prepares (s : State) (r : Ready) (K C : List ℕ) : Type 0 where
   pub few_processors : s.processors ≤ 8
   pub classes : (c : ℕ) → c < cells s.table → get_or C c 0 ≡ class_number (class_of s.table c)
 
--- a refusal with its number and line; nothing else is told
-abbrev pub unready : ℕ → ℕ → Ready
-unready n k = record {
-  number = n;
-  line = k;
-  cells = 0;
-  setting = record { processors = 0; grouping = Iterations; iterations = 0; from = pos 0 };
-  end = 0;
-}
-
--- where C were the classes: those past the cells of an accepted text are as they were, and after a refusal all are
-unfoldable pub Prepared : Verdict → Ready → List ℕ → List ℕ → List ℕ → Type 0
-Prepared (refused n k) r K C C' = (r ≡ unready n k) × (C' ≡ C) × (0 < n)
-Prepared (good s) r K C C' = Prepares s r K C' × ((c : ℕ) → cells s.table ≤ c → get_or C' c 0 ≡ get_or C c 0)
+unfoldable pub Prepared : Verdict → Ready → List ℕ → List ℕ → Type 0
+Prepared (refused n k) r K C = (r.number ≡ n) × (r.line ≡ k) × (0 < n)
+Prepared (good s) r K C = Prepares s r K C

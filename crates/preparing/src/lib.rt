@@ -19,10 +19,10 @@ pub struct Ready {
     pub end: usize,
 }
 
-// Reads a text, and makes its code and the classes of its cells ready. Free: the code past its end, and after a refusal all of it.
+// Reads a text, and makes its code and the classes of its cells ready.
 pub fn prepare(text: &[u8], code: &mut [u32], classes: &mut [u32]) -> Ready
     requires { (length code.old ≡ code_words) × (length classes.old ≡ 4096) }
-    ensures { Prepared (read_text text.now) result code.new classes.old classes.new }
+    ensures { Prepared (read_text text.now) result code.new classes.new }
 {
     let mut table = [0; names::WORDS];
     let mut initial: [i32; 4096] = [0; 4096];

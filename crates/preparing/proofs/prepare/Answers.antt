@@ -8,7 +8,7 @@ use borrow.Author.Rules.{rules}
 use Rattle.preparing.proofs.prepare.Goals as goal
 
 pub returns-then-p-ne0 : goal.returns-then-p-ne0
-returns-then-p-ne0 c = prepared_bad _ _ _ _ _ c.read-r.ensures c.if-p-ne0.true _ _ refl
+returns-then-p-ne0 c = prepared_bad _ _ _ _ _ c.read-r.ensures c.if-p-ne0.true _ _ refl refl
 
 pub classes-requires : goal.classes-requires
 classes-requires c =
@@ -25,4 +25,4 @@ overflow_mul-result c =
 pub returns : goal.returns
 returns c =
     let e : to_z w32 (of_z w32 c.read-r.result.progress.from) ≡ c.read-r.result.progress.from = search rules in
-    prepared_fine _ _ _ _ _ c.read-r.ensures c.if-p-ne0.false _ _ _ c.requires.1 c.classes.ensures refl refl refl refl refl refl e refl
+    prepared_fine _ _ _ _ _ c.read-r.ensures c.if-p-ne0.false _ _ _ c.requires.1 c.classes.ensures refl refl refl refl refl e refl
