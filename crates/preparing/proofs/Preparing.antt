@@ -6,7 +6,7 @@ use native.Mathlib.Omega.{arith}
 use borrow.Author.Tests.{leb-true}
 use lib.ListN.{length, take}
 use lib.IntN.{ℤ}
-use Rattle.syntax.specs.Known.{State, cells}
+use Rattle.syntax.specs.Known.{State}
 use Rattle.syntax.specs.Text.{Verdict, read}
 use Rattle.syntax.specs.Sane.{Sane}
 use Rattle.syntax.proofs.Sane.{accepted_sane, accepted_finished}

@@ -16,7 +16,7 @@ use Rattle.rules.specs.declared.Operator.TheVariants.{Sum, Product, Maximum}
 use Rattle.syntax.specs.declared.ClauseKind.{ClauseKind}
 use Rattle.syntax.specs.declared.ClauseKind.TheVariants.{Shared, Lastprivate, Firstprivate, Reduction}
 use Rattle.syntax.specs.Bytes.{bytes, Token, digits, sign, word_of}
-use Rattle.syntax.specs.Grammar.{Lead, bare, plus, minus, Expr, expr, Ref, single, element, Declared, one, array, grid, Item, item, Clause, clause, threads, static, assign, when, otherwise, end_if, Line, declare, give, direct, loop, inside, end_do, close, show_lead, show_rel, show_more, show_list, show_name, show, show_ref, show_declared, show_signed, show_item, show_operator, show_kind, show_clause, show_clauses, show_line}
+use Rattle.syntax.specs.Grammar.{Lead, bare, plus, minus, Expr, Ref, single, element, Declared, one, array, grid, Item, item, Clause, clause, threads, static, assign, when, otherwise, end_if, Line, declare, give, direct, loop, inside, end_do, close, show_lead, show_rel, show_more, show_list, show_name, show, show_ref, show_declared, show_signed, show_item, show_operator, show_kind, show_clause, show_clauses, show_line}
 use Rattle.syntax.specs.Reader.{done, Reader, kind, is, sees, says, read_name, is_digits, given, operator_of, read_operator, read_more, read_declared, read_declare, read_signed, read_item, read_give, read_kind, read_names, read_clause, read_clauses, read_directive, read_loop, read_assign, read_when, read_end, read_start, read_line, first, rest, syntax_of, parse}
 use Rattle.syntax.specs.Spelled.{Spells, here, token}
 use Rattle.syntax.proofs.CompleteExpr.{cond_true, yes_choose, no_choose, binds, and_no, Low, Top, Unsigned, splits, expect_it, want_it, name_it, digits_it, lead_it, rel_it, close_ends, closed, completes}

@@ -11,8 +11,8 @@ use lib.Dec.{eqb}
 use lib.ListN.{length}
 use Rattle.rules.specs.declared.Operator.TheVariants.{Sum, Product, Maximum}
 use Rattle.syntax.specs.Bytes.{Token}
-use Rattle.syntax.specs.Grammar.{Lead, expr, item, Line, sg, show_digits, show_more, show_name, show_declared, show_signed, show_item, show_operator, show_kind, show_clause, show_clauses, show_line}
-use Rattle.syntax.specs.Reader.{Parsed, broken, done, Reader, kind, is, sees, says, expects, wants, finish, read_name, is_digits, read_digits, given, read_rel, read_operator, read_lead, read_expr, read_ref, read_more, read_list, read_declared, read_declare, read_signed, read_item, read_give, read_kind, read_threads, read_clause, read_clauses, read_directive, read_loop, read_assign, read_when, read_end, read_start, read_line, first, rest, syntax_of, parse}
+use Rattle.syntax.specs.Grammar.{Lead, item, Line, sg, show_digits, show_more, show_name, show_declared, show_signed, show_item, show_operator, show_kind, show_clause, show_clauses, show_line}
+use Rattle.syntax.specs.Reader.{Parsed, broken, done, Reader, kind, sees, says, expects, wants, finish, read_name, is_digits, read_digits, given, read_rel, read_operator, read_lead, read_expr, read_ref, read_more, read_list, read_declared, read_declare, read_signed, read_item, read_give, read_kind, read_threads, read_clause, read_clauses, read_directive, read_loop, read_assign, read_when, read_end, read_start, read_line, first, rest, syntax_of, parse}
 use Rattle.syntax.specs.Spelled.{Spells, here, token}
 use Rattle.syntax.proofs.SoundExpr.{Sound, sees_sound, says_sound, lead_sound, rel_sound, sounds}
 use Rattle.syntax.proofs.Spelling.{not_done, same_done, bound, chosen, conded, tokenly, kind_is, ◌▸◌, expects_sound, wants_sound, name_sound, digits_sound}

@@ -5,7 +5,7 @@ use mathlib.Core.Logic.{inl, inr}
 use mathlib.Core.Bool.{Bool, true, false, cond, ◌||◌}
 use mathlib.Core.List.{List, [], ◌∷◌, ◌++◌}
 use mathlib.Core.Option.{Option, none, some}
-use Prim.Native.Nat.{ℕ, zero, suc, ◌+◌, ◌*◌}
+use Prim.Native.Nat.{ℕ, zero, suc}
 use Prim.Native.String.{String}
 use native.Mathlib.Omega.{arith}
 use Rattle.int32.specs.declared.Relation.{Relation}
@@ -13,7 +13,7 @@ use Rattle.int32.specs.declared.Relation.TheVariants.{Equal, Unequal, Less, AtMo
 use Rattle.syntax.specs.declared.Function.{Function}
 use Rattle.syntax.specs.declared.Function.TheVariants.{Rdiv, Max}
 use Rattle.syntax.specs.Bytes.{bytes, Token, sign, word_of}
-use Rattle.syntax.specs.Grammar.{bare, plus, minus, expr, terms, term, factors, Factor, call, show_lead, show_rel, show_function, show, show_terms, show_term, show_factors, show_factor, show_ref, show_subscripts}
+use Rattle.syntax.specs.Grammar.{bare, plus, minus, Factor, call, show_lead, show_rel, show_function, show, show_terms, show_term, show_factors, show_factor, show_ref, show_subscripts}
 use Rattle.syntax.specs.Reader.{Parsed, done, Reader, next, sees, says, expects, read_name, is_digits, read_digits, given, read_rel, read_lead, read_pair, read_subscripts, read_expr, read_terms, read_term, read_factors, read_factor, read_ref}
 use Rattle.syntax.specs.Spelled.{Spells, here}
 use Rattle.syntax.proofs.Spelling.{not_done, same_done, bound, chosen, is_true, ◌▸◌, one_token, expects_sound, name_sound, digits_sound}

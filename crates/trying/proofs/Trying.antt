@@ -10,7 +10,7 @@ use lib.IntN.{ℤ}
 use Rattle.rules.specs.Loop.{Loop}
 use Rattle.rules.specs.Obstacles.{Obstructed}
 use Rattle.rules.specs.Steps.{Faulty}
-use Rattle.syntax.specs.Known.{State, cells}
+use Rattle.syntax.specs.Known.{State}
 use Rattle.syntax.specs.Text.{Verdict, refused, good, read}
 use Rattle.syntax.specs.Meaning.{loop_of, partition_of}
 use Rattle.code.specs.Instr.{words}

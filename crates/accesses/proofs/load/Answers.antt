@@ -1,6 +1,5 @@
 -- `accesses::load` meets its contract.
 use native.Mathlib.Omega.{arith}
-use borrow.Author.Rules.{rules}
 use Rattle.code.specs.Instr.{perform}
 use Rattle.operands.specs.Performing.{left}
 use Rattle.operands.proofs.Pending.{room_in, room_out}

@@ -1,7 +1,6 @@
 -- `accesses::locate_both` meets its contract.
 use mathlib.Core.Path.{◌≡◌, refl}
 use native.Mathlib.Omega.{arith}
-use borrow.Author.Rules.{rules}
 use Rattle.accesses.specs.declared.Located.TheVariants.{Cell, Outside}
 use Rattle.accesses.specs.Cells.{at_cell}
 use Rattle.accesses.proofs.Subscripts.{in_grid_found, located_below, sum_fits}

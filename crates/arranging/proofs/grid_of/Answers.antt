@@ -3,7 +3,6 @@ use mathlib.Core.Path.{sym, ◌∙◌, ap}
 use native.Mathlib.Omega.{arith}
 use Rattle.arranging.specs.Sought.{grid_told}
 use Rattle.arranging.proofs.Answering.{told_few, told_two}
-use borrow.Author.Rules.{rules}
 use Rattle.arranging.proofs.grid_of.Goals as goal
 
 pub returns-then-subscripts-lt2 : goal.returns-then-subscripts-lt2

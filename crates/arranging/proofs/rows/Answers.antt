@@ -4,7 +4,6 @@ use native.Mathlib.Omega.{arith}
 use Rattle.grids.specs.Arrange.{by_rows}
 use Rattle.answers.specs.Answers.{cells_by_rows}
 use Rattle.arranging.proofs.Answering.{room, answers, leaves}
-use borrow.Author.Rules.{rules}
 use Rattle.arranging.proofs.rows.Goals as goal
 
 pub to_rows-requires : goal.to_rows-requires

@@ -2,7 +2,6 @@
 use mathlib.Core.Path.{◌∙◌}
 use Rattle.preparing.proofs.Verdicts.{is_bad, is_fine}
 use Rattle.arranging.proofs.Answering.{seek_bad, seek_other, seek_fine}
-use borrow.Author.Rules.{rules}
 use Rattle.arranging.proofs.seek.Goals as goal
 
 pub returns-then-p-ne0 : goal.returns-then-p-ne0

@@ -1,7 +1,6 @@
 -- `checking::check` meets its contract.
 use Rattle.preparing.proofs.Verdicts.{is_bad, is_fine}
 use Rattle.checking.proofs.Answering.{check_bad, check_fine}
-use borrow.Author.Rules.{rules}
 use Rattle.checking.proofs.check.Goals as goal
 
 pub returns-then-p-eq0 : goal.returns-then-p-eq0

@@ -4,7 +4,6 @@ use native.Mathlib.Omega.{arith}
 use lib.ListN.{replicate}
 use Rattle.reader.proofs.Whole.{lowered_at}
 use Rattle.describing.proofs.Answering.{over_long, declared, undeclared}
-use borrow.Author.Rules.{rules}
 use Rattle.describing.proofs.located.Goals as goal
 
 pub returns-then-n-gt-LONGEST : goal.returns-then-n-gt-LONGEST

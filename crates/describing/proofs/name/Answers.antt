@@ -1,7 +1,6 @@
 -- `describing::name` meets its contract.
 use Rattle.preparing.proofs.Verdicts.{is_bad, is_fine}
 use Rattle.describing.proofs.Answering.{name_bad, name_fine}
-use borrow.Author.Rules.{rules}
 use Rattle.describing.proofs.name.Goals as goal
 
 pub returns-then-p-ne0 : goal.returns-then-p-ne0

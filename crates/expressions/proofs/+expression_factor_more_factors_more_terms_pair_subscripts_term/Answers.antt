@@ -1,16 +1,10 @@
 -- The readers of expressions call each other. "Remaining bytes and bracket depth give the falling number": two for each byte that is left, one for each
 -- bracket that may still open, and the level of the reader. Each answer hands what is known to one law of `Sums` or `Factors`.
-use Prim.Native.Nat.{ℕ, suc, ◌+◌, ◌-◌, ◌*◌, ◌<◌}
-use mathlib.Core.List.{List}
-use mathlib.Core.Logic.{◌⊎◌, ⊎_elim}
-use mathlib.Core.Path.{◌≡◌, refl, sym, ◌∙◌, ap}
+use Prim.Native.Nat.{suc, ◌+◌}
+use mathlib.Core.Path.{refl, sym, ◌∙◌, ap}
 use native.Mathlib.Numerals.{add-one}
 use native.Mathlib.Omega.{arith}
-use lib.ListN.{length}
-use borrow.Author.Rules.{rules}
 use Rattle.parts.specs.Parts.{joined}
-use Rattle.parts.specs.declared.Joint.{Joint}
-use Rattle.parts.specs.declared.Joint.TheVariants.{First, Second}
 use Rattle.parts.specs.declared.Beginning.TheVariants.{Literal, Bracket, Call, Name, Element}
 use Rattle.parts.proofs.Spans.{within_done, within_from, within_sealed, within_inside, ready_room, ready_next, ready_past, ready_later}
 use Rattle.expressions.proofs.Shapes.{some_sign, first_stands, named, begins_kind, begins_digits}

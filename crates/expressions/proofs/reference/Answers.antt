@@ -5,7 +5,6 @@ use Rattle.parts.specs.declared.Beginning.TheVariants.{Element}
 use Rattle.parts.proofs.Spans.{ready_later}
 use Rattle.expressions.proofs.Shapes.{named, begins_kind}
 use Rattle.expressions.proofs.Factors.{passed, reference_single, reference_element, reference_none}
-use borrow.Author.Rules.{rules}
 use Rattle.expressions.proofs.reference.Goals as goal
 
 pub named-requires : goal.named-requires

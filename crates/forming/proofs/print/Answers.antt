@@ -5,7 +5,6 @@ use lib.ListN.{replicate}
 use Rattle.preparing.proofs.Verdicts.{is_bad, is_fine}
 use Rattle.reader.proofs.Whole.{lowered_at}
 use Rattle.forming.proofs.Answering.{print_bad, fine_short, fine_low, fine_lines, fine_fits, print_fine}
-use borrow.Author.Rules.{rules}
 use Rattle.forming.proofs.print.Goals as goal
 
 pub returns-then-p-ne0 : goal.returns-then-p-ne0

@@ -7,7 +7,6 @@ use lib.ListN.{length}
 use Rattle.writing.specs.Written.{Writes}
 use Rattle.forming.specs.Lines.{lines_form}
 use Rattle.forming.proofs.Answering.{none_lent, form_refused, form_given}
-use borrow.Author.Rules.{rules}
 use Rattle.forming.proofs.put_form.Goals as goal
 
 pub returns-then-bytes-size : goal.returns-then-bytes-size

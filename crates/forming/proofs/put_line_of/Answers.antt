@@ -4,7 +4,6 @@ use native.Mathlib.Omega.{arith}
 use lib.ListN.{length}
 use Rattle.writing.proofs.Writing.{writes_none, writes_as}
 use Rattle.forming.proofs.Shapes.{skipped_none, spoken_prints}
-use borrow.Author.Rules.{rules}
 use Rattle.forming.proofs.put_line_of.Goals as goal
 
 pub returns-then-is_skipped : goal.returns-then-is_skipped

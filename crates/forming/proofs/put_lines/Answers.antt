@@ -1,11 +1,9 @@
 -- `forming::put_lines` meets its contract: the lines before a place are written, and those from it on are left.
-use mathlib.Core.Path.{◌≡◌, refl}
-use Prim.Native.Nat.{◌+◌, ◌-◌}
+use mathlib.Core.Path.{refl}
 use native.Mathlib.Omega.{arith}
-use lib.ListN.{length}
 use Rattle.reader.proofs.TextLines.{end_within, end_after}
 use Rattle.writing.proofs.Writing.{writes_length}
-use Rattle.forming.proofs.Whole.{Reached, reached_none, this_good, this_short, this_fits, all_written, reached_more}
+use Rattle.forming.proofs.Whole.{reached_none, this_good, this_short, this_fits, all_written, reached_more}
 use Rattle.forming.proofs.put_lines.Goals as goal
 
 pub loop-at-init : goal.loop-at-init

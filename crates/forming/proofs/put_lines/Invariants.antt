@@ -1,11 +1,8 @@
 -- `forming::put_lines` meets its contract: the lines before a place are written, and those from it on are left.
-use mathlib.Core.Path.{◌≡◌, refl}
+use mathlib.Core.Path.{◌≡◌}
 use Prim.Native.Nat.{◌+◌, ◌-◌}
-use native.Mathlib.Omega.{arith}
 use lib.ListN.{length}
-use Rattle.reader.proofs.TextLines.{end_within, end_after}
-use Rattle.writing.proofs.Writing.{writes_length}
-use Rattle.forming.proofs.Whole.{Reached, reached_none, this_good, this_short, this_fits, all_written, reached_more}
+use Rattle.forming.proofs.Whole.{Reached}
 use Rattle.forming.proofs.put_lines.Given as goal
 
 abbrev pub invariant-loop-at : goal.invariant-loop-at

@@ -4,7 +4,6 @@ use Rattle.printed.specs.Form.{after_blanks}
 use Rattle.writing.proofs.Writing.{writes_none}
 use Rattle.forming.specs.Lines.{shaped}
 use Rattle.forming.proofs.Shapes.{shape_room, shape_writes}
-use borrow.Author.Rules.{rules}
 use Rattle.forming.proofs.put_shape.Goals as goal
 
 pub put_line-requires : goal.put_line-requires

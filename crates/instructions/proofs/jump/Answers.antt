@@ -1,7 +1,6 @@
 -- `instructions::jump` meets its contract.
 use mathlib.Core.Path.{refl}
 use native.Mathlib.Omega.{arith}
-use borrow.Author.Rules.{rules}
 use Rattle.code.specs.Instr.{perform}
 use Rattle.operands.proofs.Performing.{goes}
 use Rattle.instructions.proofs.jump.Goals as goal

@@ -1,6 +1,5 @@
 -- `instructions::relation` meets its contract.
 use mathlib.Core.Path.{sym}
-use borrow.Author.Rules.{rules}
 use Rattle.instructions.proofs.Decoding.{past_all, relation_last}
 use Rattle.instructions.proofs.relation.Goals as goal
 

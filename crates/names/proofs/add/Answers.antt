@@ -1,7 +1,6 @@
 -- `names::add` meets its contract: the name is written, then the rest of its entry, and there is a name more.
 use native.Mathlib.Omega.{arith}
 use Rattle.names.proofs.Rows.{added, full}
-use borrow.Author.Rules.{rules}
 use Rattle.names.proofs.add.Goals as goal
 
 pub returns-then-n-ge-MOST : goal.returns-then-n-ge-MOST

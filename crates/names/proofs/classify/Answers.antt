@@ -3,7 +3,6 @@ use native.Mathlib.Omega.{arith}
 use Rattle.names.specs.Table.{facts_word}
 use Rattle.names.proofs.Laws.{word_place}
 use Rattle.names.proofs.Rows.{classed}
-use borrow.Author.Rules.{rules}
 use Rattle.names.proofs.classify.Goals as goal
 
 pub returns : goal.returns

@@ -3,7 +3,6 @@ use native.Mathlib.Omega.{arith}
 use Rattle.names.specs.Table.{facts_word}
 use Rattle.names.proofs.Laws.{word_place}
 use Rattle.names.proofs.Rows.{copied_in}
-use borrow.Author.Rules.{rules}
 use Rattle.names.proofs.copy_in.Goals as goal
 
 pub returns : goal.returns

@@ -1,6 +1,5 @@
 -- `names::count` meets its contract.
 use native.Mathlib.Omega.{arith}
-use borrow.Author.Rules.{rules}
 use Rattle.names.proofs.count.Goals as goal
 
 pub returns-then-n-lt-MOST : goal.returns-then-n-lt-MOST

@@ -5,7 +5,6 @@ use Prim.Native.Nat.{ℕ, ◌<◌}
 use native.Mathlib.Omega.{arith}
 use Rattle.names.specs.Table.{count_in, first_word, size_word, rows_word, columns_word, facts_word}
 use Rattle.names.proofs.Laws.{knows_none, knows_there, stands_there, word_place}
-use borrow.Author.Rules.{rules}
 use Rattle.names.proofs.find.Goals as goal
 
 pub returns-then-count-i : goal.returns-then-count-i

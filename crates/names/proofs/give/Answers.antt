@@ -6,7 +6,6 @@ use lib.ListN.{set}
 use Rattle.names.specs.Table.{Gave, facts_word, entry_words}
 use Rattle.names.proofs.Laws.{word_place}
 use Rattle.names.proofs.Rows.{gave}
-use borrow.Author.Rules.{rules}
 use Rattle.names.proofs.give.Goals as goal
 
 pub returns : goal.returns

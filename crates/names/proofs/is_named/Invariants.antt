@@ -1,15 +1,8 @@
 -- `names::is_named` meets its contract: the lengths are compared, and then the bytes up to the first that differs.
-use Prim.Native.Nat.{ℕ, ◌≤◌, ◌<◌, ◌+◌, ◌*◌, ◌-◌}
-use mathlib.Core.Path.{◌≡◌, sym, ◌∙◌, ap}
-use native.Mathlib.Omega.{arith}
-use borrow.Author.Count.{below_more}
-use borrow.Author.Rules.{rules}
+use Prim.Native.Nat.{ℕ, ◌≤◌, ◌<◌, ◌-◌}
+use mathlib.Core.Path.{◌≡◌}
 use lib.ListN.{length, get_or}
-use mathlib.Core.List.{List}
-use Rattle.rules.specs.Cells.{listed}
-use Rattle.syntax.specs.Bytes.{same}
-use Rattle.names.specs.Table.{word_at, name_at, length_at, length_word, entry_words}
-use Rattle.names.proofs.Laws.{same_listed, same_differs, name_long, name_other, word_place}
+use Rattle.names.specs.Table.{word_at}
 use Rattle.names.proofs.is_named.Given as goal
 
 abbrev pub invariant-loop-k : goal.invariant-loop-k

@@ -1,11 +1,9 @@
 -- `names::position` meets its contract: no entry before i has the name.
 use Prim.Native.Nat.{ℕ, ◌≤◌, ◌<◌, ◌-◌}
-use mathlib.Core.Path.{◌≡◌, sym, ◌∙◌}
+use mathlib.Core.Path.{◌≡◌}
 use mathlib.Core.Bool.{false}
-use native.Mathlib.Omega.{arith}
-use borrow.Author.Count.{below_more}
 use Rattle.syntax.specs.Bytes.{same}
-use Rattle.names.specs.Table.{name_at, count_in}
+use Rattle.names.specs.Table.{name_at}
 use Rattle.names.proofs.position.Given as goal
 
 abbrev pub invariant-loop-i : goal.invariant-loop-i

@@ -1,13 +1,8 @@
 -- `names::put_name` meets its contract: the first k bytes stand in the entry's first k words, and no other word has changed.
 use Prim.Native.Nat.{ℕ, ◌≤◌, ◌<◌, ◌+◌, ◌*◌, ◌-◌}
-use mathlib.Core.Path.{◌≡◌, refl, sym, ◌∙◌, ap}
-use mathlib.Core.List.{List}
-use native.Mathlib.Decide.{ℕ_discrete}
-use native.Mathlib.Omega.{arith}
-use lib.ListN.{length, get_or, set, length-set}
-use lib.Seq.{get_or-set_same, get_or-set_other}
-use Rattle.names.specs.Table.{word_at, table_words, name_words, length_word, first_word, entry_words}
-use Rattle.names.proofs.Laws.{name_written, set_elsewhere}
+use mathlib.Core.Path.{◌≡◌}
+use lib.ListN.{length, get_or}
+use Rattle.names.specs.Table.{word_at, table_words, entry_words}
 use Rattle.names.proofs.put_name.Given as goal
 
 abbrev pub invariant-loop-k : goal.invariant-loop-k

@@ -1,12 +1,9 @@
 -- `outcome::is_faulty` meets its contract: none of the records passed has a fault.
-use borrow.Author.Rules.{rules}
 use mathlib.Core.Path.{◌≡◌}
 use mathlib.Core.Bool.{true, false}
-use Prim.Native.Nat.{ℕ, ◌≤◌, ◌<◌, ◌-◌}
+use Prim.Native.Nat.{ℕ}
 use native.Mathlib.Omega.{arith}
 use borrow.Author.Count.{below_more}
-use lib.ListN.{get_or}
-use Rattle.trial.specs.Running.{nobody}
 use Rattle.outcome.proofs.is_faulty.Goals as goal
 
 pub loop-q-init : goal.loop-q-init

@@ -1,7 +1,6 @@
 -- `reader::broken_line` meets its contract.
 use mathlib.Core.Path.{ap}
 use Rattle.lines.specs.declared.Progress.{Progress}
-use borrow.Author.Rules.{rules}
 use Rattle.reader.proofs.broken_line.Goals as goal
 
 pub returns : goal.returns

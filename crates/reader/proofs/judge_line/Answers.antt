@@ -2,7 +2,6 @@
 use mathlib.Core.Path.{sym, ◌∙◌}
 use native.Mathlib.Omega.{arith}
 use Rattle.reader.proofs.Judging.{bad_bytes, skipped_early, skipped_good, ends_late, ends_open}
-use borrow.Author.Rules.{rules}
 use Rattle.reader.proofs.judge_line.Goals as goal
 
 pub returns-then-p-lt6 : goal.returns-then-p-lt6

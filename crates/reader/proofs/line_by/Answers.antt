@@ -2,7 +2,6 @@
 use native.Mathlib.Omega.{arith}
 use Rattle.kinds.specs.Kinds.{read_by}
 use Rattle.reader.proofs.Dispatch.{inside_else, inside_end_if, inside_end_do, underway, as_kind, as_broken}
-use borrow.Author.Rules.{rules}
 use Rattle.reader.proofs.line_by.Goals as goal
 
 pub else_line-requires : goal.else_line-requires

@@ -4,7 +4,6 @@ use mathlib.Core.Logic.{inl, inr}
 use native.Mathlib.Omega.{arith}
 use Rattle.syntax.specs.Conditions.{may_follow}
 use Rattle.reader.proofs.Judging.{stands_not, ends_early, judged_line, ends_right}
-use borrow.Author.Rules.{rules}
 use Rattle.reader.proofs.spoken_line.Goals as goal
 
 pub returns-then-stage-lt6 : goal.returns-then-stage-lt6

@@ -4,7 +4,6 @@ use Prim.Native.Nat.{ℕ}
 use native.Mathlib.Omega.{arith}
 use lib.ListN.{replicate}
 use Rattle.running.proofs.Settling.{run_refused, was_made, stands_so, can_restore, words_two, run_keeps, can_conclude, run_concludes}
-use borrow.Author.Rules.{rules}
 use Rattle.running.proofs.run.Goals as goal
 
 pub returns-then-t-ne0 : goal.returns-then-t-ne0

@@ -1,8 +1,7 @@
 -- `setup::classes` meets its contract: the numbers are the classes by the names from i on.
 use Prim.Native.Nat.{◌-◌}
 use native.Mathlib.Omega.{arith}
-use borrow.Author.Rules.{rules}
-use Rattle.setup.proofs.ClassLaws.{Classing, classing_none, classing_more, classing_all}
+use Rattle.setup.proofs.ClassLaws.{classing_none, classing_more, classing_all}
 use Rattle.setup.proofs.classes.Goals as goal
 
 pub loop-i-init : goal.loop-i-init

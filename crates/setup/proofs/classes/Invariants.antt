@@ -1,8 +1,5 @@
 -- `setup::classes` meets its contract: the numbers are the classes by the names from i on.
-use Prim.Native.Nat.{◌-◌}
-use native.Mathlib.Omega.{arith}
-use borrow.Author.Rules.{rules}
-use Rattle.setup.proofs.ClassLaws.{Classing, classing_none, classing_more, classing_all}
+use Rattle.setup.proofs.ClassLaws.{Classing}
 use Rattle.setup.proofs.classes.Given as goal
 
 abbrev pub invariant-loop-i : goal.invariant-loop-i

@@ -1,8 +1,5 @@
 -- `setup::fill` meets its contract: the cells up to c are filled.
-use Prim.Native.Nat.{◌≤◌, ◌-◌, max}
 use native.Mathlib.Omega.{arith}
-use borrow.Author.Rules.{rules}
-use Rattle.setup.specs.Classes.{Filled}
 use Rattle.setup.proofs.ClassLaws.{filled_none, filled_more, filled_all}
 use Rattle.setup.proofs.fill.Goals as goal
 

@@ -1,7 +1,6 @@
 -- `setup::mark` meets its contract.
 use native.Mathlib.Omega.{arith}
 use Rattle.setup.proofs.ClassLaws.{filled_as}
-use borrow.Author.Rules.{rules}
 use Rattle.setup.proofs.mark.Goals as goal
 
 pub returns : goal.returns

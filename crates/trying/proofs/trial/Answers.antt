@@ -5,7 +5,6 @@ use lib.ListN.{length}
 use Rattle.preparing.proofs.Beginning.{ready_bad, ready_fine, ready_few, can_try}
 use Rattle.fitting.proofs.Fits.{fit_zero}
 use Rattle.trying.proofs.Trying.{try_refused, try_unfit, stands_there, try_done}
-use borrow.Author.Rules.{rules}
 use Rattle.trying.proofs.trial.Goals as goal
 
 pub returns-then-r-ne0 : goal.returns-then-r-ne0

@@ -1,7 +1,6 @@
 -- `view::show` meets its contract: the cells passed are shown.
 use borrow.Author.Rules.{rules}
 use mathlib.Core.Path.{◌≡◌, refl}
-use Prim.Native.Nat.{◌≤◌, ◌-◌}
 use native.Mathlib.Numerals.{add-one}
 use native.Mathlib.Omega.{arith}
 use mir.Syntax.{w32}
@@ -12,7 +11,7 @@ use Rattle.int32.specs.Integers.{word}
 use Rattle.rules.specs.Cells.{cell_of}
 use Rattle.tables.specs.Layout.{row_at}
 use Rattle.findings.specs.Findings.{marks_of}
-use Rattle.view.proofs.Viewing.{Showing, showing_more, standing_shown}
+use Rattle.view.proofs.Viewing.{showing_more, standing_shown}
 use Rattle.trial.proofs.StandingLaws.{suits_low, standing_size, standing_room}
 use Rattle.view.proofs.show.Goals as goal
 

@@ -3,7 +3,6 @@ use mathlib.Core.Path.{sym, ◌∙◌, ap}
 use Prim.Native.Nat.{ℕ, ◌*◌}
 use lib.ListN.{replicate}
 use Rattle.view.proofs.Looking.{can_follow, can_show, same_size, shows_after}
-use borrow.Author.Rules.{rules}
 use Rattle.view.proofs.show_after.Goals as goal
 
 pub follow-then-requires : goal.follow-then-requires

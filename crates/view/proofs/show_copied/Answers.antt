@@ -1,6 +1,5 @@
 -- `view::show_copied` meets its contract.
 use Rattle.view.proofs.Looking.{can_front, shows_front}
-use borrow.Author.Rules.{rules}
 use Rattle.view.proofs.show_copied.Goals as goal
 
 pub show_after-requires : goal.show_after-requires
