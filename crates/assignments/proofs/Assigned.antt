@@ -6,7 +6,7 @@ use Prim.Native.Nat.{ℕ, suc, ◌+◌, ◌-◌, ◌*◌, ◌≤◌, ◌<◌, ma
 use native.Mathlib.Omega.{arith}
 use lib.ListN.{length, drop, set}
 use lib.Seq.{sets}
-use Rattle.syntax.specs.Bytes.{bytes, same}
+use Rattle.syntax.specs.Bytes.{same}
 use Rattle.syntax.specs.Grammar.{Expr, Ref, single, element}
 use Rattle.rules.specs.declared.Operator.{Operator}
 use Rattle.rules.specs.declared.Operator.TheVariants.{Sum, Product, Maximum}
@@ -16,7 +16,7 @@ use Rattle.rules.proofs.NumberLaws.{operator_number}
 use Rattle.syntax.specs.Known.{Entry, find}
 use Rattle.syntax.specs.Meaning.{is_reduction, same_ref, repeated, operator_at}
 use Rattle.syntax.specs.Conditions.{ref_name, mentions, in_ref}
-use Rattle.syntax.specs.Reader.{Parsed, broken, done, next, kind, peek_in, skip_in, read_expr, read_ref}
+use Rattle.syntax.specs.Reader.{Parsed, broken, done, next, peek_in, skip_in, read_expr, read_ref}
 use Rattle.code.specs.Instr.{words}
 use Rattle.code.specs.Compile.{code, code_ref, stores, checks, updates}
 use Rattle.names.specs.declared.Named as names

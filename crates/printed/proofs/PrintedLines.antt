@@ -9,7 +9,6 @@ use borrow.Author.Tests.{leb-true, ne_eqb}
 use Rattle.syntax.specs.Bytes.{all, same, lower, printable, letter, after_newline, in_front, lines, Token, bytes_of, tokens, skipped_line, directive_line, starts, bytes, trimmed}
 use Rattle.syntax.specs.Grammar.{single, element, show_ref, Item, assign, when, otherwise, end_if, Line, declare, give, direct, loop, inside, end_do, close, show_line}
 use Rattle.syntax.specs.Conditions.{concat}
-use Rattle.syntax.specs.Follows.{spoken}
 use Rattle.syntax.specs.Sane.{Each}
 use Rattle.syntax.proofs.Spelling.{both_true}
 use Rattle.syntax.proofs.CompleteExpr.{no_choose}

@@ -15,7 +15,7 @@ use Rattle.rules.specs.Log.{Log}
 use Rattle.rules.specs.Serial.{Result, along, from, serial}
 use Rattle.syntax.specs.declared.Function.{Function}
 use Rattle.syntax.specs.declared.Function.TheVariants.{Rdiv, Max}
-use Rattle.syntax.specs.Bytes.{choose, same, Token, name, other_word, digits, sign, equal}
+use Rattle.syntax.specs.Bytes.{choose, Token, name, other_word, digits, sign, equal}
 use Rattle.syntax.specs.Grammar.{number, Lead, bare, plus, minus, Expr, expr, Terms, no_terms, terms, Term, term, Factors, no_factors, factors, Factor, literal, cell, call, brackets, Ref, single, element, Subscripts, subscript, subscripts, show_ref}
 use Rattle.syntax.specs.Known.{Entry, rows, columns, State, Stmts, find, cells}
 use Rattle.syntax.specs.Meaning.{zeros_aside, alike, reference, unled, followed, multiplied, summand, times, multiplicand, alone, compared, rival, repeated, same_ref, is_reduction, operator_at, is_update, second_of, remainder, led, located, in_grid, divides, called, is_variable, eval, eval_terms, eval_term, eval_factors, eval_factor, place, subscripted_cell, assigned, exec, class_of, loop_of}

@@ -10,8 +10,8 @@ use lib.ListN.{length, length-map}
 use Rattle.rules.specs.declared.Grouping.{Grouping}
 use Rattle.syntax.specs.Bytes.{all, any, same}
 use Rattle.syntax.specs.Grammar.{assign, when, otherwise, end_if, Line, declare, give, direct, loop, inside, end_do, close}
-use Rattle.syntax.specs.Known.{Entry, State, Open, Stmts, then_do, branched, turned, signed, iterations, cells, known, find, entries, give_to, in_lastprivate, in_firstprivate, in_another, grouping_by, classify, heading, stating, otherwise_after, end_if_after, after, nothing}
-use Rattle.syntax.specs.Conditions.{opens, in_line, rightly, is_given, different, each_once, singly, names, small, bounds, limits, stage_of, may_follow, else_fits, none_open, fits, stands}
+use Rattle.syntax.specs.Known.{Entry, State, Open, Stmts, then_do, branched, turned, signed, iterations, cells, known, find, entries, give_to, in_lastprivate, in_firstprivate, in_another, grouping_by, classify, heading, stating, otherwise_after, end_if_after, after}
+use Rattle.syntax.specs.Conditions.{in_line, rightly, is_given, different, each_once, singly, names, small, bounds, limits, stage_of, may_follow, else_fits, none_open, fits, stands}
 use Rattle.printed.specs.Restated.{short_expr, short_declared, short, SameStmts, sets, branches, divides, SameKnown}
 use Rattle.printed.specs.Restated as restated
 use Rattle.printed.proofs.ZeroLaws.{number_shortest}

@@ -1,10 +1,7 @@
 -- `alike::alike` meets its contract: what was passed of both runs of tokens is the same.
-use Prim.Native.Nat.{◌≤◌, ◌-◌}
-use lib.ListN.{length}
 use native.Mathlib.Omega.{arith}
-use borrow.Author.Rules.{rules}
 use borrow.Author.Tests.{leb-true, leb-false, not-true, not-false}
-use Rattle.alike.proofs.Tokens.{same_some, Walked, walk_starts, walk_on, walk_differs, walk_short, walk_ends}
+use Rattle.alike.proofs.Tokens.{same_some, walk_starts, walk_on, walk_differs, walk_short, walk_ends}
 use Rattle.alike.proofs.alike.Goals as goal
 
 pub loop-i-init : goal.loop-i-init

@@ -1,9 +1,6 @@
 -- `alike::past_zeros` meets its contract: what is passed is zeros.
-use Prim.Native.Nat.{◌≤◌, ◌-◌}
-use mathlib.Core.Path.{◌≡◌, refl, ◌∙◌}
+use mathlib.Core.Path.{refl, ◌∙◌}
 use native.Mathlib.Omega.{arith}
-use Rattle.syntax.specs.Meaning.{no_zeros}
-use Rattle.lexer.specs.Lex.{part}
 use Rattle.alike.proofs.Tokens.{zeros_on, zeros_off, zeros_out}
 use Rattle.alike.proofs.past_zeros.Goals as goal
 

@@ -1,10 +1,8 @@
 -- `alike::past_zeros` meets its contract: what is passed is zeros.
 use Prim.Native.Nat.{◌≤◌, ◌-◌}
-use mathlib.Core.Path.{◌≡◌, refl, ◌∙◌}
-use native.Mathlib.Omega.{arith}
+use mathlib.Core.Path.{◌≡◌}
 use Rattle.syntax.specs.Meaning.{no_zeros}
 use Rattle.lexer.specs.Lex.{part}
-use Rattle.alike.proofs.Tokens.{zeros_on, zeros_off, zeros_out}
 use Rattle.alike.proofs.past_zeros.Given as goal
 
 abbrev pub invariant-loop-i : goal.invariant-loop-i

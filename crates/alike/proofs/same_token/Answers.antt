@@ -3,7 +3,6 @@ use mathlib.Core.Path.{refl, sym, ◌∙◌}
 use borrow.Author.Tests.{not-true, not-false}
 use Rattle.syntax.specs.Bytes.{same}
 use Rattle.lexer.specs.Lex.{part, kind_number}
-use borrow.Author.Rules.{rules}
 use Rattle.alike.proofs.Tokens.{same_by}
 use Rattle.alike.proofs.same_token.Goals as goal
 

@@ -2,7 +2,6 @@
 use mathlib.Core.Path.{refl, ◌∙◌}
 use native.Mathlib.Omega.{arith}
 use Rattle.syntax.specs.Bytes.{bytes}
-use borrow.Author.Rules.{rules}
 use Rattle.lexer.proofs.PlaceLaws.{pass_onward}
 use Rattle.parts.proofs.Spans.{within_done}
 use Rattle.updates.proofs.Resting.{past_done}

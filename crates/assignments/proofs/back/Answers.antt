@@ -1,5 +1,4 @@
 -- `assignments::back` meets its contract.
-use borrow.Author.Rules.{rules}
 use Rattle.assignments.proofs.Assigned.{back_on, back_unread}
 use Rattle.assignments.proofs.back.Goals as goal
 

@@ -1,6 +1,5 @@
 -- `assignments::offer` meets its contract.
 use borrow.Author.Tests.{not-true, not-false}
-use borrow.Author.Rules.{rules}
 use Rattle.assignments.proofs.Assigned.{offers_none, offers_some}
 use Rattle.assignments.proofs.offer.Goals as goal
 

@@ -1,7 +1,6 @@
 -- `assignments::operand_of` meets its contract.
 use mathlib.Core.Path.{sym, ◌∙◌, ap}
 use mathlib.Core.Bool.{Bool, cond}
-use borrow.Author.Rules.{rules}
 use Rattle.parts.specs.Parts.{span_of}
 use Rattle.assignments.proofs.operand_of.Goals as goal
 

@@ -1,6 +1,5 @@
 -- `assignments::storing` meets its contract.
 use native.Mathlib.Omega.{arith}
-use borrow.Author.Rules.{rules}
 use Rattle.parts.proofs.Spans.{within_done}
 use Rattle.assignments.proofs.Assigned.{room_back, closes_on, closes_not, stores_answers}
 use Rattle.assignments.proofs.storing.Goals as goal

@@ -3,7 +3,6 @@ use mathlib.Core.Path.{sym, ◌∙◌, ap}
 use native.Mathlib.Omega.{arith}
 use lib.ListN.{length, drop}
 use borrow.Author.Tests.{not-true, not-false, eqb-true, eqb-false}
-use borrow.Author.Rules.{rules}
 use Rattle.lexer.proofs.Said.{name_short}
 use Rattle.assignments.proofs.Assigned.{targets_none, targets_some}
 use Rattle.assignments.proofs.target_of.Goals as goal

@@ -1,6 +1,5 @@
 -- `assignments::test` meets its contract.
 use mathlib.Core.Path.{refl}
-use borrow.Author.Rules.{rules}
 use Rattle.assignments.proofs.Assigned.{tests_some, tests_none}
 use Rattle.assignments.proofs.test.Goals as goal
 

@@ -1,6 +1,5 @@
 -- `assignments::updating` meets its contract.
 use native.Mathlib.Omega.{arith}
-use borrow.Author.Rules.{rules}
 use Rattle.assignments.proofs.Assigned.{test_few, room_after, updates_answers}
 use Rattle.assignments.proofs.updating.Goals as goal
 

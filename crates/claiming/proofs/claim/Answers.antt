@@ -4,7 +4,6 @@ use native.Mathlib.Omega.{arith}
 use borrow.Author.Tests.{not-true, not-false}
 use Rattle.claiming.specs.Claims.{class_by}
 use Rattle.claiming.proofs.NamesClaimed.{claims_none, claims_taken, claims_free, variable_keeps}
-use borrow.Author.Rules.{rules}
 use Rattle.claiming.proofs.claim.Goals as goal
 
 pub returns-then-not-n : goal.returns-then-not-n

@@ -3,7 +3,6 @@ use mathlib.Core.Path.{refl}
 use native.Mathlib.Omega.{arith}
 use borrow.Author.Tests.{not-true, not-false}
 use Rattle.claiming.proofs.NamesClaimed.{copies_none, copies_other, copies_last, variable_keeps}
-use borrow.Author.Rules.{rules}
 use Rattle.claiming.proofs.copy.Goals as goal
 
 pub returns-then-not-n : goal.returns-then-not-n

@@ -1,7 +1,6 @@
 -- `claiming::deed_of` meets its contract.
 use mathlib.Core.Path.{sym, ◌∙◌}
 use Rattle.claiming.proofs.NamesClaimed.{deed_claims}
-use borrow.Author.Rules.{rules}
 use Rattle.claiming.proofs.deed_of.Goals as goal
 
 pub returns-in-Classes-reading : goal.returns-in-Classes-reading

@@ -1,7 +1,6 @@
 -- `claiming::dispose` meets its contract, by what is to be done.
 use mathlib.Core.Path.{refl}
 use Rattle.claiming.proofs.NamesClaimed.{as_deed, skipped}
-use borrow.Author.Rules.{rules}
 use Rattle.claiming.proofs.dispose.Goals as goal
 
 pub returns-in-Skip : goal.returns-in-Skip

@@ -1,7 +1,6 @@
 -- `conditions::comparison` meets its contract.
 use mathlib.Core.Path.{refl}
 use native.Mathlib.Omega.{arith}
-use borrow.Author.Rules.{rules}
 use Rattle.parts.proofs.Spans.{within_inside, within_sealed, ready_later, ready_room}
 use Rattle.conditions.proofs.Comparisons.{related_by, related_not, within_word, compared_none, compared_answers}
 use Rattle.conditions.proofs.comparison.Goals as goal

@@ -1,7 +1,6 @@
 -- `conditions::condition` meets its contract.
 use mathlib.Core.Path.{refl}
 use native.Mathlib.Omega.{arith}
-use borrow.Author.Rules.{rules}
 use Rattle.parts.proofs.Spans.{within_done}
 use Rattle.conditions.proofs.Comparisons.{compares_on, compares_not, condition_unread, condition_compiles}
 use Rattle.conditions.proofs.condition.Goals as goal

@@ -1,6 +1,5 @@
 -- `conditions::relation` meets its contract: the relations are tried in turn.
 use mathlib.Core.Path.{refl}
-use borrow.Author.Rules.{rules}
 use Rattle.syntax.specs.Bytes.{bytes}
 use Rattle.conditions.specs.Comparison.{Relates}
 use Rattle.conditions.proofs.Comparisons.{sign_is, passes_said, relation_is}

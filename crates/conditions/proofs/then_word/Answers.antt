@@ -1,7 +1,6 @@
 -- `conditions::then_word` meets its contract.
 use mathlib.Core.Path.{subst}
 use native.Mathlib.Omega.{arith}
-use borrow.Author.Rules.{rules}
 use Rattle.parts.specs.Parts.{Inside}
 use Rattle.conditions.proofs.Comparisons.{then_ends, then_other, then_unread}
 use Rattle.conditions.proofs.then_word.Goals as goal

@@ -1,7 +1,6 @@
 -- `exports::lrpd_look` meets its contract.
 use mathlib.Core.Path.{ap, ◌∙◌}
 use Rattle.exports.specs.Numbers.{done_numbers}
-use borrow.Author.Rules.{rules}
 use Rattle.exports.proofs.lrpd_look.Goals as goal
 
 pub returns : goal.returns

@@ -1,7 +1,6 @@
 -- `exports::lrpd_run` meets its contract.
 use mathlib.Core.Path.{ap, ◌∙◌}
 use Rattle.exports.specs.Numbers.{run_numbers}
-use borrow.Author.Rules.{rules}
 use Rattle.exports.proofs.lrpd_run.Goals as goal
 
 pub returns : goal.returns

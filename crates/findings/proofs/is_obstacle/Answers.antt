@@ -1,6 +1,5 @@
 -- `findings::is_obstacle` meets its contract.
 use mathlib.Core.Path.{sym, ◌∙◌}
-use borrow.Author.Rules.{rules}
 use borrow.Author.Tests.{eq-eqb, ne_eqb}
 use Rattle.findings.proofs.is_obstacle.Goals as goal
 

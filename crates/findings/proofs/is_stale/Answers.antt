@@ -1,6 +1,5 @@
 -- `findings::is_stale` meets its contract.
 use mathlib.Core.Path.{sym, ◌∙◌}
-use borrow.Author.Rules.{rules}
 use borrow.Author.Tests.{lt-ltb, le-ltb}
 use Rattle.findings.proofs.is_stale.Goals as goal
 

@@ -1,11 +1,6 @@
 -- `findings::last_value` meets its contract: the word is that of the processors passed.
-use mathlib.Core.Path.{◌≡◌, refl}
+use mathlib.Core.Path.{◌≡◌}
 use Prim.Native.Nat.{◌-◌, ◌≤◌}
-use native.Mathlib.Omega.{arith}
-use native.Mathlib.Numerals.{add-one}
-use borrow.Author.Rules.{rules}
-use mir.Syntax.{w32}
-use mir.Val.{to_z, of_z}
 use Rattle.findings.specs.Findings.{last_word}
 use Rattle.findings.proofs.last_value.Given as goal
 

@@ -1,13 +1,7 @@
 -- `findings::total` meets its contract: the result is that of the processors passed.
-use mathlib.Core.Path.{◌≡◌, ◌∙◌}
+use mathlib.Core.Path.{◌≡◌}
 use Prim.Native.Nat.{◌-◌, ◌≤◌}
-use native.Mathlib.Omega.{arith}
-use native.Mathlib.Numerals.{add-one}
-use borrow.Author.Rules.{rules}
-use mir.Syntax.{w32}
-use mir.Val.{to_z, of_z}
 use Rattle.rules.specs.Operation.{operation}
-use Rattle.rules.specs.Merge.{join_all}
 use Rattle.findings.specs.Findings.{gathered}
 use Rattle.findings.proofs.total.Given as goal
 

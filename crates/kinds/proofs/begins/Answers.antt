@@ -1,7 +1,6 @@
 -- `kinds::begins` meets its contract.
 use mathlib.Core.Path.{refl, ◌∙◌}
 use Rattle.kinds.proofs.WholeLines.{begins_at}
-use borrow.Author.Rules.{rules}
 use Rattle.kinds.proofs.begins.Goals as goal
 
 pub returns : goal.returns

@@ -1,7 +1,6 @@
 -- `kinds::directive_kind` meets its contract.
 use mathlib.Core.Path.{refl, ◌∙◌}
 use Rattle.kinds.proofs.Starts.{said, directive_closing, directive_opening}
-use borrow.Author.Rules.{rules}
 use Rattle.kinds.proofs.directive_kind.Goals as goal
 
 pub returns-then-reads : goal.returns-then-reads

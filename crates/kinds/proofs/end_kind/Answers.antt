@@ -1,7 +1,6 @@
 -- `kinds::end_kind` meets its contract.
 use mathlib.Core.Path.{refl, ◌∙◌}
 use Rattle.kinds.proofs.Starts.{said, end_of_if, end_of_do, end_of_none}
-use borrow.Author.Rules.{rules}
 use Rattle.kinds.proofs.end_kind.Goals as goal
 
 pub returns-then-reads : goal.returns-then-reads

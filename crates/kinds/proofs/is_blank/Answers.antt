@@ -1,6 +1,5 @@
 -- `kinds::is_blank` meets its contract.
 use Rattle.kinds.proofs.WholeLines.{blank_is}
-use borrow.Author.Rules.{rules}
 use Rattle.kinds.proofs.is_blank.Goals as goal
 
 pub returns : goal.returns

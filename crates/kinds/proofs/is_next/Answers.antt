@@ -1,7 +1,6 @@
 -- `kinds::is_next` meets its contract.
 use mathlib.Core.Path.{◌∙◌}
 use Rattle.kinds.proofs.Order.{next_one, next_same, next_two, next_none}
-use borrow.Author.Rules.{rules}
 use Rattle.kinds.proofs.is_next.Goals as goal
 
 pub returns-then-n-k : goal.returns-then-n-k

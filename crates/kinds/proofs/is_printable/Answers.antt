@@ -1,9 +1,7 @@
 -- `kinds::is_printable` meets its contract.
-use mathlib.Core.Path.{◌≡◌, refl, sym, ◌∙◌}
-use Prim.Native.Nat.{◌≤◌, ◌-◌}
+use mathlib.Core.Path.{refl, sym, ◌∙◌}
 use native.Mathlib.Omega.{arith}
-use lib.ListN.{length, drop}
-use Rattle.syntax.specs.Bytes.{all, printable}
+use Rattle.syntax.specs.Bytes.{printable}
 use Rattle.syntax.proofs.TestLaws.{all_on, all_off, all_out}
 use Rattle.kinds.proofs.WholeLines.{printable_low, printable_high, printable_mid}
 use Rattle.kinds.proofs.is_printable.Goals as goal

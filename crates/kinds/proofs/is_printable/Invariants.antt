@@ -1,11 +1,8 @@
 -- `kinds::is_printable` meets its contract.
-use mathlib.Core.Path.{◌≡◌, refl, sym, ◌∙◌}
+use mathlib.Core.Path.{◌≡◌}
 use Prim.Native.Nat.{◌≤◌, ◌-◌}
-use native.Mathlib.Omega.{arith}
 use lib.ListN.{length, drop}
 use Rattle.syntax.specs.Bytes.{all, printable}
-use Rattle.syntax.proofs.TestLaws.{all_on, all_off, all_out}
-use Rattle.kinds.proofs.WholeLines.{printable_low, printable_high, printable_mid}
 use Rattle.kinds.proofs.is_printable.Given as goal
 
 abbrev pub invariant-loop-i : goal.invariant-loop-i

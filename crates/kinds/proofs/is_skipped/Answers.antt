@@ -2,7 +2,6 @@
 use mathlib.Core.Path.{refl, sym, ◌∙◌}
 use mathlib.Core.Bool.{true, false}
 use Rattle.kinds.proofs.WholeLines.{skipped_by}
-use borrow.Author.Rules.{rules}
 use Rattle.kinds.proofs.is_skipped.Goals as goal
 
 pub returns-then-is_blank : goal.returns-then-is_blank

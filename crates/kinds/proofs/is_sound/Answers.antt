@@ -2,7 +2,6 @@
 use mathlib.Core.Path.{refl, sym, ◌∙◌}
 use mathlib.Core.Bool.{true, false}
 use Rattle.kinds.proofs.WholeLines.{sound_by}
-use borrow.Author.Rules.{rules}
 use Rattle.kinds.proofs.is_sound.Goals as goal
 
 pub returns-then-begins : goal.returns-then-begins

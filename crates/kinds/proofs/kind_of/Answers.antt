@@ -2,7 +2,6 @@
 use mathlib.Core.Path.{refl, ◌∙◌}
 use Rattle.kinds.proofs.Starts.{said, seen, starts_integer, starts_data, starts_directive, starts_do, starts_if, starts_else, starts_end, starts_endif, starts_enddo, starts_other}
 use Rattle.lexer.proofs.PlaceLaws.{taken_next, taken_within}
-use borrow.Author.Rules.{rules}
 use Rattle.kinds.proofs.kind_of.Goals as goal
 
 pub returns-then-reads : goal.returns-then-reads

@@ -2,7 +2,6 @@
 use mathlib.Core.Path.{refl}
 use native.Mathlib.Omega.{arith}
 use Rattle.kinds.proofs.Order.{staged}
-use borrow.Author.Rules.{rules}
 use Rattle.kinds.proofs.stage_of.Goals as goal
 
 pub returns-in-Broken : goal.returns-in-Broken

@@ -3,7 +3,6 @@ use mathlib.Core.Path.{subst}
 use Rattle.syntax.specs.Reader.{read_assign, peek_in, skip_in}
 use Rattle.statements.specs.Statement.{Compiles}
 use Rattle.lines.proofs.StatementLines.{assign_line, compiled_broken}
-use borrow.Author.Rules.{rules}
 use Rattle.lines.proofs.assign_line.Goals as goal
 
 pub returns-in-Done : goal.returns-in-Done

@@ -1,6 +1,5 @@
 -- `lines::close_line` meets its contract.
 use Rattle.lines.proofs.EndLines.{close_line}
-use borrow.Author.Rules.{rules}
 use Rattle.lines.proofs.close_line.Goals as goal
 
 pub returns : goal.returns

@@ -1,6 +1,5 @@
 -- `lines::data_line` meets its contract.
 use Rattle.lines.proofs.GiveLine.{give_line}
-use borrow.Author.Rules.{rules}
 use Rattle.lines.proofs.data_line.Goals as goal
 
 pub returns : goal.returns

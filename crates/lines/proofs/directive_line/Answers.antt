@@ -1,7 +1,6 @@
 -- `lines::directive_line` meets its contract: the clauses that may stand so often do, or not.
 use mathlib.Core.Path.{refl, sym, ◌∙◌}
 use Rattle.lines.proofs.DirectLine.{direct_line, direct_broken}
-use borrow.Author.Rules.{rules}
 use Rattle.lines.proofs.directive_line.Goals as goal
 
 pub returns-then-stands_rightly : goal.returns-then-stands_rightly

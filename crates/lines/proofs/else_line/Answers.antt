@@ -6,7 +6,6 @@ use native.Mathlib.Omega.{arith}
 use lib.ListN.{set}
 use Rattle.lines.proofs.InnermostJump.{jumps}
 use Rattle.lines.proofs.BranchLines.{else_none, else_again, else_turns}
-use borrow.Author.Rules.{rules}
 use Rattle.lines.proofs.else_line.Goals as goal
 
 pub returns-then-depth-eq0 : goal.returns-then-depth-eq0

@@ -1,7 +1,6 @@
 -- `lines::end_do_line` meets its contract.
 use native.Mathlib.Omega.{arith}
 use Rattle.lines.proofs.EndLines.{end_do_line, end_do_open}
-use borrow.Author.Rules.{rules}
 use Rattle.lines.proofs.end_do_line.Goals as goal
 
 pub returns-then-depth-eq0 : goal.returns-then-depth-eq0

@@ -2,7 +2,6 @@
 use native.Mathlib.Omega.{arith}
 use Rattle.lines.proofs.InnermostJump.{jumps}
 use Rattle.lines.proofs.BranchLines.{end_if_none, end_if_ends}
-use borrow.Author.Rules.{rules}
 use Rattle.lines.proofs.end_if_line.Goals as goal
 
 pub returns-then-depth-eq0 : goal.returns-then-depth-eq0

@@ -6,7 +6,6 @@ use native.Mathlib.Omega.{arith}
 use Rattle.syntax.specs.Reader.{read_when, peek_in, skip_in}
 use Rattle.statements.specs.Statement.{Compiles}
 use Rattle.lines.proofs.StatementLines.{when_line, when_deep, compiled_broken, compiled_bounded, compiled_number}
-use borrow.Author.Rules.{rules}
 use Rattle.lines.proofs.if_line.Goals as goal
 
 pub open_word-requires : goal.open_word-requires

@@ -1,6 +1,5 @@
 -- `lines::integer_line` meets its contract.
 use Rattle.lines.proofs.DeclareLine.{declare_line}
-use borrow.Author.Rules.{rules}
 use Rattle.lines.proofs.integer_line.Goals as goal
 
 pub returns : goal.returns

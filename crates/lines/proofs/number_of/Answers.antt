@@ -4,7 +4,6 @@ use native.Mathlib.Omega.{arith}
 use borrow.Author.Tests.{not-true, not-false}
 use Rattle.lines.specs.Progress.{numbered}
 use Rattle.lines.proofs.Verdicts.{numbers_beyond, numbers_more, numbers_end, numbered_large}
-use borrow.Author.Rules.{rules}
 use Rattle.lines.proofs.number_of.Goals as goal
 
 pub returns-then-s-next : goal.returns-then-s-next

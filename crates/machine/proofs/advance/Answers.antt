@@ -1,15 +1,12 @@
 -- `machine::advance` meets its contract: what is done from the place that the loop has reached is what is done from the first.
 use mathlib.Core.Path.{◌≡◌, refl, ◌∙◌}
-use Prim.Native.Nat.{◌≤◌, ◌-◌}
 use native.Mathlib.Omega.{arith}
 use borrow.Author.Rules.{rules}
 use mir.Syntax.{w32}
 use mir.Val.{to_z, of_z}
-use lib.ListN.{length}
 use Rattle.operands.specs.declared.Next.TheVariants.{On, Stop}
-use Rattle.operands.specs.Pending.{pendings}
 use Rattle.operands.specs.Performing.{left, then}
-use Rattle.machine.proofs.Resuming.{from, from_past, from_performed, accesses_most}
+use Rattle.machine.proofs.Resuming.{from_past, from_performed, accesses_most}
 use Rattle.machine.proofs.advance.Goals as goal
 
 pub loop-at-init : goal.loop-at-init

@@ -1,6 +1,5 @@
 -- `noting::count` meets its contract.
 use native.Mathlib.Omega.{arith}
-use borrow.Author.Rules.{rules}
 use lib.ListN.{length-set}
 use Rattle.noting.specs.Changes.{counted}
 use Rattle.noting.proofs.count.Goals as goal

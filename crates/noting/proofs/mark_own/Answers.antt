@@ -4,7 +4,6 @@ use native.Mathlib.Omega.{arith}
 use lib.ListN.{length-set}
 use Rattle.int32.proofs.Laws.{seen}
 use Rattle.noting.specs.Changes.{own_written}
-use borrow.Author.Rules.{rules}
 use Rattle.noting.proofs.mark_own.Goals as goal
 
 pub bounds-w-own-2 : goal.bounds-w-own-2

@@ -1,6 +1,5 @@
 -- `noting::mark_row` meets its contract.
 use native.Mathlib.Omega.{arith}
-use borrow.Author.Rules.{rules}
 use lib.ListN.{length-set}
 use Rattle.noting.specs.Changes.{row_written}
 use Rattle.noting.proofs.mark_row.Goals as goal

@@ -1,6 +1,5 @@
 -- `noting::met_by` meets its contract.
 use mathlib.Core.Path.{◌∙◌, ap}
-use borrow.Author.Rules.{rules}
 use Rattle.rules.specs.Choose.{pick}
 use Rattle.noting.proofs.met_by.Goals as goal
 

@@ -1,6 +1,5 @@
 -- `noting::note_read` meets its contract.
 use native.Mathlib.Omega.{arith}
-use borrow.Author.Rules.{rules}
 use lib.ListN.{length-set}
 use Rattle.noting.specs.Changes.{read_noted}
 use Rattle.noting.proofs.note_read.Goals as goal

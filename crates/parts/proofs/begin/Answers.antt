@@ -1,7 +1,6 @@
 -- `parts::begin` meets its contract: the tests are those of the definition, in its order.
 use mathlib.Core.Path.{refl, sym, ◌∙◌}
 use borrow.Author.Tests.{eqb-true, eqb-false}
-use borrow.Author.Rules.{rules}
 use Rattle.syntax.specs.Bytes.{bytes}
 use Rattle.lexer.proofs.Said.{says_said}
 use Rattle.parts.proofs.Signs.{sign_seen, begins_literal, begins_bracket, begins_rdiv, begins_max, begins_element, begins_name, begins_none}

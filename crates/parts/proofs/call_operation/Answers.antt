@@ -1,6 +1,5 @@
 -- `parts::call_operation` meets its contract, function by function.
 use mathlib.Core.Path.{sym, ap}
-use borrow.Author.Rules.{rules}
 use Rattle.code.specs.Instr.{operation}
 use Rattle.code.specs.Compile.{calls}
 use Rattle.syntax.specs.declared.Function.{Function}

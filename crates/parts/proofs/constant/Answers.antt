@@ -2,7 +2,6 @@
 use mathlib.Core.Path.{sym, ◌∙◌, ap}
 use native.Mathlib.Omega.{arith}
 use Prim.Native.Nat.{max}
-use borrow.Author.Rules.{rules}
 use Rattle.parts.proofs.Leaves.{literal_pushes}
 use Rattle.parts.specs.Parts.{Room}
 use Rattle.parts.proofs.constant.Goals as goal

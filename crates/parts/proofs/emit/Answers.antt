@@ -2,7 +2,6 @@
 use native.Mathlib.Omega.{arith}
 use native.Mathlib.Numerals.{add-one}
 use lib.ListN.{length-set}
-use borrow.Author.Rules.{rules}
 use Rattle.parts.proofs.emit.Goals as goal
 
 pub bounds-code-i-2 : goal.bounds-code-i-2

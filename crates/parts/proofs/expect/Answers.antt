@@ -1,6 +1,5 @@
 -- `parts::expect` meets its contract.
 use mathlib.Core.Path.{subst}
-use borrow.Author.Rules.{rules}
 use Rattle.parts.proofs.Signs.{sign_seen, sealed_closes, sealed_other, sealed_unread}
 use Rattle.parts.specs.Parts.{Inside}
 use Rattle.parts.proofs.expect.Goals as goal

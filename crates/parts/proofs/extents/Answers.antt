@@ -1,7 +1,6 @@
 -- `parts::extents` meets its contract.
 use native.Mathlib.Omega.{arith}
 use borrow.Author.Tests.{le-leb, lt-leb}
-use borrow.Author.Rules.{rules}
 use Rattle.parts.proofs.extents.Goals as goal
 
 pub returns-then-rows-gt4096 : goal.returns-then-rows-gt4096

@@ -1,7 +1,6 @@
 -- `parts::factor_operation` meets its contract, sign by sign.
 use mathlib.Core.Path.{◌≡◌, sym, ap}
 use Prim.Native.Nat.{ℕ}
-use borrow.Author.Rules.{rules}
 use Rattle.code.specs.Instr.{multiply, divide, operation}
 use Rattle.parts.specs.Parts.{chosen}
 use Rattle.parts.specs.declared.Joint.{Joint}

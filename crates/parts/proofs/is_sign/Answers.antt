@@ -1,5 +1,4 @@
 -- `parts::is_sign` meets its contract.
-use borrow.Author.Rules.{rules}
 use Rattle.parts.proofs.Signs.{same_byte, same_no_byte}
 use Rattle.parts.proofs.is_sign.Goals as goal
 

@@ -1,5 +1,4 @@
 -- `parts::join` meets its contract: the first sign is tried before the second.
-use borrow.Author.Rules.{rules}
 use Rattle.parts.proofs.Signs.{sign_seen, joins_first, joins_second, joins_none}
 use Rattle.parts.proofs.join.Goals as goal
 

@@ -6,7 +6,6 @@ use Prim.Native.Nat.{ℕ}
 use borrow.Author.Tests.{not-true, not-false, eq-eqb, ne_eqb}
 use Rattle.names.specs.Table.{variable_of}
 use Rattle.parts.proofs.Names.{rank_by}
-use borrow.Author.Rules.{rules}
 use Rattle.parts.proofs.name_rank.Goals as goal
 
 pub returns-then-subscripts-eq0 : goal.returns-then-subscripts-eq0

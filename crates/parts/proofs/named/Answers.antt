@@ -4,7 +4,6 @@ use mathlib.Core.Path.{sym, ◌∙◌, ap}
 use mathlib.Core.List.{List}
 use Prim.Native.Nat.{ℕ, max}
 use lib.ListN.{length, drop}
-use borrow.Author.Rules.{rules}
 use Rattle.syntax.specs.Conditions.{refers}
 use Rattle.names.specs.Table.{variable_of}
 use Rattle.parts.specs.Answer.{rank_of}

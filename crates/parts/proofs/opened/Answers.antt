@@ -1,7 +1,6 @@
 -- `parts::opened` meets its contract.
 use native.Mathlib.Omega.{arith}
 use borrow.Author.Tests.{le-leb, lt-leb}
-use borrow.Author.Rules.{rules}
 use Rattle.parts.proofs.opened.Goals as goal
 
 pub returns-then-depth-le8 : goal.returns-then-depth-le8

@@ -4,8 +4,6 @@ use Rattle.code.specs.Instr.{operation, argument}
 use Rattle.names.specs.Table.{variable_of}
 use Rattle.parts.specs.Parts.{reads_of}
 use Rattle.parts.proofs.Names.{reads_by, span_found, extents_found}
-use borrow.Author.Rules.{rules}
-use Rattle.parts.proofs.read_of.Reads as reads
 use Rattle.parts.proofs.read_of.Goals as goal
 
 pub returns-in-Indexed : goal.returns-in-Indexed

@@ -1,7 +1,6 @@
 -- `parts::span` meets its contract.
 use native.Mathlib.Omega.{arith}
 use borrow.Author.Tests.{le-leb, lt-leb}
-use borrow.Author.Rules.{rules}
 use Rattle.parts.proofs.span.Goals as goal
 
 pub returns-then-first-gt-ELEMENT : goal.returns-then-first-gt-ELEMENT

@@ -1,7 +1,6 @@
 -- `parts::then_emit` meets its contract.
 use native.Mathlib.Omega.{arith}
 use mathlib.Core.Path.{subst}
-use borrow.Author.Rules.{rules}
 use Rattle.parts.specs.declared.Got.{Got}
 use Rattle.parts.specs.Parts.{Room}
 use Rattle.parts.proofs.Laws.{emits_done, emits_unread}

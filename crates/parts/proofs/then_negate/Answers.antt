@@ -1,7 +1,6 @@
 -- `parts::then_negate` meets its contract, lead by lead.
 use mathlib.Core.Path.{subst}
 use lib.ListN.{length}
-use borrow.Author.Rules.{rules}
 use Rattle.code.specs.Instr.{words}
 use Rattle.code.specs.Compile.{code_lead}
 use Rattle.parts.specs.Parts.{Room, lead_by}

@@ -4,7 +4,6 @@ use mathlib.Core.Path.{sym, ap, subst}
 use mathlib.Core.List.{List}
 use Prim.Native.Nat.{ℕ}
 use lib.ListN.{length, drop}
-use borrow.Author.Rules.{rules}
 use Rattle.parts.specs.Parts.{Worded}
 use Rattle.lexer.proofs.Said.{name_short}
 use Rattle.parts.proofs.then_read.Goals as goal

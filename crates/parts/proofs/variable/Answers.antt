@@ -1,7 +1,6 @@
 -- `parts::variable` meets its contract.
 use mathlib.Core.Path.{sym, ◌∙◌}
 use native.Mathlib.Omega.{arith}
-use borrow.Author.Rules.{rules}
 use Rattle.parts.proofs.Leaves.{name_loads}
 use Rattle.parts.specs.Parts.{Room}
 use Rattle.parts.proofs.variable.Goals as goal

@@ -1,13 +1,9 @@
 -- `stepping::carry_on` meets its contract: the loop has come to where steps lead, and is still at the start where only one is to be made.
-use borrow.Author.Rules.{rules}
 use mathlib.Core.Path.{◌≡◌, refl, sym, ◌∙◌}
-use Prim.Native.Nat.{◌/◌}
-use lib.ListN.{length}
 use Rattle.stepping.specs.declared.Extent.TheVariants.{Once, ToTheEnd}
-use Rattle.stepping.specs.Step.{scene}
-use Rattle.stepping.specs.Carrying.{Reached, start, on}
+use Rattle.stepping.specs.Carrying.{start, on}
 use Rattle.stepping.proofs.Opened.{opened_yes}
-use Rattle.stepping.proofs.Nearing.{togo, goes_nearer}
+use Rattle.stepping.proofs.Nearing.{goes_nearer}
 use Rattle.stepping.proofs.Carried.{never, carried_once, carried_over, does_once, does_over}
 use Rattle.stepping.proofs.carry_on.Goals as goal
 

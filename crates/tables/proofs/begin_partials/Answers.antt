@@ -1,12 +1,11 @@
 -- `tables::begin_partials` meets its contract: the partial results of the processors passed have begun.
 use mathlib.Core.Path.{◌≡◌, refl}
-use Prim.Native.Nat.{◌-◌, ◌≤◌}
 use native.Mathlib.Omega.{arith}
 use native.Mathlib.Numerals.{add-one}
 use borrow.Author.Rules.{rules}
 use mir.Syntax.{w32}
 use mir.Val.{to_z, of_z}
-use lib.ListN.{length, length-set}
+use lib.ListN.{length-set}
 use Rattle.tables.specs.Entered.{started}
 use Rattle.tables.proofs.begin_partials.Goals as goal
 

@@ -1,10 +1,10 @@
 -- `tables::clear` meets its contract: the words passed are 0.
 use mathlib.Core.Path.{◌≡◌, refl, ◌∙◌, ap}
-use mathlib.Core.List.{List, ◌++◌}
-use Prim.Native.Nat.{ℕ, ◌-◌, ◌≤◌}
+use mathlib.Core.List.{List}
+use Prim.Native.Nat.{ℕ}
 use native.Mathlib.Omega.{arith}
 use borrow.Author.Fill.{fill_none, fill_more}
-use lib.ListN.{length, set, length-set, replicate, drop}
+use lib.ListN.{length, set, length-set}
 use Rattle.tables.proofs.Words.{filled}
 use Rattle.tables.proofs.clear.Goals as goal
 

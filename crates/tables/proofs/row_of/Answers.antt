@@ -1,7 +1,6 @@
 -- `tables::row_of` meets its contract.
 use native.Mathlib.Omega.{arith}
 use native.Mathlib.Nat.{mul-le-mul}
-use borrow.Author.Rules.{rules}
 use Rattle.tables.proofs.Words.{stride_most}
 use Rattle.tables.proofs.row_of.Goals as goal
 

@@ -1,7 +1,6 @@
 -- `tables::set_entry` meets its contract.
 use mathlib.Core.Path.{◌∙◌}
 use native.Mathlib.Omega.{arith}
-use borrow.Author.Rules.{rules}
 use lib.ListN.{length-set}
 use Rattle.int32.proofs.Laws.{seen}
 use Rattle.tables.specs.Entered.{entered}

@@ -1,10 +1,7 @@
 -- `updates::only_times` meets its contract; each call of itself has fewer bytes left.
 use mathlib.Core.Path.{refl, ◌∙◌, ap}
 use mathlib.Core.Bool.{true, false}
-use Prim.Native.Nat.{ℕ, ◌-◌, ◌<◌}
 use native.Mathlib.Omega.{arith}
-use lib.ListN.{length}
-use borrow.Author.Rules.{rules}
 use Rattle.parts.specs.Parts.{joined, chosen}
 use Rattle.parts.specs.declared.Joint.{Joint}
 use Rattle.parts.proofs.Spans.{within_done}

@@ -3,7 +3,6 @@ use mathlib.Core.Path.{refl}
 use Prim.Native.Nat.{◌-◌, ◌*◌, ◌≤◌}
 use native.Mathlib.Omega.{arith}
 use lib.ListN.{length}
-use borrow.Author.Rules.{rules}
 use borrow.Rule.Slice.PartMut.{take_put}
 use Rattle.parts.proofs.Spans.{within_done, within_sealed, within_inside}
 use Rattle.updates.proofs.Parts.{closed_unread, closed_after}

@@ -2,7 +2,6 @@
 use mathlib.Core.Path.{refl, sym, ◌∙◌, ap}
 use mathlib.Core.Bool.{Bool, ◌&&◌, not}
 use lib.ListN.{drop}
-use borrow.Author.Rules.{rules}
 use Rattle.parts.specs.Parts.{joined}
 use Rattle.expressions.proofs.Shapes.{no_sign, some_sign}
 use Rattle.updates.specs.Forms.{signs}

@@ -4,7 +4,6 @@ use Prim.Native.Nat.{◌-◌, ◌*◌, ◌≤◌}
 use native.Mathlib.Omega.{arith}
 use lib.ListN.{length, length-take, length-drop}
 use borrow.Author.Tests.{not-true, not-false}
-use borrow.Author.Rules.{rules}
 use borrow.Rule.Slice.PartMut.{take_put}
 use Rattle.syntax.specs.Bytes.{bytes}
 use Rattle.lexer.proofs.PlaceLaws.{pass_onward}

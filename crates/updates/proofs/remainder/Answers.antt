@@ -1,6 +1,5 @@
 -- `updates::remainder` meets its contract, operator by operator.
 use mathlib.Core.Path.{refl}
-use borrow.Author.Rules.{rules}
 use Rattle.parts.proofs.Spans.{within_inside}
 use Rattle.updates.proofs.Parts.{rest_answers, rest_sealed}
 use Rattle.updates.proofs.remainder.Goals as goal

@@ -3,7 +3,6 @@ use Prim.Native.Nat.{◌-◌, ◌*◌, ◌≤◌}
 use native.Mathlib.Omega.{arith}
 use lib.ListN.{length}
 use borrow.Author.Tests.{not-true, not-false}
-use borrow.Author.Rules.{rules}
 use borrow.Rule.Slice.PartMut.{take_put}
 use Rattle.parts.proofs.Spans.{within_done}
 use Rattle.updates.proofs.Parts.{repeated_unread, repeated_other, repeated_found}

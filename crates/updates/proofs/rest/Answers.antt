@@ -1,5 +1,4 @@
 -- `updates::rest` meets its contract, operator by operator.
-use borrow.Author.Rules.{rules}
 use Rattle.updates.proofs.Resting.{rest_by}
 use Rattle.updates.proofs.rest.Goals as goal
 

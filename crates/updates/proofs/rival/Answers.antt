@@ -2,7 +2,6 @@
 use mathlib.Core.Path.{◌∙◌}
 use native.Mathlib.Omega.{arith}
 use borrow.Author.Tests.{not-true, not-false}
-use borrow.Author.Rules.{rules}
 use Rattle.syntax.specs.Bytes.{bytes}
 use Rattle.lexer.proofs.PlaceLaws.{pass_onward}
 use Rattle.updates.proofs.Resting.{past_done}

@@ -1,6 +1,5 @@
 -- `updates::signed` meets its contract, sign by sign.
 use mathlib.Core.Path.{refl, sym, ap}
-use borrow.Author.Rules.{rules}
 use Rattle.parts.specs.Parts.{joined}
 use Rattle.expressions.proofs.Shapes.{no_sign, some_sign}
 use Rattle.updates.proofs.signed.Goals as goal

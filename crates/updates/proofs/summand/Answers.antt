@@ -1,7 +1,6 @@
 -- `updates::summand` meets its contract.
 use mathlib.Core.Path.{sym, ◌∙◌}
 use borrow.Author.Tests.{not-true, not-false}
-use borrow.Author.Rules.{rules}
 use Rattle.updates.proofs.Resting.{past_done}
 use Rattle.updates.proofs.Sums.{sum_unread, sum_unsigned, sum_found}
 use Rattle.updates.proofs.summand.Goals as goal

@@ -1,7 +1,6 @@
 -- `writing::put` meets its contract.
 use native.Mathlib.Omega.{arith}
 use Rattle.writing.proofs.Writing.{writes_past}
-use borrow.Author.Rules.{rules}
 use Rattle.writing.proofs.put.Goals as goal
 
 pub returns : goal.returns

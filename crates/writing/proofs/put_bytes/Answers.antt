@@ -1,12 +1,11 @@
 -- `writing::put_bytes` meets its contract: the first k bytes are written, and the others are left.
 use mathlib.Core.Path.{◌≡◌, ◌∙◌, ap}
 use mathlib.Core.List.{[], ◌∷◌}
-use Prim.Native.Nat.{ℕ, suc, ◌+◌, ◌-◌, ◌≤◌}
+use Prim.Native.Nat.{ℕ, suc, ◌+◌}
 use native.Mathlib.Omega.{arith}
-use lib.ListN.{length, get_or, drop, drop_of_length-le, length-drop}
+use lib.ListN.{get_or, drop, drop_of_length-le, length-drop}
 use lib.Seq.{drop-cons}
-use borrow.Author.Rules.{rules}
-use Rattle.writing.proofs.Writing.{writes_length, Along, along_none, along_more, along_all, along_fits}
+use Rattle.writing.proofs.Writing.{writes_length, along_none, along_more, along_all, along_fits}
 use Rattle.writing.proofs.put_bytes.Goals as goal
 
 pub loop-k-init : goal.loop-k-init

@@ -1,12 +1,7 @@
 -- `writing::put_bytes` meets its contract: the first k bytes are written, and the others are left.
-use mathlib.Core.Path.{◌≡◌, ◌∙◌, ap}
-use mathlib.Core.List.{[], ◌∷◌}
-use Prim.Native.Nat.{ℕ, suc, ◌+◌, ◌-◌, ◌≤◌}
-use native.Mathlib.Omega.{arith}
-use lib.ListN.{length, get_or, drop, drop_of_length-le, length-drop}
-use lib.Seq.{drop-cons}
-use borrow.Author.Rules.{rules}
-use Rattle.writing.proofs.Writing.{writes_length, Along, along_none, along_more, along_all, along_fits}
+use Prim.Native.Nat.{◌-◌, ◌≤◌}
+use lib.ListN.{length, drop}
+use Rattle.writing.proofs.Writing.{Along}
 use Rattle.writing.proofs.put_bytes.Given as goal
 
 abbrev pub invariant-loop-k : goal.invariant-loop-k

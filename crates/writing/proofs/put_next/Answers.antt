@@ -5,7 +5,6 @@ use lib.ListN.{length}
 use Rattle.writing.specs.Written.{spanned}
 use Rattle.writing.proofs.Writing.{writes_as}
 use Rattle.writing.proofs.TokenBytes.{token_spanned, next_moves}
-use borrow.Author.Rules.{rules}
 use Rattle.writing.proofs.put_next.Goals as goal
 
 pub put_span-requires : goal.put_span-requires

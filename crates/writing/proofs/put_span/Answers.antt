@@ -6,7 +6,6 @@ use lib.ListN.{length}
 use Rattle.lexer.specs.Lex.{part}
 use Rattle.writing.proofs.Writing.{writes_none, writes_then, writes_as, fits_first}
 use Rattle.writing.proofs.TokenBytes.{span_none, span_some}
-use borrow.Author.Rules.{rules}
 use Rattle.writing.proofs.put_span.Goals as goal
 
 pub returns-then-a-e : goal.returns-then-a-e

@@ -1,11 +1,7 @@
 -- `writing::significant` meets its contract: the digits from i on are the same without their leading zeros.
-use mathlib.Core.Path.{◌≡◌, refl, sym, ◌∙◌}
-use Prim.Native.Nat.{◌-◌, ◌≤◌}
+use mathlib.Core.Path.{refl, sym, ◌∙◌}
 use native.Mathlib.Omega.{arith}
-use Rattle.lexer.specs.Lex.{part}
-use Rattle.printed.specs.Form.{shortest}
 use Rattle.writing.proofs.TokenBytes.{zero_gone, zero_not, digit_last}
-use borrow.Author.Rules.{rules}
 use Rattle.writing.proofs.significant.Goals as goal
 
 pub loop-i-init : goal.loop-i-init

@@ -1,11 +1,8 @@
 -- `writing::significant` meets its contract: the digits from i on are the same without their leading zeros.
-use mathlib.Core.Path.{◌≡◌, refl, sym, ◌∙◌}
+use mathlib.Core.Path.{◌≡◌}
 use Prim.Native.Nat.{◌-◌, ◌≤◌}
-use native.Mathlib.Omega.{arith}
 use Rattle.lexer.specs.Lex.{part}
 use Rattle.printed.specs.Form.{shortest}
-use Rattle.writing.proofs.TokenBytes.{zero_gone, zero_not, digit_last}
-use borrow.Author.Rules.{rules}
 use Rattle.writing.proofs.significant.Given as goal
 
 abbrev pub invariant-loop-i : goal.invariant-loop-i

@@ -2,7 +2,6 @@
 use mathlib.Core.Path.{sym, ◌∙◌}
 use Rattle.lexer.specs.Lex.{kind_number}
 use Rattle.writing.proofs.TokenBytes.{told_digits, told_other}
-use borrow.Author.Rules.{rules}
 use Rattle.writing.proofs.start_of.Goals as goal
 
 pub returns-then-same_kind : goal.returns-then-same_kind
