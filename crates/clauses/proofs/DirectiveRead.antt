@@ -9,7 +9,7 @@ use lib.ListN.{length, drop}
 use Rattle.syntax.specs.Bytes.{all}
 use Rattle.syntax.specs.Grammar.{Clause}
 use Rattle.syntax.specs.Known.{Entry, threads_in}
-use Rattle.syntax.specs.Reader.{Parsed, broken, done, Reader, next, read_clauses, peek_in, skip_in}
+use Rattle.syntax.specs.Reader.{Parsed, broken, done, Reader, read_clauses, peek_in, skip_in}
 use Rattle.lexer.specs.Places.{Lands, Goes}
 use Rattle.lexer.proofs.PlaceLaws.{goes_some}
 use Rattle.heading.specs.Lists.{order, Standing}

@@ -1,6 +1,6 @@
 -- The tokens of a line as they are printed: in a data line `r*` before an item is r copies of it. Nothing here has to be believed: of an accepted text's
 -- lines it comes to what Rattle.printed.specs.Form says (proofs/Data.antt).
-use Rattle.std.specs.Prelude.{◌≡◌, Bool, true, false, cond, ◌&&◌, List, [], ◌∷◌, ◌++◌, ℕ, zero, suc, ◌+◌, ◌-◌, ◌≤◌, ◌<◌, min, eqb, length, take, drop}
+use Rattle.std.specs.Prelude.{◌≡◌, Bool, true, false, cond, ◌&&◌, List, [], ◌∷◌, ◌++◌, ℕ, zero, suc, ◌-◌, ◌≤◌, ◌<◌, min, eqb, length, take, drop}
 use Rattle.std.proofs.Math.Option.{some}
 use Rattle.syntax.specs.Bytes.{choose, same, bytes, Token, tokens}
 use Rattle.syntax.specs.Grammar.{number, sg}

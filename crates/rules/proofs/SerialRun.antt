@@ -18,7 +18,7 @@ use Rattle.rules.specs.Steps.{latest, opening}
 use Rattle.rules.proofs.Isolated.{finish, finish_sums}
 use Rattle.rules.proofs.Runs.{Moved, Agree, Status, Allowed, inside_extends, step_read, step_write, step_update}
 use Rattle.rules.proofs.Job.{Job, failing, idle, before, span, job}
-use Rattle.rules.proofs.Progress.{within, left, left_before, left_at, left_other, left_next, left_begun, group_holds, cuts_grow}
+use Rattle.rules.proofs.Progress.{left, left_before, left_at, left_other, left_next, left_begun, group_holds, cuts_grow}
 use Rattle.rules.specs.Proper.{Proper}
 use Rattle.rules.proofs.ProperLaws.{sums_chain}
 use Rattle.rules.specs.Serial.{finished, failed, Result, along, from, serial}

@@ -12,7 +12,7 @@ use Rattle.rules.specs.ChooseLaws.{pick_same, pick_other}
 use Rattle.rules.specs.Loop.{Loop}
 use Rattle.rules.specs.Serial.{finished, failed, serial}
 use Rattle.rules.proofs.SerialFault.{Below, serial_below}
-use Rattle.syntax.specs.Known.{State, cells}
+use Rattle.syntax.specs.Known.{State}
 use Rattle.syntax.specs.Text.{Verdict, refused, good, read}
 use Rattle.syntax.specs.Meaning.{loop_of}
 use Rattle.syntax.proofs.Sane.{accepted_sane, accepted_finished}

@@ -12,7 +12,7 @@ use mir.Val.{SFits}
 use Rattle.rules.specs.ChooseLaws.{pick_same}
 use Rattle.rules.specs.Cells.{cell_of}
 use Rattle.rules.proofs.CellsLaws.{listed_length, cell_listed}
-use Rattle.rules.specs.Loop.{fault, Loop, Partition, bound}
+use Rattle.rules.specs.Loop.{Loop, Partition, bound}
 use Rattle.rules.specs.Blocks.{block_start}
 use Rattle.rules.proofs.BlocksLaws.{tested_bound}
 use Rattle.rules.specs.Steps.{start, steps, run_on, trial}

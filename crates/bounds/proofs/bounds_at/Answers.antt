@@ -1,6 +1,5 @@
 -- `bounds::bounds_at` meets its contract.
 use Rattle.bounds.proofs.DoLines.{bounds_read}
-use borrow.Author.Rules.{rules}
 use Rattle.bounds.proofs.bounds_at.Goals as goal
 
 pub returns : goal.returns

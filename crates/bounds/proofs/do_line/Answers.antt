@@ -6,7 +6,6 @@ use Rattle.int32.proofs.Laws.{landed}
 use Rattle.lexer.specs.Places.{lead_of}
 use Rattle.lexer.proofs.PlaceLaws.{goes_saying, goes_some}
 use Rattle.bounds.proofs.DoLines.{raised_most, looping}
-use borrow.Author.Rules.{rules}
 use Rattle.heading.proofs.Literals.{led_fits}
 use Rattle.bounds.proofs.do_line.Goals as goal
 

@@ -6,7 +6,6 @@ use Rattle.lexer.specs.Places.{lead_of}
 use Rattle.lexer.specs.declared.Leading.{Leading}
 use Rattle.bounds.specs.DoLine.{raise}
 use Rattle.bounds.proofs.DoLines.{raise_down}
-use borrow.Author.Rules.{rules}
 use Rattle.bounds.proofs.raised.Goals as goal
 
 -- the sign of the arm

@@ -4,7 +4,6 @@ use native.Mathlib.Omega.{arith}
 use lib.ListN.{length}
 use Rattle.lexer.proofs.PlaceLaws.{goes_saying, goes_some}
 use Rattle.clauses.proofs.ClaimsRead.{claiming_at}
-use borrow.Author.Rules.{rules}
 use Rattle.clauses.proofs.claim_at.Goals as goal
 
 pub returns-then-s-e : goal.returns-then-s-e

@@ -7,7 +7,6 @@ use Rattle.syntax.specs.Bytes.{bytes}
 use Rattle.lexer.proofs.Chains.{goes_onward, strictly, strictly_on}
 use Rattle.heading.specs.Lists.{order}
 use Rattle.clauses.proofs.ClausesRead.{clause_threads, clause_static, clause_names, once_more}
-use borrow.Author.Rules.{rules}
 use Rattle.clauses.proofs.clause_at.Goals as goal
 
 pub returns-then-word-s : goal.returns-then-word-s

@@ -1,7 +1,6 @@
 -- `clauses::directive` meets its contract: both readings of the clauses, one after the other.
 use Rattle.heading.proofs.Lists.{keeps_on}
 use Rattle.clauses.proofs.DirectiveRead.{after, directive_read}
-use borrow.Author.Rules.{rules}
 use Rattle.clauses.proofs.directive.Goals as goal
 
 pub returns : goal.returns

@@ -2,7 +2,6 @@
 use mathlib.Core.Path.{◌≡◌, refl}
 use Prim.Native.Nat.{ℕ, zero, suc}
 use native.Mathlib.Omega.{arith}
-use borrow.Author.Rules.{rules}
 use Rattle.rules.specs.declared.Grouping.TheVariants.{Blocks}
 use Rattle.syntax.specs.Known.{grouping_by}
 use Rattle.clauses.proofs.grouping_of.Goals as goal

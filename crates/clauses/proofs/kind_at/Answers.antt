@@ -3,7 +3,6 @@ use native.Mathlib.Omega.{arith}
 use Rattle.syntax.specs.Bytes.{bytes}
 use Rattle.lexer.proofs.Chains.{goes_onward, onward_both, strictly, strictly_on}
 use Rattle.clauses.proofs.ClauseWords.{kind_shared, kind_lastprivate, kind_firstprivate, kind_reduction}
-use borrow.Author.Rules.{rules}
 use Rattle.clauses.proofs.kind_at.Goals as goal
 
 pub returns-then-a-s : goal.returns-then-a-s

@@ -1,6 +1,5 @@
 -- `clauses::names_at` meets its contract: the kind, the names and the bracket.
 use Rattle.clauses.proofs.ClauseWords.{names_read, names_onward}
-use borrow.Author.Rules.{rules}
 use Rattle.clauses.proofs.names_at.Goals as goal
 
 pub kind_at-k-requires : goal.kind_at-k-requires

@@ -1,7 +1,6 @@
 -- `clauses::operator_at` meets its contract, by the sign or word that stands there.
 use native.Mathlib.Omega.{arith}
 use Rattle.clauses.proofs.ClauseWords.{operator_sum, operator_product, operator_maximum}
-use borrow.Author.Rules.{rules}
 use Rattle.clauses.proofs.operator_at.Goals as goal
 
 pub returns-then-plus-s : goal.returns-then-plus-s

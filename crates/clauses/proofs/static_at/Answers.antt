@@ -1,6 +1,5 @@
 -- `clauses::static_at` meets its contract.
 use Rattle.clauses.proofs.ClauseWords.{static_read}
-use borrow.Author.Rules.{rules}
 use Rattle.clauses.proofs.static_at.Goals as goal
 
 pub returns : goal.returns

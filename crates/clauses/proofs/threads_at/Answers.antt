@@ -1,6 +1,5 @@
 -- `clauses::threads_at` meets its contract.
 use Rattle.clauses.proofs.ClauseWords.{threads_read}
-use borrow.Author.Rules.{rules}
 use Rattle.clauses.proofs.threads_at.Goals as goal
 
 pub returns : goal.returns

@@ -1,7 +1,6 @@
 -- `declarations::declared` meets its contract: a name alone, or with its extents in brackets.
 use native.Mathlib.Omega.{arith}
 use Rattle.declarations.proofs.IntegerLines.{declares_one, declares_array, declares_grid}
-use borrow.Author.Rules.{rules}
 use Rattle.declarations.proofs.declared.Goals as goal
 
 pub returns-then-s-open : goal.returns-then-s-open

@@ -8,7 +8,6 @@ use lib.Dec.{leb}
 use Rattle.heading.specs.Lists.{order}
 use Rattle.declarations.specs.Integer.{fits}
 use Rattle.declarations.proofs.IntegerLines.{fits_true, true_fits, unfit}
-use borrow.Author.Rules.{rules}
 use Rattle.syntax.proofs.TestLaws.{same_truth}
 use Rattle.declarations.proofs.declared_rank.Goals as goal
 

@@ -1,6 +1,5 @@
 -- `declarations::enter` meets its contract.
 use mathlib.Core.Path.{refl}
-use borrow.Author.Rules.{rules}
 use Rattle.declarations.proofs.enter.Goals as goal
 
 pub returns-then-rank-ne0 : goal.returns-then-rank-ne0

@@ -5,7 +5,6 @@ use native.Mathlib.Omega.{arith}
 use Rattle.names.specs.declared.Shape.{Shape}
 use Rattle.lexer.proofs.PlaceLaws.{goes_saying, goes_some}
 use Rattle.declarations.proofs.IntegerLines.{entered, few_cells, keeps}
-use borrow.Author.Rules.{rules}
 use Rattle.declarations.proofs.integer.Goals as goal
 
 pub returns-then-s-next : goal.returns-then-s-next

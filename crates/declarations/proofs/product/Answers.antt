@@ -1,7 +1,6 @@
 -- `declarations::product` meets its contract.
 use native.Mathlib.Omega.{arith}
 use Rattle.declarations.proofs.IntegerLines.{over_first, over_second, few_times}
-use borrow.Author.Rules.{rules}
 use Rattle.declarations.proofs.product.Goals as goal
 
 pub returns-then-m-eq0 : goal.returns-then-m-eq0

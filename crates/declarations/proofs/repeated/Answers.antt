@@ -5,7 +5,6 @@ use native.Mathlib.Omega.{arith}
 use mathlib.Core.Bool.{Bool, true, false, cond, ◌||◌}
 use Rattle.syntax.specs.Bytes.{any, same}
 use Rattle.declarations.specs.Integer.{names_of}
-use borrow.Author.Rules.{rules}
 use Rattle.declarations.proofs.repeated.Goals as goal
 
 no : false ≡ true → ⊥

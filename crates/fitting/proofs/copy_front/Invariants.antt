@@ -1,16 +1,8 @@
 -- `fitting::copy_front` meets its contract.
-use mathlib.Core.Path.{◌≡◌, refl, ◌∙◌, ap}
-use mathlib.Core.List.{List, ◌++◌}
+use mathlib.Core.Path.{◌≡◌}
+use mathlib.Core.List.{◌++◌}
 use Prim.Native.Nat.{◌≤◌, ◌-◌}
-use native.Mathlib.Omega.{arith}
-use mir.Syntax.{w32}
-use mir.Val.{to_z, of_z}
-use lib.ListN.{length, get_or, set, take, drop, length-set}
-use lib.IntN.{ℤ, pos}
-use borrow.Author.Rules.{rules}
-use Rattle.fitting.proofs.Copies.{copied_more, copied_front}
-use borrow.Author.Rules.{rules}
-use Rattle.fitting.proofs.Copies.{copied_more, copied_front}
+use lib.ListN.{length, take, drop}
 use Rattle.fitting.proofs.copy_front.Given as goal
 
 abbrev pub invariant-loop-c : goal.invariant-loop-c

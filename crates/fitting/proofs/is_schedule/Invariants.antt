@@ -1,19 +1,11 @@
 -- `fitting::is_schedule` meets its contract.
-use mathlib.Core.Path.{◌≡◌, refl, sym, ◌∙◌}
-use Prim.Native.Nat.{ℕ, ◌≤◌, ◌-◌}
-use native.Mathlib.Omega.{arith}
-use borrow.Author.Tests.{lt-ltb, le-ltb}
+use mathlib.Core.Path.{◌≡◌}
+use Prim.Native.Nat.{◌≤◌, ◌-◌}
 use lib.Dec.{ltb}
 use lib.ListN.{length, drop}
-use borrow.Author.Rules.{rules}
 use Rattle.syntax.specs.Bytes.{all}
-use Rattle.syntax.proofs.TestLaws.{all_on, all_off, all_out}
-use borrow.Author.Rules.{rules}
 use Rattle.syntax.specs.Bytes.{all}
-use Rattle.syntax.proofs.TestLaws.{all_on, all_off, all_out}
-use borrow.Author.Rules.{rules}
 use Rattle.syntax.specs.Bytes.{all}
-use Rattle.syntax.proofs.TestLaws.{all_on, all_off, all_out}
 use Rattle.fitting.proofs.is_schedule.Given as goal
 
 abbrev pub invariant-loop-i : goal.invariant-loop-i

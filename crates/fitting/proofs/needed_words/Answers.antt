@@ -1,7 +1,6 @@
 -- `fitting::needed_words` meets its contract.
 use native.Mathlib.Omega.{arith}
 use Rattle.fitting.proofs.Numbers.{needed_most}
-use borrow.Author.Rules.{rules}
 use Rattle.fitting.proofs.needed_words.Goals as goal
 
 pub overflow_mul-result-3 : goal.overflow_mul-result-3

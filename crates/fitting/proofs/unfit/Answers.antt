@@ -3,7 +3,6 @@ use mathlib.Core.Path.{sym, ◌∙◌}
 use mathlib.Core.Bool.{true, false}
 use native.Mathlib.Omega.{arith}
 use Rattle.fitting.proofs.Numbers.{other_cells, few_words, by_schedule}
-use borrow.Author.Rules.{rules}
 use Rattle.fitting.proofs.unfit.Goals as goal
 
 pub returns-then-cells-n : goal.returns-then-cells-n

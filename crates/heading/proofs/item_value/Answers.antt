@@ -7,7 +7,6 @@ use Rattle.int32.proofs.Laws.{landed, value_fits, negation_fits}
 use Rattle.syntax.specs.Meaning.{led}
 use Rattle.lexer.specs.Places.{lead_of}
 use Rattle.lexer.specs.declared.Leading.{Leading}
-use borrow.Author.Rules.{rules}
 use Rattle.heading.proofs.item_value.Goals as goal
 
 -- the sign of the arm

@@ -1,6 +1,5 @@
 -- `layout::literal_at` meets its contract: digits are one token, a sign and digits two.
 use Rattle.layout.proofs.Literals.{stands_one, stands_two}
-use borrow.Author.Rules.{rules}
 use Rattle.layout.proofs.literal_at.Goals as goal
 
 pub returns-then-same_kind : goal.returns-then-same_kind

@@ -5,7 +5,6 @@ use lib.ListN.{length}
 use Rattle.writing.proofs.Writing.{writes_as, writes_then}
 use Rattle.layout.specs.Copied.{literal_bytes}
 use Rattle.layout.proofs.Literals.{comma_one}
-use borrow.Author.Rules.{rules}
 use Rattle.layout.proofs.put_after_comma.Goals as goal
 
 pub put-p-requires : goal.put-p-requires

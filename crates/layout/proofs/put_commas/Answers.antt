@@ -1,10 +1,8 @@
 -- `layout::put_commas` meets its contract: k copies are written, the first of them before.
-use Prim.Native.Nat.{◌-◌, ◌≤◌}
 use native.Mathlib.Omega.{arith}
-use Rattle.writing.proofs.Writing.{writes_length, fits_first, Along, along_none, along_more, along_all, along_fits}
+use Rattle.writing.proofs.Writing.{writes_length, fits_first, along_none, along_more, along_all, along_fits}
 use Rattle.layout.specs.Copied.{literal_bytes, comma_bytes}
 use Rattle.layout.proofs.Literals.{comma_more, no_commas}
-use borrow.Author.Rules.{rules}
 use Rattle.layout.proofs.put_commas.Goals as goal
 
 pub loop-k-init : goal.loop-k-init

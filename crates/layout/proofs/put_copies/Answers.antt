@@ -1,6 +1,5 @@
 -- `layout::put_copies` meets its contract: the literal is found once.
 use Rattle.layout.proofs.Literals.{copies_first, copies_others, copies_moves}
-use borrow.Author.Rules.{rules}
 use Rattle.layout.proofs.put_copies.Goals as goal
 
 pub put_literal-p-requires : goal.put_literal-p-requires

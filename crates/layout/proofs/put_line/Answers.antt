@@ -1,6 +1,5 @@
 -- `layout::put_line` meets its contract: the first token, the others, and a newline.
 use native.Mathlib.Omega.{arith}
-use borrow.Author.Rules.{rules}
 use Rattle.layout.proofs.Copying.{line_first, line_rest, line_newline, line_written}
 use Rattle.layout.proofs.put_line.Goals as goal
 

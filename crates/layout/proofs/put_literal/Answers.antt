@@ -3,7 +3,6 @@ use mathlib.Core.Path.{refl}
 use Rattle.lexer.specs.Lex.{part}
 use Rattle.writing.specs.Written.{spanned}
 use Rattle.writing.proofs.Writing.{writes_then, fits_first, fits_then}
-use borrow.Author.Rules.{rules}
 use Rattle.layout.proofs.put_literal.Goals as goal
 
 pub put_span-p-requires : goal.put_span-p-requires

@@ -1,7 +1,6 @@
 -- `layout::put_part` meets its contract: all copies where `r*` stands, else the next token.
 use native.Mathlib.Omega.{arith}
 use Rattle.layout.proofs.Copying.{found_room, found_moves, plain_room, plain_moves}
-use borrow.Author.Rules.{rules}
 use Rattle.layout.proofs.put_part.Goals as goal
 
 pub put_copies-requires : goal.put_copies-requires

@@ -1,12 +1,11 @@
 -- `layout::put_rest` meets its contract: the tokens up to i are written, and those from i on are left.
 use mathlib.Core.Path.{sym, ◌∙◌, ap}
 use mathlib.Core.List.{List, ◌++◌}
-use Prim.Native.Nat.{◌-◌, ◌≤◌}
 use native.Mathlib.Omega.{arith}
-use lib.ListN.{length, drop}
+use lib.ListN.{drop}
 use Rattle.syntax.specs.Bytes.{Token, tokens}
 use Rattle.writing.specs.Written.{blanked}
-use Rattle.writing.proofs.Writing.{writes_length, Along, along_none, along_more, along_all, along_fits}
+use Rattle.writing.proofs.Writing.{writes_length, along_none, along_more, along_all, along_fits}
 use Rattle.layout.specs.Copied.{front, spread}
 use Rattle.layout.proofs.Copying.{spread_room, blanked_spread, none_left}
 use Rattle.layout.proofs.put_rest.Goals as goal

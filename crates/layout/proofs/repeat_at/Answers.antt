@@ -2,7 +2,6 @@
 use native.Mathlib.Omega.{arith}
 use borrow.Author.Tests.{not-true, not-false}
 use Rattle.layout.proofs.Copying.{no_repeat, repeat_found}
-use borrow.Author.Rules.{rules}
 use Rattle.layout.proofs.repeat_at.Goals as goal
 
 pub returns-then-not-copying : goal.returns-then-not-copying

@@ -6,7 +6,6 @@ use lib.ListN.{length}
 use Rattle.preparing.proofs.Beginning.{ready_bad, ready_fine, ready_few, can_try}
 use Rattle.fitting.proofs.Fits.{fit_zero}
 use Rattle.looking.proofs.Answering.{look_refused, look_unfit, look_view, look_done}
-use borrow.Author.Rules.{rules}
 use Rattle.looking.proofs.look.Goals as goal
 
 pub returns-then-r-ne0 : goal.returns-then-r-ne0

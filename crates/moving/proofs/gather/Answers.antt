@@ -1,12 +1,11 @@
 -- `moving::gather` meets its contract.
 use mathlib.Core.Path.{◌≡◌, ◌∙◌, ap}
-use Prim.Native.Nat.{ℕ, ◌+◌, ◌-◌, ◌≤◌}
+use Prim.Native.Nat.{ℕ, ◌+◌}
 use native.Mathlib.Omega.{arith}
 use mir.Syntax.{w32}
 use mir.Val.{to_z, of_z}
-use lib.ListN.{length, get_or, length-set}
+use lib.ListN.{get_or, length-set}
 use lib.IntN.{pos}
-use Rattle.moving.specs.Moving.{Gathered}
 use Rattle.moving.proofs.Steps.{gathered_more}
 use borrow.Author.Rules.{rules}
 use Rattle.moving.proofs.gather.Goals as goal

@@ -1,6 +1,5 @@
 -- `moving::to_rows` meets its contract.
 use Rattle.moving.proofs.Steps.{put_in_order}
-use borrow.Author.Rules.{rules}
 use Rattle.moving.proofs.to_rows.Goals as goal
 
 pub returns : goal.returns

@@ -1,7 +1,6 @@
 -- `operands::round` meets its contract.
 use Prim.Native.Nat.{◌+◌, ◌-◌}
 use native.Mathlib.Omega.{arith}
-use borrow.Author.Rules.{rules}
 use mir.Syntax.{w32}
 use mir.Val.{SFits}
 use lib.ListN.{get_or}

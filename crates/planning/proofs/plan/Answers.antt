@@ -6,7 +6,6 @@ use lib.ListN.{length}
 use Rattle.preparing.proofs.Beginning.{ready_bad, ready_fine, ready_few}
 use Rattle.fitting.proofs.Fits.{fit_zero}
 use Rattle.planning.proofs.Answering.{plan_refused, plan_unfit, plan_list, can_plan, plan_done}
-use borrow.Author.Rules.{rules}
 use Rattle.planning.proofs.plan.Goals as goal
 
 pub returns-then-r-ne0 : goal.returns-then-r-ne0

@@ -3,7 +3,6 @@ use mathlib.Core.Path.{◌∙◌, ap}
 use Prim.Native.Nat.{ℕ}
 use lib.ListN.{replicate}
 use Rattle.planning.proofs.Parts.{can_run, ends_front}
-use borrow.Author.Rules.{rules}
 use Rattle.planning.proofs.run_copied.Goals as goal
 
 pub run-t-requires : goal.run-t-requires

@@ -3,7 +3,6 @@ use mathlib.Core.Path.{◌∙◌, ap}
 use Prim.Native.Nat.{ℕ}
 use lib.ListN.{replicate}
 use Rattle.planning.proofs.Parts.{can_sweep, sweeps_front}
-use borrow.Author.Rules.{rules}
 use Rattle.planning.proofs.sweep_copied.Goals as goal
 
 pub sweep-stages-requires : goal.sweep-stages-requires

@@ -1,11 +1,7 @@
 -- `printing::put_bytes` meets its contract: the first k bytes stand in the buffer.
-use mathlib.Core.Path.{refl}
 use Prim.Native.Nat.{◌+◌, ◌-◌, ◌≤◌}
-use native.Mathlib.Omega.{arith}
 use lib.ListN.{length, take}
-use borrow.Author.Rules.{rules}
 use Rattle.writing.specs.Written.{Writes}
-use Rattle.printing.proofs.Writing.{bytes_none, bytes_more, bytes_all}
 use Rattle.printing.proofs.put_bytes.Given as goal
 
 abbrev pub invariant-loop-k : goal.invariant-loop-k

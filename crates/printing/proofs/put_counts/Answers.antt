@@ -2,7 +2,6 @@
 use Rattle.writing.proofs.Writing.{writes_then}
 use Rattle.printing.proofs.Writing.{digits_few}
 use native.Mathlib.Omega.{arith}
-use borrow.Author.Rules.{rules}
 use Rattle.printing.proofs.put_counts.Goals as goal
 
 pub put_digits-b-requires : goal.put_digits-b-requires

@@ -6,7 +6,6 @@ use Rattle.printing.proofs.Lines.{line_written}
 use Rattle.printing.proofs.Writing.{values_few}
 use lib.ListN.{take, drop}
 use native.Mathlib.Omega.{arith}
-use borrow.Author.Rules.{rules}
 use Rattle.printing.proofs.put_data.Goals as goal
 
 pub put_bytes-a-requires : goal.put_bytes-a-requires

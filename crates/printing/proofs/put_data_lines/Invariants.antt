@@ -1,10 +1,7 @@
 -- `printing::put_data_lines` meets its contract: the lines of the first i names stand in the buffer.
-use Prim.Native.Nat.{◌-◌, ◌≤◌, ◌<◌}
-use lib.ListN.{length}
+use Prim.Native.Nat.{◌-◌, ◌≤◌}
 use Rattle.writing.specs.Written.{Writes}
-use Rattle.printing.proofs.Lines.{lines_at, lines_none, lines_more, lines_all, named, cells_held, room}
-use native.Mathlib.Omega.{arith}
-use borrow.Author.Rules.{rules}
+use Rattle.printing.proofs.Lines.{lines_at}
 use Rattle.printing.proofs.put_data_lines.Given as goal
 
 abbrev pub invariant-loop-i : goal.invariant-loop-i

@@ -1,11 +1,6 @@
 -- `printing::put_name` meets its contract: the first k bytes of the name stand in the buffer.
-use Prim.Native.Nat.{◌+◌, ◌-◌, ◌≤◌}
-use Rattle.rules.specs.Cells.{listed}
-use Rattle.names.specs.Table.{word_at}
-use Rattle.writing.specs.Written.{Writes}
 use Rattle.printing.proofs.Lines.{name_none, name_more, name_all}
 use native.Mathlib.Omega.{arith}
-use borrow.Author.Rules.{rules}
 use Rattle.printing.proofs.put_name.Goals as goal
 
 pub loop-k-init : goal.loop-k-init

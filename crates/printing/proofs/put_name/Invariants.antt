@@ -3,9 +3,6 @@ use Prim.Native.Nat.{◌+◌, ◌-◌, ◌≤◌}
 use Rattle.rules.specs.Cells.{listed}
 use Rattle.names.specs.Table.{word_at}
 use Rattle.writing.specs.Written.{Writes}
-use Rattle.printing.proofs.Lines.{name_none, name_more, name_all}
-use native.Mathlib.Omega.{arith}
-use borrow.Author.Rules.{rules}
 use Rattle.printing.proofs.put_name.Given as goal
 
 abbrev pub invariant-loop-k : goal.invariant-loop-k

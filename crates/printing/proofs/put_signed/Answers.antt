@@ -5,7 +5,6 @@ use mir.ValLaws.{to_z-of_z}
 use Rattle.int32.specs.Integers.{word}
 use Rattle.printing.proofs.Writing.{signed_plain, signed_negative}
 use native.Mathlib.Omega.{arith}
-use borrow.Author.Rules.{rules}
 use Rattle.printing.proofs.put_signed.Goals as goal
 
 pub returns-then-w-lt2147483648 : goal.returns-then-w-lt2147483648

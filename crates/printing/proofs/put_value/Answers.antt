@@ -1,7 +1,6 @@
 -- `printing::put_value` meets its contract.
 use Rattle.printing.proofs.Writing.{signed_seen, value_first, value_later}
 use native.Mathlib.Omega.{arith}
-use borrow.Author.Rules.{rules}
 use Rattle.printing.proofs.put_value.Goals as goal
 
 pub returns-then-k-eq0 : goal.returns-then-k-eq0

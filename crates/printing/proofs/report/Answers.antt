@@ -4,7 +4,6 @@ use Rattle.printing.specs.Written.{Completes}
 use Rattle.printing.proofs.Writing.{comment_few}
 use Rattle.printing.proofs.Lines.{reports_lines, reports_refusal}
 use native.Mathlib.Omega.{arith}
-use borrow.Author.Rules.{rules}
 use Rattle.printing.proofs.report.Goals as goal
 
 pub put_data_lines-requires : goal.put_data_lines-requires

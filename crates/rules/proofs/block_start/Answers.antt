@@ -1,7 +1,6 @@
 use native.Mathlib.Nat.{mul-le-mul, le_trans, lt_of_le_of_lt}
 use mathlib.Core.Path.{refl}
 use lib.Dec.{lit<}
-use borrow.Author.Rules.{rules}
 use Rattle.rules.specs.Blocks.{block_start}
 use Rattle.rules.proofs.block_start.Goals as goal
 

@@ -1,5 +1,4 @@
 use mathlib.Core.Path.{sym, ap}
-use borrow.Author.Rules.{rules}
 use Rattle.rules.specs.declared.Operator.{Operator}
 use Rattle.rules.specs.Operation.{operation}
 use Rattle.rules.proofs.neutral.Goals as goal

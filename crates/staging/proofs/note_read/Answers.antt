@@ -2,7 +2,6 @@
 use native.Mathlib.Omega.{arith}
 use Rattle.reorder.specs.StageTable.{needs, marked}
 use Rattle.staging.specs.Rows.{noted_in, over_in}
-use borrow.Author.Rules.{rules}
 use Rattle.staging.proofs.note_read.Goals as goal
 
 pub open-row-requires : goal.open-row-requires

@@ -2,7 +2,6 @@
 use mathlib.Core.Path.{sym, ◌∙◌}
 use native.Mathlib.Numerals.{add-one}
 use Rattle.staging.proofs.Keeping.{opened_already, opened_first}
-use borrow.Author.Rules.{rules}
 use Rattle.staging.proofs.open.Goals as goal
 
 pub returns-then-row-stamp : goal.returns-then-row-stamp

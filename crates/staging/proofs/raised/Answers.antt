@@ -1,5 +1,4 @@
 -- `staging::raised` meets its contract.
-use borrow.Author.Rules.{rules}
 use Rattle.staging.proofs.raised.Goals as goal
 
 pub returns-then-b : goal.returns-then-b

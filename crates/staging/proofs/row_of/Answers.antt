@@ -1,7 +1,6 @@
 -- `staging::row_of` meets its contract.
 use mathlib.Core.Path.{refl}
 use Rattle.staging.specs.Rows.{row_in}
-use borrow.Author.Rules.{rules}
 use Rattle.staging.proofs.row_of.Goals as goal
 
 pub returns : goal.returns

@@ -2,7 +2,6 @@
 use native.Mathlib.Omega.{arith}
 use lib.ListN.{length-set}
 use Rattle.staging.specs.Rows.{row_set}
-use borrow.Author.Rules.{rules}
 use Rattle.staging.proofs.set_row.Goals as goal
 
 pub bounds-w-at-2 : goal.bounds-w-at-2

@@ -3,7 +3,6 @@ use mathlib.Core.Path.{sym}
 use Prim.Native.Nat.{◌-◌}
 use native.Mathlib.Omega.{arith}
 use Rattle.staging.proofs.Keeping.{latest_none, latest_before}
-use borrow.Author.Rules.{rules}
 use Rattle.staging.proofs.stage_of.Goals as goal
 
 pub returns-then-stamp-eq0 : goal.returns-then-stamp-eq0

@@ -1,18 +1,12 @@
 -- `sweeping::iterate` meets its contract.
-use mathlib.Core.Path.{◌≡◌, refl, ◌∙◌}
+use mathlib.Core.Path.{refl, ◌∙◌}
 use mathlib.Core.Logic.{inl}
-use Prim.Native.Nat.{◌/◌, ◌<◌}
-use lib.ListN.{length}
-use lib.IntN.{ℤ}
-use Rattle.rules.specs.Loop.{Loop}
 use Rattle.stepping.specs.Step.{scene}
 use Rattle.stepping.specs.Carrying.{Does}
 use Rattle.stepping.proofs.Opened.{opened_yes}
-use Rattle.stepping.proofs.Nearing.{togo, goes_nearer}
-use Rattle.sweeping.specs.Sweep.{Before, Runs}
-use Rattle.sweeping.proofs.Stepping.{Reached, still_under, now_after, can_step, step_open, step_noted, step_went}
+use Rattle.stepping.proofs.Nearing.{goes_nearer}
+use Rattle.sweeping.proofs.Stepping.{still_under, now_after, can_step, step_open, step_noted, step_went}
 use Rattle.sweeping.proofs.Ends.{iterate_start}
-use borrow.Author.Rules.{rules}
 use Rattle.sweeping.proofs.iterate.Goals as goal
 
 pub loop-t-init : goal.loop-t-init

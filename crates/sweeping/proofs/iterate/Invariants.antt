@@ -1,18 +1,13 @@
 -- `sweeping::iterate` meets its contract.
-use mathlib.Core.Path.{◌≡◌, refl, ◌∙◌}
-use mathlib.Core.Logic.{inl}
+use mathlib.Core.Path.{◌≡◌}
 use Prim.Native.Nat.{◌/◌, ◌<◌}
 use lib.ListN.{length}
 use lib.IntN.{ℤ}
 use Rattle.rules.specs.Loop.{Loop}
 use Rattle.stepping.specs.Step.{scene}
-use Rattle.stepping.specs.Carrying.{Does}
-use Rattle.stepping.proofs.Opened.{opened_yes}
-use Rattle.stepping.proofs.Nearing.{togo, goes_nearer}
+use Rattle.stepping.proofs.Nearing.{togo}
 use Rattle.sweeping.specs.Sweep.{Before, Runs}
-use Rattle.sweeping.proofs.Stepping.{Reached, still_under, now_after, can_step, step_open, step_noted, step_went}
-use Rattle.sweeping.proofs.Ends.{iterate_start}
-use borrow.Author.Rules.{rules}
+use Rattle.sweeping.proofs.Stepping.{Reached}
 use Rattle.sweeping.proofs.iterate.Given as goal
 
 abbrev pub invariant-loop-t : goal.invariant-loop-t

@@ -3,7 +3,6 @@ use mathlib.Core.Path.{◌≡◌}
 use Rattle.operands.specs.declared.Move.TheVariants.{Read, Write, Update, Fault, End}
 use Rattle.staging.proofs.Keeping.{noted_update}
 use Rattle.sweeping.specs.Sweep.{CanNote, noted_by, over_by}
-use borrow.Author.Rules.{rules}
 use Rattle.sweeping.proofs.note.Goals as goal
 
 pub note_read-requires : goal.note_read-requires

@@ -1,15 +1,12 @@
 -- `sweeping::sweep` meets its contract: before each iteration the run comes to what it came to at the start, and the list has the stages of those before.
-use mathlib.Core.Path.{◌≡◌, refl, sym, ◌∙◌}
-use Prim.Native.Nat.{◌-◌, ◌≤◌, ◌<◌}
-use native.Mathlib.Omega.{arith}
-use lib.ListN.{length, length-set}
+use mathlib.Core.Path.{◌≡◌}
+use Prim.Native.Nat.{◌-◌, ◌≤◌}
+use lib.ListN.{length}
 use lib.IntN.{ℤ}
 use Rattle.rules.specs.Loop.{Loop}
 use Rattle.reorder.specs.Stages.{greatest}
 use Rattle.staging.specs.Rows.{stage_in}
 use Rattle.sweeping.specs.Sweep.{Before, Runs}
-use Rattle.sweeping.proofs.Ends.{sweep_start, sweep_runs, iterate_end, after_small, highest_next, sweep_end}
-use borrow.Author.Rules.{rules}
 use Rattle.sweeping.proofs.sweep.Given as goal
 
 abbrev pub invariant-loop-index : goal.invariant-loop-index

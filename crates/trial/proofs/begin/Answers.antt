@@ -1,6 +1,5 @@
 -- `trial::begin` meets its contract.
 use Rattle.trial.proofs.Starting.{starts_run}
-use borrow.Author.Rules.{rules}
 use Rattle.trial.proofs.begin.Goals as goal
 
 pub returns : goal.returns

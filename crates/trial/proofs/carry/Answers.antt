@@ -1,5 +1,4 @@
 -- `trial::carry` meets its contract.
-use borrow.Author.Rules.{rules}
 use Rattle.stepping.specs.Step.{scene}
 use Rattle.trial.specs.Running.{point_of}
 use Rattle.trial.proofs.RunningOut.{can_carry, carried, carried_ends}

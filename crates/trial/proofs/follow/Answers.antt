@@ -1,14 +1,13 @@
 -- `trial::follow` meets its contract: after j bytes the run is that of the first j.
 use borrow.Author.Rules.{rules}
 use mathlib.Core.Path.{◌≡◌, refl}
-use Prim.Native.Nat.{◌≤◌, ◌<◌, ◌-◌}
+use Prim.Native.Nat.{◌<◌}
 use native.Mathlib.Numerals.{add-one}
 use native.Mathlib.Omega.{arith}
 use lib.ListN.{length, get_or, take, length-set}
 use lib.Seq.{take-length}
-use Rattle.rules.specs.Loop.{Loop}
-use Rattle.rules.specs.Steps.{State, steps}
-use Rattle.trial.specs.Running.{dealt, Run}
+use Rattle.rules.specs.Steps.{steps}
+use Rattle.trial.specs.Running.{dealt}
 use Rattle.trial.proofs.Turns.{run_turn, run_stepped, steps_more}
 use Rattle.trial.proofs.follow.Goals as goal
 

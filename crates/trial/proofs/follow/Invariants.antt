@@ -1,15 +1,10 @@
 -- `trial::follow` meets its contract: after j bytes the run is that of the first j.
-use borrow.Author.Rules.{rules}
-use mathlib.Core.Path.{◌≡◌, refl}
-use Prim.Native.Nat.{◌≤◌, ◌<◌, ◌-◌}
-use native.Mathlib.Numerals.{add-one}
-use native.Mathlib.Omega.{arith}
-use lib.ListN.{length, get_or, take, length-set}
-use lib.Seq.{take-length}
+use mathlib.Core.Path.{◌≡◌}
+use Prim.Native.Nat.{◌≤◌, ◌-◌}
+use lib.ListN.{length, take}
 use Rattle.rules.specs.Loop.{Loop}
 use Rattle.rules.specs.Steps.{State, steps}
 use Rattle.trial.specs.Running.{dealt, Run}
-use Rattle.trial.proofs.Turns.{run_turn, run_stepped, steps_more}
 use Rattle.trial.proofs.follow.Given as goal
 
 abbrev pub invariant-loop-j : goal.invariant-loop-j

@@ -1,13 +1,12 @@
 -- `trial::run_on` meets its contract: the processors below q have run to their end.
 use borrow.Author.Rules.{rules}
 use mathlib.Core.Path.{◌≡◌, refl}
-use Prim.Native.Nat.{ℕ, ◌≤◌, ◌<◌, ◌-◌}
+use Prim.Native.Nat.{◌<◌}
 use native.Mathlib.Numerals.{add-one}
 use native.Mathlib.Omega.{arith}
-use lib.ListN.{length, get_or, length-set}
-use Rattle.rules.specs.Loop.{Loop}
-use Rattle.rules.specs.Steps.{State, run_out, run_on}
-use Rattle.trial.specs.Running.{dealt, nobody, Run, Over}
+use lib.ListN.{length, length-set}
+use Rattle.rules.specs.Steps.{run_out, run_on}
+use Rattle.trial.specs.Running.{dealt}
 use Rattle.trial.proofs.Turns.{run_turn, run_moved}
 use Rattle.trial.proofs.RunningOut.{run_out_other, over_more}
 use Rattle.trial.proofs.run_on.Goals as goal

@@ -1,15 +1,10 @@
 -- `trial::run_on` meets its contract: the processors below q have run to their end.
-use borrow.Author.Rules.{rules}
-use mathlib.Core.Path.{◌≡◌, refl}
+use mathlib.Core.Path.{◌≡◌}
 use Prim.Native.Nat.{ℕ, ◌≤◌, ◌<◌, ◌-◌}
-use native.Mathlib.Numerals.{add-one}
-use native.Mathlib.Omega.{arith}
-use lib.ListN.{length, get_or, length-set}
+use lib.ListN.{length, get_or}
 use Rattle.rules.specs.Loop.{Loop}
-use Rattle.rules.specs.Steps.{State, run_out, run_on}
+use Rattle.rules.specs.Steps.{State, run_on}
 use Rattle.trial.specs.Running.{dealt, nobody, Run, Over}
-use Rattle.trial.proofs.Turns.{run_turn, run_moved}
-use Rattle.trial.proofs.RunningOut.{run_out_other, over_more}
 use Rattle.trial.proofs.run_on.Given as goal
 
 abbrev pub invariant-loop-q : goal.invariant-loop-q

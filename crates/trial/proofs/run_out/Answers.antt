@@ -1,5 +1,4 @@
 -- `trial::run_out` meets its contract.
-use borrow.Author.Rules.{rules}
 use Rattle.trial.specs.Running.{along, Ends}
 use Rattle.trial.proofs.run_out.Goals as goal
 

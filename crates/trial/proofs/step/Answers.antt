@@ -1,5 +1,4 @@
 -- `trial::step` meets its contract.
-use borrow.Author.Rules.{rules}
 use Rattle.trial.specs.Running.{along}
 use Rattle.trial.proofs.step.Goals as goal
 

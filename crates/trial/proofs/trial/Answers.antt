@@ -2,7 +2,6 @@
 use Rattle.rules.specs.Steps.{start, steps}
 use Rattle.trial.specs.Running.{dealt}
 use Rattle.trial.proofs.Starting.{run_tried}
-use borrow.Author.Rules.{rules}
 use Rattle.trial.proofs.trial.Goals as goal
 
 pub follow-then-requires : goal.follow-then-requires

@@ -1,6 +1,5 @@
 -- `values::copied` meets its contract.
 use Rattle.values.proofs.DataLines.{copied_lands}
-use borrow.Author.Rules.{rules}
 use Rattle.values.proofs.copied.Goals as goal
 
 pub returns : goal.returns

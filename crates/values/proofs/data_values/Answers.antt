@@ -8,7 +8,6 @@ use Rattle.values.proofs.DataLines.{data_broken, data_read, gives_for, given_kee
 use Rattle.syntax.specs.Bytes.{bytes}
 use Rattle.lexer.specs.Lex.{part}
 use Rattle.values.specs.Data.{Puts}
-use borrow.Author.Rules.{rules}
 use Rattle.heading.proofs.Lists.{passed_from}
 use Rattle.values.proofs.data_values.Goals as goal
 

@@ -1,15 +1,8 @@
 -- `values::fill` meets its contract.
-use borrow.Author.Rules.{rules}
-use mathlib.Core.Path.{◌≡◌, refl, ◌∙◌, ap}
-use mathlib.Core.List.{List}
+use mathlib.Core.Path.{◌≡◌}
 use Prim.Native.Nat.{◌+◌, ◌-◌, ◌≤◌}
-use native.Mathlib.Omega.{arith}
-use lib.ListN.{length, replicate, set, length-set}
-use lib.IntN.{ℤ}
+use lib.ListN.{length, replicate}
 use lib.Seq.{sets}
-use mir.Syntax.{w32}
-use mir.Val.{to_z, of_z}
-use Rattle.values.proofs.DataLines.{fill_more, fill_none}
 use Rattle.values.proofs.fill.Given as goal
 
 abbrev pub invariant-loop-i : goal.invariant-loop-i

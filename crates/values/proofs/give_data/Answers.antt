@@ -4,7 +4,6 @@ use mathlib.Core.Bool.{Bool, true}
 use Prim.Native.Nat.{max}
 use Rattle.heading.specs.Lists.{order}
 use Rattle.values.proofs.DataLines.{due_known}
-use borrow.Author.Rules.{rules}
 use Rattle.values.proofs.give_data.Goals as goal
 
 pub returns-then-worst-ne0 : goal.returns-then-worst-ne0

@@ -3,7 +3,6 @@ use mathlib.Core.Path.{refl}
 use mathlib.Core.Option.{none}
 use native.Mathlib.Omega.{arith}
 use Rattle.values.proofs.DataLines.{item_repeated, item_once}
-use borrow.Author.Rules.{rules}
 use Rattle.values.proofs.item_at.Goals as goal
 
 pub returns-then-star-s : goal.returns-then-star-s

@@ -8,7 +8,6 @@ use Rattle.int32.proofs.Laws.{landed}
 use Rattle.lexer.proofs.PlaceLaws.{goes_some}
 use Rattle.heading.specs.Lists.{order}
 use Rattle.values.proofs.DataLines.{item_broken, item_zero, item_some, put}
-use borrow.Author.Rules.{rules}
 use Rattle.heading.proofs.Literals.{led_fits}
 use Rattle.values.proofs.put_item.Goals as goal
 
