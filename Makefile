@@ -5,17 +5,17 @@
 #     make check        the gate: every proof, every edit that the prover must refuse, every test
 #     make install PREFIX=/usr/local DESTDIR=
 #     make uninstall    removes what install wrote
-#     make clean        removes what was made from the library (build/); what is proved stays in target/
+#     make clean        removes what was made (build/); what is proved stays in crates/*/out/
 #
-# Asked for: Rattle's command rt on the PATH, and gcc. Where what rt built is newer than all files of crates/, rt is not called.
+# Asked for: Rattle's command rt on the PATH, and gcc. Where what is in build/ is newer than all files of crates/, rt is not called.
 
 PREFIX = /usr/local
 DESTDIR =
 
 build = build
-program = target/bin/lrpd
-library = target/staticlib/libexports.a
-sources := crates.txt $(shell find crates -type f ! -path '*/must-fail/*')
+program = $(build)/lrpd
+library = $(build)/liblrpd.a
+sources := crates.txt $(shell find crates -type f ! -path '*/must-fail/*' ! -path '*/out/*')
 
 # The one place of the version is the header.
 version := $(shell sed -n 's/^.define LRPD_VERSION "\(.*\)"$$/\1/p' include/lrpd.h)
@@ -27,24 +27,22 @@ fill = sed -e 's|@PREFIX@|$(PREFIX)|' -e 's|@VERSION@|$(version)|'
 .PHONY: all first check install uninstall clean
 .DELETE_ON_ERROR:
 
-all: $(program) $(build)/liblrpd.a $(build)/$(shared)
+all: $(program) $(library) $(build)/$(shared)
 
-# rt leaves a program as it is of which nothing changed but a file's time.
+# rt runs the program that it builds, here on an empty text.
 $(program): $(sources)
-	install/progress check lrpd
-	@touch $@
-
-# After the program, since two rt at a time would write the same files.
-$(library): $(sources) | $(program)
-	install/progress staticlib exports
-
-$(build)/liblrpd.a: $(library)
+	install/progress run lrpd
 	@mkdir -p $(build)
-	cp $(library) $@
+	cp crates/lrpd/out/lrpd $@
+
+# After the program, since two rt at a time would wait for one another.
+$(library): $(sources) | $(program)
+	install/progress lib exports_c
+	@mkdir -p $(build)
+	cp crates/exports_c/out/libexports_c.a $@
 
 # Only the names that begin with lrpd_ can be seen.
 $(build)/$(shared): $(library) install/lrpd.map
-	@mkdir -p $(build)
 	$(CC) -shared -Wl,-soname,$(soname) -Wl,--version-script,install/lrpd.map -Wl,-z,defs \
 	    -Wl,--whole-archive $(library) -Wl,--no-whole-archive -o $@
 	ln -sf $(shared) $(build)/$(soname)
@@ -63,7 +61,7 @@ install: all
 	install -m 755 $(program) "$(to)/bin/lrpd"
 	install -m 644 include/lrpd.h "$(to)/include/lrpd.h"
 	install -m 644 fortran/lrpd.f90 "$(to)/share/lrpd/lrpd.f90"
-	install -m 644 $(build)/liblrpd.a "$(to)/lib/liblrpd.a"
+	install -m 644 $(library) "$(to)/lib/liblrpd.a"
 	install -m 755 $(build)/$(shared) "$(to)/lib/$(shared)"
 	ln -sf $(shared) "$(to)/lib/$(soname)"
 	ln -sf $(soname) "$(to)/lib/liblrpd.so"

@@ -1,4 +1,4 @@
-//! Links the product's library, which `rt staticlib exports` writes, into the program alone.
+//! Links the product's library, which `make` builds, into the program alone.
 
 use std::path::Path;
 
@@ -7,7 +7,7 @@ fn main() {
     let library = bench
         .parent()
         .expect("the repository")
-        .join("target/staticlib/libexports.a");
+        .join("build/liblrpd.a");
     println!("cargo:rustc-link-arg-bins={}", library.display());
     println!("cargo:rerun-if-changed={}", library.display());
 }

@@ -1,8 +1,8 @@
 /* Tells whether two loop texts are alike: whether their printed forms are the same, or else at which line of the forms they begin to
    differ. Of one text alone it prints the form.
 
-       gcc -I include examples/c/alike.c target/staticlib/libexports.a -o target/alike
-       target/alike examples/alike/ours.loop examples/alike/theirs.loop
+       gcc -I include examples/c/alike.c build/liblrpd.a -o build/alike
+       build/alike examples/alike/ours.loop examples/alike/theirs.loop
 
    The exit status is 0 for alike, 1 for different, and 2 if a text is refused or can't be read. */
 #include <inttypes.h>

@@ -1,7 +1,7 @@
 /* Checks a loop text, loads its cells and prints both.
 
-       gcc -I include examples/c/check.c target/staticlib/libexports.a -o target/check
-       target/check examples/texts/permutation.loop */
+       gcc -I include examples/c/check.c build/liblrpd.a -o build/check
+       build/check examples/texts/permutation.loop */
 #include <inttypes.h>
 #include <stdio.h>
 #include "lrpd.h"

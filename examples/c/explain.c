@@ -1,7 +1,7 @@
 /* Says in words why a loop text was refused, met a fault or was run again, and can draw its run.
 
-       gcc -I include examples/c/explain.c target/staticlib/libexports.a -o target/explain
-       target/explain examples/texts/rerun.loop --svg target/rerun.svg
+       gcc -I include examples/c/explain.c build/liblrpd.a -o build/explain
+       build/explain examples/texts/rerun.loop --svg build/rerun.svg
 
    For a rerun it tells each cell with an obstacle, its clause, and two iterations that meet there (visits.h says how they are found).
    A hint names a directive only if Run, asked with it, said that the loop passes on these cells. That holds for this library: in

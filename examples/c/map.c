@@ -1,8 +1,8 @@
 /* Runs a loop text and prints one of its grids as a map viewer stores it: by rows, here a row to a line. Then it puts the cells back in
    the loop's order, and checks that they are as they were.
 
-       gcc -I include examples/c/map.c target/staticlib/libexports.a -o target/map
-       target/map examples/texts/levels.loop bed */
+       gcc -I include examples/c/map.c build/liblrpd.a -o build/map
+       build/map examples/texts/levels.loop bed */
 #include <inttypes.h>
 #include <stdio.h>
 #include <string.h>

@@ -1,8 +1,8 @@
 /* Runs a loop text and prints the cells of one name: its extents, which cells they are, counted from 1, its clause, and their values
    afterwards, of a grid the first subscript fastest.
 
-       gcc -I include examples/c/name.c target/staticlib/libexports.a -o target/name
-       target/name examples/texts/weights.loop peak */
+       gcc -I include examples/c/name.c build/liblrpd.a -o build/name
+       build/name examples/texts/weights.loop peak */
 #include <inttypes.h>
 #include <stdio.h>
 #include <string.h>

@@ -1,8 +1,8 @@
 /* Plans a loop text on the cells of its data and prints its stages in turn, each with the values that the loop's variable has in its
    iterations.
 
-       gcc -I include examples/c/plan.c target/staticlib/libexports.a -o target/plan
-       target/plan examples/texts/channels.loop */
+       gcc -I include examples/c/plan.c build/liblrpd.a -o build/plan
+       build/plan examples/texts/channels.loop */
 #include <inttypes.h>
 #include <stdio.h>
 #include "lrpd.h"

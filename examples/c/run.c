@@ -1,7 +1,7 @@
 /* Runs a loop text under a schedule that comes from the command line, a digit for each step, and prints the result and the cells.
 
-       gcc -I include examples/c/run.c target/staticlib/libexports.a -o target/run
-       target/run examples/texts/permutation.loop 1001 */
+       gcc -I include examples/c/run.c build/liblrpd.a -o build/run
+       build/run examples/texts/permutation.loop 1001 */
 #include <inttypes.h>
 #include <stdio.h>
 #include <string.h>

@@ -1,7 +1,7 @@
 ! Checks a loop text, loads its cells and prints both.
 !
-!     gfortran -J target fortran/lrpd.f90 examples/fortran/check.f90 target/staticlib/libexports.a -o target/check
-!     target/check examples/texts/permutation.loop
+!     gfortran -J build fortran/lrpd.f90 examples/fortran/check.f90 build/liblrpd.a -o build/check
+!     build/check examples/texts/permutation.loop
 program check
   use, intrinsic :: iso_c_binding, only: c_int32_t
   use lrpd

@@ -1,8 +1,8 @@
 ! Runs a loop text and prints one of its grids as a map viewer stores it: by rows, here a row to a line. Then it puts the cells back
 ! in the loop's order, and checks that they are as they were.
 !
-!     gfortran -J target fortran/lrpd.f90 examples/fortran/map.f90 target/staticlib/libexports.a -o target/map
-!     target/map examples/texts/levels.loop bed
+!     gfortran -J build fortran/lrpd.f90 examples/fortran/map.f90 build/liblrpd.a -o build/map
+!     build/map examples/texts/levels.loop bed
 program map
   use, intrinsic :: iso_c_binding, only: c_int32_t
   use lrpd

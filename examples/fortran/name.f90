@@ -1,8 +1,8 @@
 ! Runs a loop text and prints the cells of one name: its extents, which cells they are, counted from 1, its clause, and their values
 ! afterwards, of a grid the first subscript fastest.
 !
-!     gfortran -J target fortran/lrpd.f90 examples/fortran/name.f90 target/staticlib/libexports.a -o target/name
-!     target/name examples/texts/weights.loop peak
+!     gfortran -J build fortran/lrpd.f90 examples/fortran/name.f90 build/liblrpd.a -o build/name
+!     build/name examples/texts/weights.loop peak
 program name
   use, intrinsic :: iso_c_binding, only: c_int32_t
   use lrpd

@@ -1,8 +1,8 @@
 ! Plans a loop text on the cells of its data and prints its stages in turn, each with the values that the loop's variable has in its
 ! iterations.
 !
-!     gfortran -J target fortran/lrpd.f90 examples/fortran/plan.f90 target/staticlib/libexports.a -o target/plan
-!     target/plan examples/texts/channels.loop
+!     gfortran -J build fortran/lrpd.f90 examples/fortran/plan.f90 build/liblrpd.a -o build/plan
+!     build/plan examples/texts/channels.loop
 program plan
   use, intrinsic :: iso_c_binding, only: c_int16_t, c_int32_t
   use lrpd

@@ -1,7 +1,7 @@
 ! Runs a loop text under a schedule that comes from the command line, a digit for each step, and prints the result and the cells.
 !
-!     gfortran -J target fortran/lrpd.f90 examples/fortran/run.f90 target/staticlib/libexports.a -o target/run
-!     target/run examples/texts/permutation.loop 1001
+!     gfortran -J build fortran/lrpd.f90 examples/fortran/run.f90 build/liblrpd.a -o build/run
+!     build/run examples/texts/permutation.loop 1001
 program run
   use, intrinsic :: iso_c_binding, only: c_int8_t, c_int32_t
   use lrpd

@@ -1,7 +1,7 @@
 ! A loop as a program has it: the text in its lines, the cells in its own arrays.
 !
-!     gfortran -J target fortran/lrpd.f90 examples/fortran/thin.f90 target/staticlib/libexports.a -o target/thin
-!     target/thin
+!     gfortran -J build fortran/lrpd.f90 examples/fortran/thin.f90 build/liblrpd.a -o build/thin
+!     build/thin
 program thin
   use lrpd
   implicit none

@@ -1,4 +1,4 @@
-//! Links the product's library, which `rt staticlib exports` writes.
+//! Links the product's library, which `make` builds.
 
 use std::path::Path;
 
@@ -9,11 +9,11 @@ fn main() {
     let folder = tests
         .parent()
         .expect("the repository")
-        .join("target/staticlib");
+        .join("build");
     println!("cargo:rustc-link-search=native={}", folder.display());
-    println!("cargo:rustc-link-lib=static=exports");
+    println!("cargo:rustc-link-lib=static=lrpd");
     println!(
         "cargo:rerun-if-changed={}",
-        folder.join("libexports.a").display()
+        folder.join("liblrpd.a").display()
     );
 }

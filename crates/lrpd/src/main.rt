@@ -2,12 +2,12 @@
 // refuse it, and writes what was printed.
 #![tactic(auto)]
 
-ghost use Rattle.std.specs.Prelude.{◌≡◌, ◌≤◌, length};
+ghost use Rattle.std.specs.Prelude.{◌≡◌, ◌≤◌, length, take};
+ghost use Rattle.std.specs.Io.KnownBytes.{Consumes};
 ghost use Rattle.syntax.specs.Text.{read};
 ghost use Rattle.lrpd.specs.Output.{lent_for, printed_over, printed, Prints};
 
 use answers::Checked;
-use std::io;
 use std::io::{Read, Write};
 
 // The words that are lent: as many as 128 cells and 8 processors need.
@@ -50,18 +50,25 @@ fn print(text: &[u8], out: &mut [u8; 2236]) -> usize
     print_over(text, &mut cells[..n], out)
 }
 
-fn main(rt: HostRuntime) -> io::Result<()> {
-    let mut text: [u8; 2049] = [0; 2049];
-    let mut input = rt.stdin();
-    let mut n = 0;
-    while n < 2049 {
-        let more = input.read(&mut text[n..])?;
-        if more == 0 {
-            break;
+// Reads until the buffer is full, the input ends or a read fails, and returns how many bytes it then holds.
+fn read_full<R: Read>(input: &mut R, buffer: &mut [u8]) -> usize
+    ensures within { result ≤ length buffer.new }
+    ensures bytes { Consumes (R.remaining input.old) (R.remaining input.new) (take result buffer.new) }
+{
+    let mut done = 0;
+    while done < buffer.len() {
+        match input.read(&mut buffer[done..]) {
+            Ok(0) | Err(_) => break,
+            Ok(n) => done += n,
         }
-        n += more;
     }
+    done
+}
+
+fn main(rt: HostRuntime) {
+    let mut text: [u8; 2049] = [0; 2049];
+    let n = read_full(&mut rt.stdin(), &mut text);
     let mut out: [u8; 2236] = [0; 2236];
     let r = print(&text[..n], &mut out);
-    rt.stdout().write_all(&out[..r])
+    let _ = rt.stdout().write_all(&out[..r]);
 }
