@@ -22,7 +22,7 @@ module _ (g : Log) where
   stages zero = λ j. 0
   stages (suc k) = put (stages k) k (suc (behind (stages k) k))
 
-  -- "A stage is 1 more than the highest stage of a lower iteration it depends on, else 1": that it is, and that nothing else is, are `Stage-is` and
+  -- "A stage is 1 more than the highest stage of a lower iteration it depends on, else 1": that it is, and that nothing else is, are `stage_is` and
   -- `stage_only` in proofs/Theorem.antt
   unfoldable pub stage : ℕ → ℕ
   stage i = stages (suc i) i

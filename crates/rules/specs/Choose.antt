@@ -1,4 +1,4 @@
--- One of two values by a test of two numbers, and a function changed at one number. Their laws are in proofs/ChooseLaws.antt.
+-- One of two values by a test of two numbers, and a function changed at one number. Their laws are in ChooseLaws.antt.
 use Rattle.std.specs.Prelude.{cond, ℕ, eqb, ltb}
 
 -- x if i is j, else y
