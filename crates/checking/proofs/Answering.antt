@@ -17,7 +17,7 @@ use Rattle.reader.specs.Judged.{Reads}
 use Rattle.answers.specs.declared.Checked.TheVariants.{Sizes, Refused}
 use Rattle.answers.specs.declared.Completed.TheVariants.{Done, Refused as Rejected}
 use Rattle.answers.specs.Answers.{check_of, taken, completed, load_of, cells_loaded}
-use Rattle.preparing.proofs.Verdicts.{Bad, Fine}
+use Rattle.preparing.proofs.Verdicts.{Bad, Fine, is_fine}
 use Rattle.fitting.proofs.Copies.{copied_whole}
 
 module _ (text : List ℕ) (r : Reading) (T : List ℕ) (I : List ℤ) (C : List ℕ) (h : Reads (read text) r T I C) where
@@ -82,3 +82,8 @@ module _ (text : List ℕ) (r : Reading) (T : List ℕ) (I : List ℤ) (C : List
     load_copied U e b q =
         let z : length M - 0 ≡ length M = omega arith in
         copied_whole U (take (length M - 0) (drop 0 I)) (e ∙ sym (simp length-take (omega arith))) q ∙ ap (λ (n : ℕ). take n I) z
+
+-- Check's answer where nothing is refused
+pub check_accepted : (text : List ℕ) (r : Reading) (T : List ℕ) (I : List ℤ) (C : List ℕ) → Reads (read text) r T I C → r.progress.number ≡ 0
+    → Sizes r.progress.cells r.progress.processors ≡ check_of (read text)
+check_accepted text r T I C h z = check_fine text r T I C h (is_fine text r T I C h z)

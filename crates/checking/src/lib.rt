@@ -10,6 +10,7 @@ use answers::{Checked, Completed};
 use fitting::copy_front;
 
 // N and P.
+#[tactic(auto, using(crate::proofs::Answering::check_accepted))]
 pub fn check(text: &[u8]) -> Checked
     ensures { result ≡ check_of (read_text text.now) }
 {

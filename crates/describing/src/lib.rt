@@ -40,6 +40,7 @@ pub fn bounds(text: &[u8]) -> Bounded
 }
 
 // The cells of the name that these bytes spell.
+#[tactic(auto, using(crate::proofs::Answering::over_long))]
 pub fn located(table: &Table, name: &[u8]) -> Located
     ensures { (t : List Entry) → Tabled table.now t → result ≡ located_in t (map lower name.now) }
 {

@@ -94,6 +94,7 @@ fn truncate(x: i64, y: i64) -> i64
 
 // The quotient of two cells. The end of the range is a case of its own: the exact quotient of the smallest number over -1 is one more than the
 // largest number, and the answer is the smallest number.
+#[tactic(auto, using(crate::proofs::Division::divided_end, crate::proofs::Truncation::quotient_end))]
 pub fn divide(x: i32, y: i32) -> Divided
     ensures { result ≡ divided quotient x y }
 {
@@ -144,6 +145,7 @@ fn round_half_even(a: u32, b: u32) -> u32
 }
 
 // x / y to the nearest whole number, halves to even (RULES 2.3). The smallest number over -1 is the smallest number.
+#[tactic(auto, using(crate::proofs::Division::divided_end, crate::proofs::Rounding::rdiv_end))]
 pub fn round_divide(x: i32, y: i32) -> Divided
     ensures { result ≡ divided rdiv x y }
 {

@@ -2,20 +2,13 @@
 use mathlib.Core.Path.{refl}
 use native.Mathlib.Omega.{arith}
 use borrow.Author.Tests.{not-true, not-false}
-use Rattle.claiming.proofs.NamesClaimed.{copies_none, copies_other, copies_last, variable_keeps}
+use Rattle.claiming.proofs.NamesClaimed.{copies_none, copies_last, variable_keeps}
 use Rattle.claiming.proofs.copy.Goals as goal
 
 pub returns-then-not-n : goal.returns-then-not-n
 returns-then-not-n c =
     let n = c.find-n in record {
       claims_one = copies_none _ _ _ n.result n.ensures.1 n.ensures.2 (not-true n.result.known c.if-not-n.true) _ c.ranked.ensures;
-      keeps = (λ h. (h, refl), c.requires.1);
-    }
-
-pub returns-then-n-ne-LASTPRIVATE : goal.returns-then-n-ne-LASTPRIVATE
-returns-then-n-ne-LASTPRIVATE c =
-    let n = c.find-n in record {
-      claims_one = copies_other _ _ _ n.result n.ensures.1 n.ensures.2 (λ e. omega (arith, e, c.if-n-ne-LASTPRIVATE.true)) _ c.ranked-then-n-ne-LASTPRIVATE.ensures;
       keeps = (λ h. (h, refl), c.requires.1);
     }
 

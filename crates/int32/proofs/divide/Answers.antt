@@ -1,26 +1,19 @@
-use Rattle.std.proofs.Common.{◌≡◌, sym, ap, ◌∙◌, w32, SFits, of_z}
+use Rattle.std.proofs.Common.{◌≡◌, sym, ap, ◌∙◌, w32, SFits, of_z, rules}
 use mir.ValLaws.{to_z-of_z}
 use Rattle.int32.specs.declared.Divided.TheVariants.{Value}
 use Rattle.int32.specs.Integers.{truncated, quotient}
-use Rattle.int32.proofs.Division.{divided_zero, divided_value, divided_end}
+use Rattle.int32.proofs.Division.{divided_zero, divided_value}
 use Rattle.int32.proofs.Rounding.{End}
-use Rattle.int32.proofs.Truncation.{quotient_end, quotient_truncated, truncated_fits}
+use Rattle.int32.proofs.Truncation.{quotient_truncated, truncated_fits}
 use Rattle.int32.proofs.Wide.{widens, widened, narrows, narrowed}
 use Rattle.int32.proofs.divide.Goals as goal
 
 pub returns-then-y-eq0 : goal.returns-then-y-eq0
 returns-then-y-eq0 c = divided_zero quotient c.args.x c.ranges.y c.if-y-eq0.true
 
-pub returns-then-y-eqminus1 : goal.returns-then-y-eqminus1
-returns-then-y-eqminus1 c = divided_end quotient quotient_end c.ranges.x c.ranges.y c.if-x-eqminus2147483648.true c.if-y-eqminus1.true
-
 -- what the two tests leave
 apart : (c : goal.Joined-x-eqminus2147483648) → End c.args.x c.args.y → ⊥
-apart c e =
-    elim c.if-x-eqminus2147483648.branch [
-      | goal.then-x-eqminus2147483648+else-y-eqminus1 w ↦ w.if-y-eqminus1.false (ap (of_z w32) e.1)
-      | goal.else-x-eqminus2147483648 w ↦ w.if-x-eqminus2147483648.false (ap (of_z w32) e.0)
-    ]
+apart c e = search (rules, e)
 
 fits : (c : goal.Joined-x-eqminus2147483648) → SFits w32 (truncated c.args.x c.args.y)
 fits c = truncated_fits c.args.x c.args.y c.ranges.x (apart c)

@@ -5,16 +5,12 @@ use Rattle.int32.specs.declared.Divided.TheVariants.{Value}
 use Rattle.int32.specs.Integers.{rdiv}
 use Rattle.int32.specs.SignWord.{sign_word}
 use Rattle.int32.proofs.Laws.{landed}
-use Rattle.int32.proofs.Division.{divided_zero, divided_value, divided_end, rdiv_words, rdiv_fits}
+use Rattle.int32.proofs.Division.{divided_zero, divided_value, rdiv_words, rdiv_fits}
 use Rattle.int32.proofs.Sizes.{size_pos}
-use Rattle.int32.proofs.Rounding.{rdiv_end}
 use Rattle.int32.proofs.round_divide.Goals as goal
 
 pub returns-then-y-eq0 : goal.returns-then-y-eq0
 returns-then-y-eq0 c = divided_zero rdiv c.args.x c.ranges.y c.if-y-eq0.true
-
-pub returns-then-x-eqminus2147483648 : goal.returns-then-x-eqminus2147483648
-returns-then-x-eqminus2147483648 c = divided_end rdiv rdiv_end c.ranges.x c.ranges.y c.if-x-eqminus2147483648.true c.if-y-eqminus1.true
 
 pub round_half_even-m-requires : goal.round_half_even-m-requires
 round_half_even-m-requires c = (

@@ -16,7 +16,7 @@ value_at-requires c =
     let t = c.run_copied-t in
     let e : to_z w32 (of_z w32 a.setting.from) ≡ a.setting.from = search (rules, c.struct_told-1) in
     fault_value a.code.now a.setting a.cells.now a.classes.now (length a.w.now) t.result t.ensures.ends
-    (λ (z : t.result.fault ≡ 0). omega (arith, c.if-t-ne0.true, z)) _ e _ c.requires.0
+    (λ (z : t.result.fault ≡ 0). omega (arith, z)) _ e _ c.requires.0
 
 pub returns-then-t-ne0 : goal.returns-then-t-ne0
 returns-then-t-ne0 c =
@@ -25,7 +25,7 @@ returns-then-t-ne0 c =
     let a = c.args in
     let t = c.run_copied-t in
     let u : to_z w32 (of_z w32 c.value_at.result) ≡ c.value_at.result = search rules in
-    let nz : t.result.fault ≢ 0 = (λ (z : t.result.fault ≡ 0). omega (arith, c.if-t-ne0.true, z)) in record {
+    let nz : t.result.fault ≢ 0 = (λ (z : t.result.fault ≡ 0). omega (arith, z)) in record {
       plans = plans_fault a.code.now a.setting a.cells.now a.classes.now (length a.w.now) t.result t.ensures.ends
           nz a.list.now _ _ _ e c.value_at.ensures u;
       w_after = t.ensures.w_after;
@@ -35,7 +35,7 @@ pub sweep_copied-stages-requires : goal.sweep_copied-stages-requires
 sweep_copied-stages-requires c =
     let a = c.args in
     let t = c.run_copied-t in
-    let z : t.result.fault ≡ 0 = omega (arith, c.if-t-ne0.false) in (
+    let z : t.result.fault ≡ 0 = omega arith in (
       then_sweep a.code.now a.setting a.cells.now a.classes.now (length a.w.now) t.result t.ensures.ends z _ _ _
           t.auto.w c.requires.2 c.requires.0,
       omega (arith, c.requires.1, t.auto.own),
@@ -46,7 +46,7 @@ returns c =
     let a = c.args in
     let t = c.run_copied-t in
     let k = t.auto.w in
-    let z : t.result.fault ≡ 0 = omega (arith, c.if-t-ne0.false) in record {
+    let z : t.result.fault ≡ 0 = omega arith in record {
       plans = plans_stages a.code.now a.setting a.cells.now a.classes.now (length a.w.now) t.result t.ensures.ends z a.list.now _ _ _ k
           c.sweep_copied-stages.ensures.sweeps;
       w_after = c.sweep_copied-stages.ensures.w_after ∙ ap (λ (n : ℕ). replicate {A = ℕ} n 0) k;
