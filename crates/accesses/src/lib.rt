@@ -1,49 +1,49 @@
-// The instructions that access cells, and the place of a grid's two subscripts, one function for each (crates/code).
+// The instructions that access cells, and the place of a grid's two subscripts (crates/code).
 #![tactic(auto)]
 
-ghost use Rattle.std.specs.Prelude.{◌≡◌, List, ℕ, ◌/◌, ◌%◌, ◌≤◌, length, ℤ};
+ghost use Rattle.std.specs.Prelude.{◌≡◌, List, ℕ, ◌/◌, ◌%◌, ◌≤◌, length, ℤ, FitsSigned};
+ghost use Rattle.std.specs.Int.{w32};
 ghost use Rattle.rules.specs.Loop.{Act};
 ghost use Rattle.syntax.specs.Meaning.{located, in_grid};
-ghost use Rattle.code.specs.Instr.{Instr};
-ghost use Rattle.operands.specs.Pending.{Holding};
-ghost use Rattle.operands.specs.Performing.{does, Performs};
+ghost use Rattle.code.specs.Instr.{Instr, with1};
+ghost use Rattle.operands.specs.Pending.{pendings, Holding};
+ghost use Rattle.operands.specs.Performing.{left, does, Performs};
+ghost use Rattle.operands.specs.declared.Move.{Move};
 ghost use Rattle.accesses.specs.Cells.{at_cell};
 
 use operands::{Move, Performed, fault, go_on, stop};
 
-// The cell of a subscript, or of a grid's two, if it is inside its bounds.
-#[derive(Clone, Copy)]
-pub enum Located {
-    Cell(usize),
-    Outside,
-}
-
-// The cell of subscript i in an array of so many cells from `first` on.
-pub fn locate(first: u32, size: u32, i: i32) -> Located
+// The cell of subscript i in an array of so many cells from `first` on, if it is inside its bounds.
+pub fn locate(first: u32, size: u32, i: i32) -> Option<usize>
     ensures { (line : ℕ) (k : ℕ → Act) → located line first size i k ≡ at_cell result line k }
 {
     if i < 1 {
-        return Located::Outside;
+        return None;
     }
     let k = i as u32 - 1;
     if size <= k {
-        return Located::Outside;
+        return None;
     }
-    Located::Cell(first as usize + k as usize)
+    Some(first as usize + k as usize)
 }
 
-// The place of two subscripts among the cells of a grid, the first subscript fastest.
-pub fn locate_both(rows: u32, columns: u32, i: i32, j: i32) -> Located
+// The place of two subscripts among the cells of a grid, the first subscript fastest, if both are inside their bounds.
+pub fn locate_both(rows: u32, columns: u32, i: i32, j: i32) -> Option<usize>
     ensures { (line : ℕ) (k : ℕ → Act) → in_grid line 0 rows columns i j k ≡ at_cell result line k }
 {
-    let row = locate(0, rows, i);
-    let column = locate(0, columns, j);
-    match row {
-        Located::Cell(a) => match column {
-            Located::Cell(b) => Located::Cell(a + b * rows as usize),
-            Located::Outside => Located::Outside,
-        },
-        Located::Outside => Located::Outside,
+    let a = locate(0, rows, i)?;
+    let b = locate(0, columns, j)?;
+    Some(a + b * rows as usize)
+}
+
+// The move at the element of subscript i, as `access` makes it, or the fault of a subscript outside its bounds.
+fn at_element<F: FnOnce(usize) -> Move>(arg: u32, line: u32, i: i32, access: F) -> Move
+    requires { F.IsAlwaysCallable access }
+    ensures { (m : ℕ → Move) → ((c : ℕ) (r : Move) → F.post access c r → r ≡ m c) → (on : List ℤ → Act) (s : List ℤ) → located line (arg % 4096) (arg / 4096) i (λ c. left (m c) on s) ≡ left result on s }
+{
+    match locate(arg % code::ELEMENT, arg / code::ELEMENT, i) {
+        Some(cell) => access(cell),
+        None => Move::Fault { number: 9, line },
     }
 }
 
@@ -55,8 +55,13 @@ pub fn load(place: usize, depth: usize, cell: u32) -> Performed
     if 32 <= depth {
         return stop(place, depth, Move::End);
     }
-    let c = cell as usize;
-    stop(place, depth, Move::Read { cell: c })
+    stop(
+        place,
+        depth,
+        Move::Read {
+            cell: cell as usize,
+        },
+    )
 }
 
 // The value of an element; the subscript is pending.
@@ -68,40 +73,28 @@ pub fn load_at(place: usize, depth: usize, pending: &[i32; 32], arg: u32, line: 
         return stop(place, depth, Move::End);
     }
     let d = depth - 1;
-    let i = pending[d];
-    let found = locate(arg % code::ELEMENT, arg / code::ELEMENT, i);
-    match found {
-        Located::Cell(c) => stop(place, d, Move::Read { cell: c }),
-        Located::Outside => fault(place, d, 9, line),
-    }
+    let done = at_element(arg, line, pending[d], |cell| Move::Read { cell });
+    stop(place, d, done)
 }
 
-// A value is written to a cell.
-pub fn store(place: usize, depth: usize, pending: &[i32; 32], cell: u32) -> Performed
-    requires { Holding pending.now depth }
-    ensures { (v : ℤ) → Performs (does (Instr.store cell) place depth pending.now v) place pending.now result }
+// A cell is changed by a value, as `change` makes the move: it is written or updated.
+pub fn change_cell<F: FnOnce(usize, i32) -> Move>(
+    place: usize,
+    depth: usize,
+    pending: &[i32; 32],
+    cell: u32,
+    change: F,
+) -> Performed
+    requires holding { Holding pending.now depth }
+    requires callable { F.IsAlwaysCallable change }
+    ensures { (m : ℕ → ℤ → Move) → ((x : ℤ) → FitsSigned w32 x → (r : Move) → F.post change cell x r → r ≡ m cell x) → Performs (λ go. with1 (pendings pending.now depth) (λ x t. left (m cell x) (go place) t)) place pending.now result }
 {
     if depth < 1 {
         return stop(place, depth, Move::End);
     }
     let d = depth - 1;
-    let c = cell as usize;
-    let x = pending[d];
-    stop(place, d, Move::Write { cell: c, value: x })
-}
-
-// A value is added to a cell.
-pub fn update(place: usize, depth: usize, pending: &[i32; 32], cell: u32) -> Performed
-    requires { Holding pending.now depth }
-    ensures { (v : ℤ) → Performs (does (Instr.update cell) place depth pending.now v) place pending.now result }
-{
-    if depth < 1 {
-        return stop(place, depth, Move::End);
-    }
-    let d = depth - 1;
-    let c = cell as usize;
-    let x = pending[d];
-    stop(place, d, Move::Update { cell: c, value: x })
+    let done = change(cell as usize, pending[d]);
+    stop(place, d, done)
 }
 
 // A value is written to an element; the subscript is pending above the value.
@@ -113,13 +106,14 @@ pub fn store_at(place: usize, depth: usize, pending: &[i32; 32], arg: u32, line:
         return stop(place, depth, Move::End);
     }
     let d = depth - 2;
-    let x = pending[d];
-    let i = pending[d + 1];
-    let found = locate(arg % code::ELEMENT, arg / code::ELEMENT, i);
-    match found {
-        Located::Cell(c) => stop(place, d, Move::Write { cell: c, value: x }),
-        Located::Outside => fault(place, d, 9, line),
-    }
+    let value = pending[d];
+    let done = at_element(
+        arg,
+        line,
+        pending[d + 1],
+        |cell| Move::Write { cell, value },
+    );
+    stop(place, d, done)
 }
 
 // An update's subscript is tested and stays.
@@ -131,11 +125,9 @@ pub fn check(place: usize, depth: usize, pending: &[i32; 32], arg: u32, line: u3
         return stop(place, depth, Move::End);
     }
     let d = depth - 1;
-    let i = pending[d];
-    let found = locate(arg % code::ELEMENT, arg / code::ELEMENT, i);
-    match found {
-        Located::Cell(_) => go_on(place, depth),
-        Located::Outside => fault(place, d, 9, line),
+    match locate(arg % code::ELEMENT, arg / code::ELEMENT, pending[d]) {
+        Some(_) => go_on(place, depth),
+        None => fault(place, d, 9, line),
     }
 }
 
@@ -148,13 +140,9 @@ pub fn update_at(place: usize, depth: usize, pending: &[i32; 32], arg: u32, line
         return stop(place, depth, Move::End);
     }
     let d = depth - 2;
-    let i = pending[d];
-    let x = pending[d + 1];
-    let found = locate(arg % code::ELEMENT, arg / code::ELEMENT, i);
-    match found {
-        Located::Cell(c) => stop(place, d, Move::Update { cell: c, value: x }),
-        Located::Outside => fault(place, d, 9, line),
-    }
+    let value = pending[d + 1];
+    let done = at_element(arg, line, pending[d], |cell| Move::Update { cell, value });
+    stop(place, d, done)
 }
 
 // A grid's two subscripts are tested, and the place among its cells is left as one subscript.
@@ -174,12 +162,8 @@ pub fn flatten(
     let d = depth - 2;
     let i = pending[d];
     let j = pending[d + 1];
-    let found = locate_both(arg % code::EXTENT, arg / code::EXTENT % code::EXTENT, i, j);
-    match found {
-        Located::Cell(c) => {
-            let n = operands::put(pending, d, (c + 1) as i32);
-            go_on(place, n)
-        }
-        Located::Outside => fault(place, d, 9, line),
+    match locate_both(arg % code::EXTENT, arg / code::EXTENT % code::EXTENT, i, j) {
+        Some(c) => go_on(place, operands::put(pending, d, (c + 1) as i32)),
+        None => fault(place, d, 9, line),
     }
 }

@@ -1,53 +1,51 @@
 -- Tokens that are alike: two runs of tokens are compared from their beginnings on.
 use mathlib.Core.Path.{◌≡◌, refl, sym, ◌∙◌, ap, subst}
-use mathlib.Core.Bool.{Bool, true, false, cond, ◌&&◌, not}
+use mathlib.Core.Bool.{Bool, true, false, ◌&&◌}
 use mathlib.Core.List.{List, [], ◌∷◌}
 use mathlib.Core.Option.{some}
-use Prim.Native.Nat.{ℕ, ◌+◌, ◌-◌, ◌≤◌, ◌<◌}
+use Prim.Native.Nat.{ℕ, suc, ◌+◌, ◌-◌, ◌≤◌, ◌<◌}
 use native.Mathlib.Omega.{arith}
-use borrow.Author.Tests.{eq-eqb, ne_eqb}
 use lib.Dec.{eqb}
-use lib.ListN.{length, drop, get_or, length-drop}
-use Rattle.syntax.specs.Bytes.{choose, same, Token, kind_of, bytes_of, name, other_word, digits, sign, equal, token_size, trimmed}
+use lib.Pointwise.{pointwise}
+use lib.ListN.{length, take, drop, length-drop}
+use lib.Seq.{take_all}
+use Rattle.syntax.specs.Bytes.{choose, run, same, Token, kind_of, bytes_of, name, other_word, digits, sign, equal, token_size, trimmed}
 use Rattle.syntax.specs.Meaning.{no_zeros, zeros_aside, alike}
 use Rattle.syntax.specs.Reader.{kind, text, token_in, after_in, peek_in, skip_in}
 use Rattle.syntax.specs.Spelled.{Spells, here, token}
 use Rattle.syntax.proofs.Places.{size_one}
 use Rattle.lexer.specs.declared.Kind.{Kind}
-use Rattle.lexer.specs.declared.Kind.TheVariants.{End}
+use Rattle.lexer.specs.declared.Kind.TheVariants.{End, Digits}
 use Rattle.lexer.specs.declared.Tok.{Tok}
 use Rattle.lexer.specs.Lex.{kind_number, part, Lexed}
-use Rattle.lexer.proofs.Laws.{part_cons}
+use Rattle.lexer.proofs.Laws.{same_is}
 use Rattle.lexer.proofs.PlaceLaws.{trimmed_length}
 use Rattle.alike.specs.Alike.{same_token, Alike}
 
 -- ---- leading zeros
 
-module _ (s : List ℕ) (i e : ℕ) (h : i < e) (k : e ≤ length s) where
-  pub zeros_on : get_or s i 0 ≡ 48 → no_zeros (part s i e) ≡ no_zeros (part s (i + 1) e)
-  unfolding no_zeros
-  zeros_on z =
-      ap no_zeros (part_cons s i e h k)
-      ∙ ap (λ (b : Bool). choose b (λ _. no_zeros (part s (i + 1) e)) (λ _. get_or s i 0 ∷ part s (i + 1) e)) (eq-eqb (get_or s i 0) 48 z)
+zeros_dropped : (w : List ℕ) → no_zeros w ≡ drop (run (λ b. eqb b 48) w) w
+unfolding no_zeros run
+zeros_dropped [] = refl
+zeros_dropped (b ∷ w) = go (eqb b 48) (zeros_dropped w)
+  where
+    go : (c : Bool) → no_zeros w ≡ drop (run (λ b. eqb b 48) w) w
+        → choose c (λ _. no_zeros w) (λ _. b ∷ w) ≡ drop (choose c (λ _. suc (run (λ b. eqb b 48) w)) (λ _. 0)) (b ∷ w)
+    go true h = h
+    go false h = refl
 
-  pub zeros_off : (get_or s i 0 ≡ 48 → ⊥) → no_zeros (part s i e) ≡ part s i e
-  unfolding no_zeros
-  zeros_off z =
-      ap no_zeros (part_cons s i e h k)
-      ∙ ap (λ (b : Bool). choose b (λ _. no_zeros (part s (i + 1) e)) (λ _. get_or s i 0 ∷ part s (i + 1) e)) (ne_eqb (get_or s i 0) 48 z)
-      ∙ sym (part_cons s i e h k)
-
-pub zeros_out : (s : List ℕ) (i e : ℕ) → e ≤ i → no_zeros (part s i e) ≡ part s i e
-unfolding no_zeros
-zeros_out s i e h = let n : e - i ≡ 0 = omega arith in rw n
+-- a is where they end
+pub zeros_run : (w : List ℕ) (a : ℕ) → a ≡ 0 + run (λ b. eqb b 48) w → take (length w - a) (drop a w) ≡ no_zeros w
+zeros_run w a e =
+    let z : a ≡ run (λ b. eqb b 48) w = omega (arith, e) in
+    take_all (length w - a) (drop a w) (omega (arith, length-drop a w)) ∙ ap (λ (n : ℕ). drop n w) z ∙ sym (zeros_dropped w)
 
 -- ---- two tokens
 
--- by the tests of the code
-module _ (k j : ℕ) (x y : List ℕ) where
-  pub same_by : {a b c : Bool} → eqb k 0 ≡ a → eqb k j ≡ b → eqb k 3 ≡ c
-      → not a && (b && cond c (same (no_zeros x) (no_zeros y)) (same x y)) ≡ same_token k x j y
-  same_by ea eb ec = λ i. not (sym ea i) && (sym eb i && cond (sym ec i) (same (no_zeros x) (no_zeros y)) (same x y))
+pub same_digits : (t u : Kind) (x y : List ℕ) {p q : List ℕ} {r : Bool} → p ≡ no_zeros x → q ≡ no_zeros y → r ≡ pointwise eqb p q → t ≡ Digits → t ≡ u
+    → r ≡ same_token (kind_number t) x (kind_number u) y
+same_digits t u x y {p} {q} ep eq er e f =
+    er ∙ same_is p q ∙ (λ i. same (ep i) (eq i)) ∙ (λ i. same_token (kind_number (sym e i)) x (kind_number ((sym e ∙ f) i)) y)
 
 pub same_some : (k : Kind) (j : ℕ) (x y : List ℕ) {r : Bool} → r ≡ same_token (kind_number k) x j y → r ≡ true → k ≡ End → ⊥
 same_some k j x y er e z =

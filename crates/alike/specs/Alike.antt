@@ -1,16 +1,9 @@
 -- Tokens that are the same, "a literal's leading zeros aside", as the code compares them.
-use Rattle.std.specs.Prelude.{◌≡◌, Bool, cond, ◌&&◌, not, List, ℕ, ◌≤◌, eqb, drop}
+use Rattle.std.specs.Prelude.{◌≡◌, Bool, cond, ◌&&◌, not, List, ℕ, eqb, drop}
 use Rattle.syntax.specs.Bytes.{same, Token}
 use Rattle.syntax.specs.Meaning.{no_zeros, alike}
 use Rattle.syntax.specs.Reader.{peek_in, skip_in}
 use Rattle.syntax.specs.Spelled.{Spells}
-use Rattle.lexer.specs.Lex.{part}
-
--- digits from a to e go on at r after their leading zeros
-pub record Zeros (s : List ℕ) (a e r : ℕ) : Type 0 where
-  pub rest : no_zeros (part s a e) ≡ part s r e
-  pub from : a ≤ r
-  pub within : r ≤ e
 
 -- two tokens by their kinds and bytes; the end of a line is none
 abbrev pub same_token : ℕ → List ℕ → ℕ → List ℕ → Bool

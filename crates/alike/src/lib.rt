@@ -2,24 +2,18 @@
 #![tactic(auto)]
 
 ghost use Rattle.std.specs.Prelude.{◌≡◌, ◌≤◌, ◌<◌, length};
+ghost use Rattle.syntax.specs.Meaning.{no_zeros};
 ghost use Rattle.lexer.specs.Lex.{part, kind_number};
-ghost use Rattle.alike.specs.Alike.{Zeros, same_token, Alike};
+ghost use Rattle.alike.specs.Alike.{same_token, Alike};
 
-use lexer::{Kind, Tok, equal, same_kind, token};
+use lexer::cursor::Cursor;
+use lexer::{Kind, Tok, run_end};
 
-// Where digits that lie between two places go on after their leading zeros.
-fn past_zeros(s: &[u8], a: usize, e: usize) -> usize
-    requires { (a ≤ e) × (e ≤ length s.now) }
-    ensures { Zeros s.now a e result }
+// Digits after their leading zeros.
+fn past_zeros(w: &[u8]) -> &[u8]
+    ensures { result.now ≡ no_zeros w.now }
 {
-    let mut i = a;
-    while i < e {
-        if s[i] != 48 {
-            return i;
-        }
-        i += 1;
-    }
-    i
+    &w[run_end(w, 0, |b| b == b'0')..]
 }
 
 // Whether two tokens are the same, leading zeros aside.
@@ -27,24 +21,15 @@ fn same_token(s: &[u8], t: Tok, u: Tok) -> bool
     requires { (t.start ≤ t.stop) × (t.stop ≤ length s.now) × (u.start ≤ u.stop) × (u.stop ≤ length s.now) }
     ensures { result ≡ same_token (kind_number t.kind) (part s.now t.start t.stop) (kind_number u.kind) (part s.now u.start u.stop) }
 {
-    let k = t.kind;
-    let j = u.kind;
-    let a = t.start;
-    let e = t.stop;
-    let b = u.start;
-    let z = u.stop;
-    if same_kind(k, Kind::End) {
-        return false;
+    let x = &s[t.start..t.stop];
+    let y = &s[u.start..u.stop];
+    if t.kind == Kind::End || t.kind != u.kind {
+        false
+    } else if t.kind == Kind::Digits {
+        past_zeros(x) == past_zeros(y)
+    } else {
+        x == y
     }
-    if !same_kind(k, j) {
-        return false;
-    }
-    if same_kind(k, Kind::Digits) {
-        let m = past_zeros(s, a, e);
-        let n = past_zeros(s, b, z);
-        return equal(&s[m..e], &s[n..z]);
-    }
-    equal(&s[a..e], &s[b..z])
 }
 
 // Whether the tokens up to n are those from one place to another.
@@ -52,19 +37,17 @@ pub fn alike(s: &[u8], n: usize, from: usize, to: usize) -> bool
     requires { (n ≤ length s.now) × (from ≤ length s.now) × (to ≤ length s.now) }
     ensures { Alike s.now n from to result }
 {
-    let mut i = 0;
-    let mut j = from;
-    while i < n {
-        let t = token(s, i);
-        let u = token(s, j);
-        if to <= j {
+    let mut left = Cursor { text: s, at: 0 };
+    let mut right = Cursor { text: s, at: from };
+    while left.at < n {
+        if to <= right.at {
             return false;
         }
+        let t = left.take();
+        let u = right.take();
         if !same_token(s, t, u) {
             return false;
         }
-        i = t.stop;
-        j = u.stop;
     }
-    to <= j
+    to <= right.at
 }

@@ -1,8 +1,9 @@
 -- RULES 9.7 b and 10 (document 01, Services and answers): "Returned: number, line, value of v", and both write counts, for what the serial run answers.
 -- Those of the services are in crates/exports.
-use Rattle.std.specs.Prelude.{ℕ, ℤ, pos}
-use Rattle.answers.specs.declared.Served.{Served}
-use Rattle.answers.specs.declared.Served.TheVariants.{Finished, Faulted, Refused}
+use Rattle.std.specs.Prelude.{ℕ, ℤ, pos, Result, Ok, Err}
+use Rattle.answers.specs.declared.Counts.{Counts}
+use Rattle.answers.specs.declared.Failure.{Failure}
+use Rattle.answers.specs.declared.Failure.TheVariants.{Refused, Faulted}
 
 pub record Returned : Type 0 where
   pub number : ℕ
@@ -21,7 +22,7 @@ failure n k x = record { number = n; line = k; v = x; pairs = 0; cells = 0 }
 abbrev pub refusal : ℕ → ℕ → Returned
 refusal n k = failure n k (pos 0)
 
-unfoldable pub served_numbers : Served → Returned
-served_numbers (Finished a b) = done a b
-served_numbers (Faulted n k x) = failure n k x
-served_numbers (Refused n k) = refusal n k
+unfoldable pub served_numbers : Result Counts Failure → Returned
+served_numbers (Ok c) = done c.pairs c.cells
+served_numbers (Err (Faulted f)) = failure f.number f.line f.v
+served_numbers (Err (Refused r)) = refusal r.number r.line

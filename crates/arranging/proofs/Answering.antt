@@ -9,77 +9,85 @@ use borrow.Author.Tests.{eqb-true, eq-eqb, ne_eqb, lt-ltb, le-ltb}
 use lib.Dec.{eqb}
 use lib.ListN.{length}
 use lib.IntN.{ℤ}
-use Rattle.rules.specs.Numbers.{class_number}
 use Rattle.syntax.specs.Bytes.{lower}
 use Rattle.syntax.specs.Known.{Entry, State, cells, find, known}
 use Rattle.syntax.specs.Text.{Verdict, refused, good, read}
 use Rattle.syntax.proofs.Sane.{accepted_sane}
 use Rattle.names.specs.Table.{Tabled}
-use Rattle.reader.specs.declared.Reading.{Reading}
-use Rattle.reader.specs.Judged.{Reads}
+use Rattle.std.specs.Prelude.{Result, Ok, Err}
+use Rattle.lines.specs.declared.Progress.{Progress}
 use Rattle.grids.specs.Arrange.{Grid, rearranged, grid_of, grid_named}
 use Rattle.grids.proofs.Named.{Inside, grid_unknown, named_inside}
-use Rattle.answers.specs.declared.Completed.{Completed}
-use Rattle.answers.specs.declared.Completed.TheVariants.{Done, Refused as Rejected}
+use Rattle.answers.specs.declared.Refusal.{Refusal}
 use Rattle.answers.specs.declared.Located.{Located}
-use Rattle.answers.specs.declared.Located.TheVariants.{Cells, Refused as Unlocated}
-use Rattle.answers.specs.Answers.{entry_cells, located_in, taken, completed, grid_number, load_number, arrange_of, arranged, cells_arranged}
-use Rattle.preparing.proofs.Verdicts.{Bad, Fine}
-use Rattle.arranging.specs.declared.Sought.{Sought}
-use Rattle.arranging.specs.declared.Sought.TheVariants.{Found, Refused}
-use Rattle.arranging.specs.Sought.{told, grid_told, sought_of}
+use Rattle.answers.specs.Answers.{refusal_at, refuse, entry_cells, located_in, taken, completed, cells_number, grid_number, load_number, arrange_of, arranged, cells_arranged}
+use Rattle.fitting.proofs.Fits.{fits_done, fits_not}
+use Rattle.preparing.proofs.Verdicts.{refusal_is}
+use Rattle.preparing.specs.Prepared.{Accepts, Refuses}
+use Rattle.arranging.specs.declared.Grid.{Grid as Found}
+use Rattle.arranging.specs.Sought.{found, told, grid_told, sought_of}
 
 -- ---- what Name tells of a grid
 
-module _ (f z k c m n : ℕ) where
-  pub told_few : k < 2 → Refused 13 0 ≡ grid_told (Cells f z k c m n)
-  told_few h = ap (λ (b : Bool). cond b (Refused 13 0) (Found f m n)) (sym (lt-ltb k 2 h))
+pub told_two : (l : Located) → 2 ≤ l.subscripts → Ok (found l.first l.rows l.columns) ≡ grid_told (Ok l)
+told_two l h = ap (λ (b : Bool). cond b (refuse 13 0) (Ok (found l.first l.rows l.columns))) (sym (le-ltb l.subscripts 2 h))
 
-  pub told_two : 2 ≤ k → Found f m n ≡ grid_told (Cells f z k c m n)
-  told_two h = ap (λ (b : Bool). cond b (Refused 13 0) (Found f m n)) (sym (le-ltb k 2 h))
+pub told_none : (r : Result Located Refusal) → ((l : Located) → r ≡ Ok l → l.subscripts < 2) → refuse 13 0 ≡ grid_told r
+told_none (Ok l) h = ap (λ (b : Bool). cond b (refuse 13 0) (Ok (found l.first l.rows l.columns))) (sym (lt-ltb l.subscripts 2 (h l refl)))
+told_none (Err e) h = refl
 
 pub told_located : (t : List Entry) (w : List ℕ) → grid_told (located_in t (map lower w)) ≡ told 0 (grid_named t w)
 unfolding grid_named
 told_located t w = go (known (map lower w) t) refl
   where
-    by_extents : (e : Entry) (ns : List ℕ) → e.extents ≡ ns → grid_told (entry_cells e) ≡ told 0 (grid_of e.first e.extents)
+    by_extents : (e : Entry) (ns : List ℕ) → e.extents ≡ ns → grid_told (Ok (entry_cells e)) ≡ told 0 (grid_of e.first e.extents)
     by_extents e [] q = rw q
     by_extents e (n ∷ []) q = rw q
-    by_extents e (m ∷ n ∷ ns) q = rw q (sym (told_two e.first e.size (suc (suc (length ns))) (class_number e.class) m n (omega arith)))
+    by_extents e (m ∷ n ∷ ns) q = rw q (sym (told_two (record {
+      first = e.first;
+      count = e.size;
+      subscripts = suc (suc (length ns));
+      class = e.class;
+      rows = m;
+      columns = n;
+    }) (omega arith)))
 
-    go : (b : Bool) → known (map lower w) t ≡ b → grid_told (cond b (entry_cells (find (map lower w) t)) (Unlocated 3 0)) ≡ told 0 (grid_named t w)
+    go : (b : Bool) → known (map lower w) t ≡ b → grid_told (cond b (Ok (entry_cells (find (map lower w) t))) (refuse 3 0)) ≡ told 0 (grid_named t w)
     go true q = by_extents (find (map lower w) t) _ refl
     go false q = sym (ap (told 0) (grid_unknown t w q))
 
 -- ---- by the verdict on the text
 
-module _ (text : List ℕ) (r : Reading) (T : List ℕ) (I : List ℤ) (C : List ℕ) (h : Reads (read text) r T I C) (w : List ℕ) (m : ℕ) where
-  pub seek_bad : Bad text r T I C h → Refused r.progress.number r.line ≡ sought_of (read text) w m
-  unfolding sought_of
-  seek_bad b = sym (ap (λ (v : Verdict). sought_of v w m) b.verdict)
+pub seek_refused : (v : Verdict) (e : Refusal) (w : List ℕ) (m : ℕ) → Refuses v e → Err e ≡ sought_of v w m
+unfolding sought_of
+seek_refused v e w m r = ap Err (refusal_is r) ∙ sym (ap (λ (u : Verdict). sought_of u w m) r.verdict)
 
+module _ (v : Verdict) (p : Progress) (T : List ℕ) (I : List ℤ) (C : List ℕ) (a : Accepts v p T I C) (w : List ℕ) (m : ℕ) where
   -- by whether the cells are as many as the loop's
-  by_cells : (f : Fine text r T I C h) (b : Bool) → eqb m (cells f.state.table) ≡ b
-      → told (cond b 0 5) (grid_named f.state.table w) ≡ sought_of (read text) w m
+  by_number : (n : ℕ) → cells_number p.cells m ≡ n → told n (grid_named a.state.table w) ≡ sought_of v w m
   unfolding sought_of
-  by_cells f b q =
-      ap (λ (b : Bool). told (cond b 0 5) (grid_named f.state.table w)) (sym q) ∙ sym (ap (λ (v : Verdict). sought_of v w m) f.verdict)
+  by_number n q =
+      (λ i. told (sym q i) (grid_named a.state.table w))
+      ∙ (λ i. told (cells_number (a.represents.cells_so_far i) m) (grid_named a.state.table w))
+      ∙ sym (ap (λ (u : Verdict). sought_of u w m) a.verdict)
 
-  pub seek_other : Fine text r T I C h → (m ≡ r.progress.cells → ⊥) → Refused 5 0 ≡ sought_of (read text) w m
-  seek_other f n =
-      by_cells f false (ne_eqb m (cells f.state.table) (λ (z : m ≡ cells f.state.table). n (z ∙ sym f.represents.cells_so_far)))
+  pub seek_unfit : (e : Refusal) → Err e ≡ completed (cells_number p.cells m) → Err e ≡ sought_of v w m
+  seek_unfit e h = go (cells_number p.cells m) refl
+    where
+      go : (n : ℕ) → cells_number p.cells m ≡ n → Err e ≡ sought_of v w m
+      go zero q = absurd (omega (arith, (fits_not (cells_number p.cells m) e h).1, q))
+      go (suc n) q = ap Err ((fits_not (cells_number p.cells m) e h).0 ∙ ap (λ (k : ℕ). refusal_at k 0) q) ∙ by_number (suc n) q
 
-  pub seek_fine : Fine text r T I C h → m ≡ r.progress.cells → (l : Located) → ((t : List Entry) → Tabled T t → l ≡ located_in t (map lower w))
-      → grid_told l ≡ sought_of (read text) w m
-  seek_fine f e l q =
-      ap grid_told (q f.state.table f.represents.table) ∙ told_located f.state.table w
-      ∙ by_cells f true (eq-eqb m (cells f.state.table) (e ∙ f.represents.cells_so_far))
+  pub seek_accepted : Ok tt ≡ completed (cells_number p.cells m) → (r : Result Located Refusal)
+      → ((t : List Entry) → Tabled T t → r ≡ located_in t (map lower w)) → grid_told r ≡ sought_of v w m
+  seek_accepted h r q =
+      ap grid_told (q a.state.table a.represents.table) ∙ told_located a.state.table w ∙ by_number 0 (fits_done (cells_number p.cells m) h)
 
 -- ---- by what was sought
 
-abbrev pub answer_of : Sought → Completed
-answer_of (Found a m n) = Done
-answer_of (Refused n k) = Rejected n k
+abbrev pub answer_of : Result Found Refusal → Result Unit Refusal
+answer_of (Ok g) = Ok tt
+answer_of (Err e) = Err e
 
 pub answer_by : (v : Verdict) (w : List ℕ) (m : ℕ) → answer_of (sought_of v w m) ≡ arrange_of v w m
 unfolding sought_of arrange_of
@@ -93,9 +101,9 @@ answer_by (good s) w m = go (load_number s m) (grid_named s.table w)
     go (suc n) (some g) = refl
 
 module _ (f : Grid → (ℕ → ℤ) → ℕ → ℤ) where
-  abbrev pub moved : Sought → List ℤ → List ℤ
-  moved (Found a m n) M = rearranged f (record { first = a; rows = m; columns = n }) M
-  moved (Refused n k) M = M
+  abbrev pub moved : Result Found Refusal → List ℤ → List ℤ
+  moved (Ok g) M = rearranged f (record { first = g.first; rows = g.rows; columns = g.columns }) M
+  moved (Err e) M = M
 
   pub cells_by : (v : Verdict) (w : List ℕ) (M : List ℤ) → moved (sought_of v w (length M)) M ≡ cells_arranged f v w M
   unfolding sought_of
@@ -110,9 +118,9 @@ module _ (f : Grid → (ℕ → ℤ) → ℕ → ℤ) where
 
 -- ---- a grid that was found is among the cells lent
 
-abbrev pub Room : ℕ → Sought → Type 0
-Room m (Found a b c) = (a + b * c ≤ m) × (b * c ≤ 4096)
-Room m (Refused n k) = Unit {0}
+abbrev pub Room : ℕ → Result Found Refusal → Type 0
+Room m (Ok g) = (g.first + g.rows * g.columns ≤ m) × (g.rows * g.columns ≤ 4096)
+Room m (Err e) = Unit {0}
 
 pub found_room : (text w : List ℕ) (m : ℕ) → Room m (sought_of (read text) w m)
 unfolding sought_of
@@ -136,7 +144,7 @@ found_room text w m = go (read text) refl
 
 -- ---- what is answered and left, and what a grid that was found is moved by
 
-module _ (text w : List ℕ) (M : List ℤ) (s : Sought) (e : s ≡ sought_of (read text) w (length M)) where
+module _ (text w : List ℕ) (M : List ℤ) (s : Result Found Refusal) (e : s ≡ sought_of (read text) w (length M)) where
   pub room : Room (length M) s
   room = subst (Room (length M)) (sym e) (found_room text w (length M))
 
@@ -144,4 +152,4 @@ module _ (text w : List ℕ) (M : List ℤ) (s : Sought) (e : s ≡ sought_of (r
   answers = ap answer_of e ∙ answer_by (read text) w (length M)
 
   pub leaves : (f : Grid → (ℕ → ℤ) → ℕ → ℤ) → moved f s M ≡ cells_arranged f (read text) w M
-  leaves f = ap (λ (x : Sought). moved f x M) e ∙ cells_by f (read text) w M
+  leaves f = ap (λ (x : Result Found Refusal). moved f x M) e ∙ cells_by f (read text) w M

@@ -14,9 +14,9 @@ use Rattle.syntax.specs.Reader.{read_more, read_declare, read_clauses, read_dire
 use Rattle.syntax.specs.Text.{Verdict, judged, judge_line, judge, read}
 use Rattle.syntax.proofs.Quoted.{text}
 use Rattle.grids.specs.Arrange.{by_rows, by_columns, grid_named}
-use Rattle.answers.specs.declared.Completed.{Completed}
-use Rattle.answers.specs.declared.Completed.TheVariants.{Done, Refused}
-use Rattle.answers.specs.Answers.{arrange_of, cells_by_rows, cells_by_columns}
+use Rattle.std.specs.Prelude.{Result, Ok}
+use Rattle.answers.specs.declared.Refusal.{Refusal}
+use Rattle.answers.specs.Answers.{refuse, arrange_of, cells_by_rows, cells_by_columns}
 use Rattle.syntax.specs.Bytes as bytes'
 
 -- a loop without statements, over a single cell, a grid, an array, and grids of one column and of one row
@@ -37,37 +37,40 @@ in_rows = pos 7 ∷ pos 11 ∷ pos 12 ∷ pos 13 ∷ pos 21 ∷ pos 22 ∷ pos 2
 abbrev in_columns : List ℤ
 in_columns = pos 7 ∷ pos 11 ∷ pos 22 ∷ pos 21 ∷ pos 13 ∷ pos 12 ∷ pos 23 ∷ pos 1 ∷ pos 2 ∷ pos 3 ∷ pos 4 ∷ pos 5 ∷ pos 6 ∷ pos 8 ∷ pos 9 ∷ []
 
+abbrev done : Result Unit Refusal
+done = Ok tt
+
 -- what is answered, and the cells that are left
 pub record Row : Type 0 where
-  pub got : Completed × List ℤ
-  pub want : Completed × List ℤ
+  pub got : Result Unit Refusal × List ℤ
+  pub want : Result Unit Refusal × List ℤ
 
-abbrev by : (Verdict → List ℕ → List ℤ → List ℤ) → List ℕ → String → List ℤ → Completed → List ℤ → Row
+abbrev by : (Verdict → List ℕ → List ℤ → List ℤ) → List ℕ → String → List ℤ → Result Unit Refusal → List ℤ → Row
 by f t x m r k = record { got = (arrange_of (read t) (bytes x) (length m), f (read t) (bytes x) m); want = (r, k) }
 
-abbrev rows : String → List ℤ → Completed → List ℤ → Row
+abbrev rows : String → List ℤ → Result Unit Refusal → List ℤ → Row
 rows = by cells_by_rows good
 
-abbrev columns : String → List ℤ → Completed → List ℤ → Row
+abbrev columns : String → List ℤ → Result Unit Refusal → List ℤ → Row
 columns = by cells_by_columns good
 
 -- a refusal leaves the cells
 abbrev refused : List ℕ → String → List ℤ → ℕ → ℕ → Row
-refused t x m n k = by cells_by_rows t x m (Refused n k) m
+refused t x m n k = by cells_by_rows t x m (refuse n k) m
 
 pub table : List Row
 table =
     -- there and back, every other cell unchanged
-    rows "g" stored Done in_rows
-    ∷ columns "g" in_rows Done stored
+    rows "g" stored done in_rows
+    ∷ columns "g" in_rows done stored
     -- the other way round
-    ∷ columns "g" stored Done in_columns
-    ∷ rows "g" in_columns Done stored
+    ∷ columns "g" stored done in_columns
+    ∷ rows "g" in_columns done stored
     -- upper case reads as lower case, in the text and in the name
-    ∷ rows "G" stored Done in_rows
+    ∷ rows "G" stored done in_rows
     -- one column or one row is the same in both orders
-    ∷ rows "q" stored Done stored
-    ∷ columns "p" stored Done stored
+    ∷ rows "q" stored done stored
+    ∷ columns "p" stored done stored
     -- no grid: v, not declared, a reserved word, a single cell, an array, a blank before or after the name, no name, more bytes than a name has
     ∷ refused good "i" stored 13 0
     ∷ refused good "h" stored 13 0

@@ -7,113 +7,62 @@ ghost use Rattle.syntax.specs.Text.{read as read_text};
 ghost use Rattle.answers.specs.Answers.{arrange_of, cells_by_rows, cells_by_columns};
 ghost use Rattle.arranging.specs.Sought.{grid_told, sought_of};
 
-use answers::{Completed, Located};
+use answers::{Located, Refusal};
 use describing::located;
+use fitting::check_cells;
 use moving::to_rows;
+use preparing::Source;
 
-// A grid's first cell and its extents, or a refusal with its number and line.
-#[derive(Clone, Copy)]
-enum Sought {
-    Found {
-        first: usize,
-        rows: usize,
-        columns: usize,
-    },
-    Refused {
-        number: u32,
-        line: u32,
-    },
+// A grid: its first cell and its extents.
+#[derive(Clone, Copy, Debug, PartialEq, Eq)]
+struct Grid {
+    first: usize,
+    rows: usize,
+    columns: usize,
 }
 
 // The grid of which Name tells this: it takes two subscripts.
-fn grid_of(l: Located) -> Sought
-    ensures { result ≡ grid_told l }
+fn grid_of(told: Result<Located, Refusal>) -> Result<Grid, Refusal>
+    ensures { result ≡ grid_told told }
 {
-    match l {
-        Located::Cells {
-            first,
-            count: _,
-            subscripts,
-            class: _,
-            rows,
-            columns,
-        } => {
-            if subscripts < 2 {
-                return Sought::Refused {
-                    number: 13,
-                    line: 0,
-                };
-            }
-            Sought::Found {
-                first: first as usize,
-                rows: rows as usize,
-                columns: columns as usize,
-            }
-        }
-        Located::Refused { number: _, line: _ } => Sought::Refused {
-            number: 13,
-            line: 0,
-        },
+    match told {
+        Ok(l) if 2 <= l.subscripts => Ok(Grid {
+            first: l.first as usize,
+            rows: l.rows as usize,
+            columns: l.columns as usize,
+        }),
+        _ => Err(Refusal::of_lent(13)),
     }
 }
 
 // The grid that a text's name names, where so many cells are lent.
-fn seek(text: &[u8], cells: usize, name: &[u8]) -> Sought
+fn seek(text: &[u8], cells: usize, name: &[u8]) -> Result<Grid, Refusal>
     ensures { result ≡ sought_of (read_text text.now) name.now cells }
 {
-    let mut table = [0; names::WORDS];
-    let mut initial: [i32; 4096] = [0; 4096];
-    let mut code = [0; code::WORDS];
-    let r = reader::read(text, &mut table, &mut initial, &mut code);
-    let line = r.line;
-    let p = r.progress;
-    if p.number != 0 {
-        return Sought::Refused {
-            number: p.number,
-            line,
-        };
-    }
-    if cells != p.cells as usize {
-        return Sought::Refused { number: 5, line: 0 };
-    }
-    let l = located(&table, name);
-    grid_of(l)
+    let mut source = Source::new();
+    let p = source.read(text)?;
+    check_cells(p.cells, cells)?;
+    grid_of(located(&source.table, name))
 }
 
+// Rows and Columns differ in the order of two extents alone: a closure or a flag for that order would be longer than the three lines of each.
+
 // The cells of the grid of this name in row order.
-pub fn rows(text: &[u8], cells: &mut [i32], name: &[u8]) -> Completed
+pub fn rows(text: &[u8], cells: &mut [i32], name: &[u8]) -> Result<(), Refusal>
     ensures value { result ≡ arrange_of (read_text text.now) name.now (length cells.old) }
     ensures cells_after { cells.new ≡ cells_by_rows (read_text text.now) name.now cells.old }
 {
-    let s = seek(text, cells.len(), name);
-    match s {
-        Sought::Found {
-            first: f,
-            rows: m,
-            columns: n,
-        } => {
-            to_rows(cells, f, m, n);
-            Completed::Done
-        }
-        Sought::Refused { number, line } => Completed::Refused { number, line },
-    }
+    let g = seek(text, cells.len(), name)?;
+    to_rows(cells, g.first, g.rows, g.columns);
+    Ok(())
 }
 
 // And back from row order: its columns are the rows of what is in row order.
-pub fn columns(text: &[u8], cells: &mut [i32], name: &[u8]) -> Completed
+pub fn columns(text: &[u8], cells: &mut [i32], name: &[u8]) -> Result<(), Refusal>
     ensures value { result ≡ arrange_of (read_text text.now) name.now (length cells.old) }
     ensures cells_after { cells.new ≡ cells_by_columns (read_text text.now) name.now cells.old }
 {
-    let s = seek(text, cells.len(), name);
-    match s {
-        Sought::Found {
-            first: f,
-            rows: m,
-            columns: n,
-        } => {
-            to_rows(cells, f, n, m);
-            Completed::Done
-        }
-        Sought::Refused { number, line } => Completed::Refused { number, line },
-    }
+    let g = seek(text, cells.len(), name)?;
+    to_rows(cells, g.first, g.columns, g.rows);
+    Ok(())
 }

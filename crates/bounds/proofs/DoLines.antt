@@ -2,7 +2,7 @@
 use mathlib.Core.Path.{◌≡◌, refl, sym, ◌∙◌, ap}
 use mathlib.Core.Bool.{Bool, true, false, not, ◌&&◌}
 use mathlib.Core.List.{List}
-use Prim.Native.Nat.{ℕ, zero, suc, ◌+◌, ◌-◌, ◌≤◌, min, max}
+use Prim.Native.Nat.{ℕ, zero, suc, ◌+◌, ◌-◌, ◌≤◌, max}
 use native.Mathlib.Omega.{arith}
 use borrow.Author.Tests.{leb-true}
 use lib.Dec.{leb}
@@ -11,13 +11,17 @@ use lib.IntN.{ℤ, pos, negsuc}
 use Rattle.syntax.specs.Bytes.{bytes}
 use Rattle.syntax.specs.Grammar.{number, Lead, bare, plus, minus}
 use Rattle.syntax.specs.Known.{Entry, known, signed}
-use Rattle.syntax.specs.Reader.{read_name, read_lead, read_digits, peek_in, skip_in}
+use Rattle.syntax.specs.Reader.{done, Reader, next, expects, read_name, read_lead, read_digits, peek_in, skip_in}
 use Rattle.lexer.specs.declared.Word.{Word}
 use Rattle.lexer.specs.declared.Leading.{Leading}
 use Rattle.lexer.specs.declared.Sign.{Sign}
 use Rattle.lexer.specs.declared.Number.{Number}
-use Rattle.lexer.specs.Places.{Goes, Any, passes, Spells, lead_of}
-use Rattle.lexer.proofs.Chains.{Onward, goes_onward, onward_both, goes_then, goes_yield, goes_past}
+use Rattle.lexer.specs.Places.{Any, passes, Spells, Numbers, Leads, lead_of, NotRead, ReadTo}
+use Rattle.lexer.proofs.InTurn.{not_then, then_not, then_to, to_yield, not_past, past_not, past_to}
+use Rattle.std.specs.Prelude.{is_some}
+use Rattle.std.specs.Prelude.{Option, None, Some, MatchOption}
+use Rattle.syntax.specs.declared.Rank.{Rank}
+use Rattle.syntax.specs.Ranks.{level}
 use Rattle.bounds.specs.declared.Bounds.{Bounds}
 use Rattle.int32.specs.Integers.{value}
 use Rattle.syntax.specs.Meaning.{led}
@@ -25,36 +29,58 @@ use Rattle.syntax.proofs.Spelling.{both_true}
 use Rattle.syntax.proofs.LoopValues.{raised, iterations_raised, signed_size}
 use Rattle.lexer.specs.Lex.{part}
 use Rattle.names.specs.declared.Named.{Named}
-use Rattle.names.specs.Table.{Tabled, Knows, Put}
+use Rattle.names.specs.Table.{Tabled, Unknown, Knows, Stands, Put}
 use Rattle.names.proofs.Rows.{named_variable, variable_short}
 use Rattle.heading.specs.Lists.{order}
 use Rattle.bounds.specs.DoLine.{Ends, read_ends, Found, raise, from_of, count_of, Looping}
 use Rattle.heading.proofs.Literals.{leb_least, signed_value}
 
-module _ (s : List ℕ) (from : ℕ) (v : Word) (gv : Goes (Spells s v) s from (read_name peek_in skip_in) v.next) (a : ℕ)
-    (ga : Goes Any s v.next (passes (bytes "=")) a) (l : Sign) (gl : Goes (λ x. lead_of l.sign ≡ x) s a (read_lead peek_in skip_in) l.next)
-    (m : Number) (gm : Goes (λ x. m.number ≡ min (number x) 2147483648) s l.next (read_digits peek_in skip_in) m.next) (b : ℕ)
-    (gb : Goes Any s m.next (passes (bytes ",")) b) (k : Sign) (gk : Goes (λ x. lead_of k.sign ≡ x) s b (read_lead peek_in skip_in) k.next)
-    (n : Number) (gn : Goes (λ x. n.number ≡ min (number x) 2147483648) s k.next (read_digits peek_in skip_in) n.next) where
-  abbrev found : Bounds
-  found = record { next = n.next; start = v.start; stop = v.next; lead = l.sign; first = m.number; tail = k.sign; last = n.number }
+-- what is read after a part
+abbrev to_last : List ℕ → Lead → List ℕ → Lead → Reader (List ℕ) Ends
+to_last w x d y u = next (read_digits peek_in skip_in u) (λ e. done (record { name = w; lead = x; first = d; last_lead = y; last = e }))
 
-  after_k : Onward s k.next n.next
-  after_k = goes_onward gn
+abbrev to_tail : List ℕ → Lead → List ℕ → Reader (List ℕ) Ends
+to_tail w x d u = next (read_lead peek_in skip_in u) (to_last w x d)
 
-  after_l : Onward s l.next n.next
-  after_l = onward_both (goes_onward gm) (onward_both (goes_onward gb) (onward_both (goes_onward gk) after_k))
+abbrev to_comma : List ℕ → Lead → List ℕ → Reader (List ℕ) Ends
+to_comma w x d u = next (expects peek_in skip_in "," u) (λ _. to_tail w x d)
 
-  pub bounds_read : Goes (Found s found) s from read_ends n.next
-  bounds_read =
-      goes_then gv (λ w pw _ i. goes_past "=" refl ga
-      (goes_then gl (λ x px _ _. goes_then gm (λ d pd _ _. goes_past "," refl gb
-      (goes_then gk (λ y py _ _. goes_yield (λ e. record { name = w; lead = x; first = d; last_lead = y; last = e }) gn
-      (λ e pe. record { name = pw.bytes; order = pw.order; inside = i; short = pw.short; lead = px; size = pd; last_lead = py; last_size = pe }))
-      after_k))
-      (onward_both (goes_onward gb) (onward_both (goes_onward gk) after_k)))
-      after_l))
-      (onward_both (goes_onward ga) (onward_both (goes_onward gl) after_l))
+abbrev to_first : List ℕ → Lead → Reader (List ℕ) Ends
+to_first w x u = next (read_digits peek_in skip_in u) (to_comma w x)
+
+abbrev to_lead : List ℕ → Reader (List ℕ) Ends
+to_lead w u = next (read_lead peek_in skip_in u) (to_first w)
+
+abbrev to_equals : List ℕ → Reader (List ℕ) Ends
+to_equals w u = next (expects peek_in skip_in "=" u) (λ _. to_lead w)
+
+module _ {s : List ℕ} {from : ℕ} (v : Word) (gv : ReadTo (Spells s v) s from (read_name peek_in skip_in) v.next) where
+  pub no_equals : NotRead s v.next (passes (bytes "=")) → NotRead s from read_ends
+  no_equals g = then_not to_equals gv (λ w _. not_past "=" (to_lead w) refl g)
+
+  module _ {a : ℕ} (ga : ReadTo Any s v.next (passes (bytes "=")) a) (l : Sign) (gl : ReadTo (Leads l) s a (read_lead peek_in skip_in) l.next) where
+    from_first : ((w : List ℕ) (x : Lead) → NotRead s l.next (to_first w x)) → NotRead s from read_ends
+    from_first f = then_not to_equals gv (λ w _. past_not "=" (to_lead w) ga refl (then_not (to_first w) gl (λ x _. f w x)))
+
+    pub no_first : NotRead s l.next (read_digits peek_in skip_in) → NotRead s from read_ends
+    no_first g = from_first (λ w x. not_then (to_comma w x) g)
+
+    module _ (m : Number) (gm : ReadTo (Numbers m) s l.next (read_digits peek_in skip_in) m.next) where
+      pub no_comma : NotRead s m.next (passes (bytes ",")) → NotRead s from read_ends
+      no_comma g = from_first (λ w x. then_not (to_comma w x) gm (λ d _. not_past "," (to_tail w x d) refl g))
+
+      module _ {b : ℕ} (gb : ReadTo Any s m.next (passes (bytes ",")) b) (k : Sign) (gk : ReadTo (Leads k) s b (read_lead peek_in skip_in) k.next) where
+        pub no_last : NotRead s k.next (read_digits peek_in skip_in) → NotRead s from read_ends
+        no_last g = from_first (λ w x. then_not (to_comma w x) gm (λ d _. past_not "," (to_tail w x d) gb refl
+            (then_not (to_last w x d) gk (λ y _. not_then (λ e. done (record { name = w; lead = x; first = d; last_lead = y; last = e })) g))))
+
+        pub bounds_read : (n : Number) → ReadTo (Numbers n) s k.next (read_digits peek_in skip_in) n.next
+            → ReadTo (Found s (record { next = n.next; start = v.start; stop = v.next; lead = l.sign; first = m.number; tail = k.sign; last = n.number }))
+            s from read_ends n.next
+        bounds_read n gn = then_to to_equals gv (λ w pw. past_to "=" (to_lead w) ga refl (then_to (to_first w) gl (λ x px.
+            then_to (to_comma w x) gm (λ d pd. past_to "," (to_tail w x d) gb refl (then_to (to_last w x d) gk (λ y py.
+            to_yield (λ e. record { name = w; lead = x; first = d; last_lead = y; last = e }) gn (λ e pe.
+            record { name = pw.bytes; order = pw.order; inside = gv.within; short = pw.short; lead = px; size = pd; last_lead = py; last_size = pe })))))))
 
 -- ---- numbers
 
@@ -77,12 +103,15 @@ raised_is (negsuc n) = refl
 
 -- ---- the line
 
-module _ (t : List Entry) (T s T' : List ℕ) (tab : Tabled T t) (b : Bounds) (e : Ends) (p : Found s b e) (v : Named)
-    (kn : Knows t (part s b.start b.stop) v)
+pub turned : (a b : Bool) → a ≡ not b → b ≡ not a
+turned a true h = sym (ap not h)
+turned a false h = sym (ap not h)
+
+module _ (t : List Entry) (T s T' : List ℕ) (tab : Tabled T t) (b : Bounds) (e : Ends) (p : Found s b e) (o : Option Named)
+    (kn : MatchOption o (Unknown t (part s b.start b.stop)) (λ n. Knows t (part s b.start b.stop) n × Stands T t (part s b.start b.stop) n))
     (first last : ℕ) (ef : first ≡ raise (signed (lead_of b.lead) b.first)) (el : last ≡ raise (signed (lead_of b.tail) b.last)) (count : ℕ)
     (ec : count ≡ last + 1 - first)
-    (small₁ : Bool) (es : small₁ ≡ leb b.first 2147483647 && leb b.last 2147483647) (rank₁ rank : ℕ)
-    (er₁ : rank₁ ≡ max 0 (order (not v.known) small₁)) (er : rank ≡ max rank₁ (order true (leb count 65535)))
+    (small₁ : Bool) (es : small₁ ≡ leb b.first 2147483647 && leb b.last 2147483647) (rank : Rank) (er : level rank ≡ max 0 (order (not (is_some o)) (small₁ && leb count 65535)))
     (from : ℤ) (eo : from ≡ led (lead_of b.lead) (value b.first)) (put : Put T 16 (part s b.start b.stop) T') where
   numbers : Bool
   numbers = leb (number e.first) 2147483647 && leb (number e.last) 2147483647
@@ -93,8 +122,13 @@ module _ (t : List Entry) (T s T' : List ℕ) (tab : Tabled T t) (b : Bounds) (e
       es ∙ (λ i. leb (p.size i) 2147483647 && leb (p.last_size i) 2147483647)
       ∙ (λ i. leb_least (number e.first) i && leb_least (number e.last) i)
 
-  known_is : v.known ≡ known e.name t
-  known_is = kn.known ∙ ap (λ (w : List ℕ). known w t) (sym p.name)
+  known_is : is_some o ≡ known e.name t
+  known_is = go o kn ∙ ap (λ (w : List ℕ). known w t) (sym p.name)
+    where
+      go : (o : Option Named) → MatchOption o (Unknown t (part s b.start b.stop)) (λ n. Knows t (part s b.start b.stop) n × Stands T t (part s b.start b.stop) n)
+          → is_some o ≡ known (part s b.start b.stop) t
+      go None u = sym u.known
+      go (Some n) (k, _) = sym k.known
 
   -- within the limits, what the code works out is what is meant
   module _ (h : numbers ≡ true) where
@@ -122,28 +156,15 @@ module _ (t : List Entry) (T s T' : List ℕ) (tab : Tabled T t) (b : Bounds) (e
     from_is : from ≡ from_of e
     from_is = eo ∙ (λ i. led (p.lead i) (value (first_is i))) ∙ signed_value e.lead (number e.first) sizes.0
 
-  rank_is : rank ≡ order (not (known e.name t)) (numbers && leb (count_of e) 65535)
-  rank_is = er ∙ (λ i. max ((er₁ ∙ (λ j. max 0 (order (not (known_is j)) (numbers_are j)))) i) (order true (leb count 65535))) ∙ go numbers refl
+  rank_is : level rank ≡ order (not (known e.name t)) (numbers && leb (count_of e) 65535)
+  rank_is = er ∙ (λ i. max 0 (order (not (known_is i)) (numbers_are i && leb count 65535))) ∙ go numbers refl
     where
-      all : (k c : Bool) → max (max 0 (order (not k) true)) (order true c) ≡ order (not k) c
-      all true true = omega arith
-      all true false = omega arith
-      all false true = omega arith
-      all false false = omega arith
-
-      none : (k c : Bool) → max (max 0 (order (not k) false)) (order true c) ≡ order (not k) false
-      none true true = omega arith
-      none true false = omega arith
-      none false true = omega arith
-      none false false = omega arith
-
       go : (x : Bool) → numbers ≡ x
-          → max (max 0 (order (not (known e.name t)) x)) (order true (leb count 65535))
-          ≡ order (not (known e.name t)) (x && leb (count_of e) 65535)
-      go true h = all (known e.name t) (leb count 65535) ∙ ap (λ (n : ℕ). order (not (known e.name t)) (leb n 65535)) (count_is h)
-      go false h = none (known e.name t) (leb count 65535)
+          → max 0 (order (not (known e.name t)) (x && leb count 65535)) ≡ order (not (known e.name t)) (x && leb (count_of e) 65535)
+      go true h = ap (λ (n : ℕ). max 0 (order (not (known e.name t)) (leb n 65535))) (count_is h) ∙ omega arith
+      go false h = omega arith
 
-  good : rank ≡ 0 → (numbers ≡ true) × (leb (count_of e) 65535 ≡ true)
+  good : level rank ≡ 0 → (numbers ≡ true) × (leb (count_of e) 65535 ≡ true)
   good z = go (not (known e.name t)) numbers (leb (count_of e) 65535) (sym rank_is ∙ z)
     where
       go : (a b c : Bool) → order a (b && c) ≡ 0 → (b ≡ true) × (c ≡ true)

@@ -1,10 +1,11 @@
 -- RULES 1.8: what the functions on the loop's bounds yield.
-use Rattle.std.specs.Prelude.{◌≡◌, not, ◌&&◌, List, ℕ, suc, ◌+◌, ◌-◌, ◌≤◌, min, leb, length, ℤ, pos, negsuc}
+use Rattle.std.specs.Prelude.{Option, ◌≡◌, not, ◌&&◌, List, ℕ, suc, ◌+◌, ◌-◌, ◌≤◌, min, leb, length, ℤ, pos, negsuc}
 use Rattle.syntax.specs.Grammar.{number, Lead}
 use Rattle.syntax.specs.Known.{Entry, known, signed, iterations}
+use Rattle.syntax.specs.Ranks.{level}
 use Rattle.syntax.specs.Reader.{Reader, read_bounds, peek_in, skip_in}
 use Rattle.lexer.specs.Lex.{part}
-use Rattle.lexer.specs.Places.{Goes, lead_of}
+use Rattle.lexer.specs.Places.{Finds, lead_of}
 use Rattle.names.specs.Table.{variable_of, Tabled, length_at, variable_entry, name_words}
 use Rattle.heading.specs.Lists.{order}
 use Rattle.bounds.specs.declared.Bounds.{Bounds}
@@ -44,13 +45,13 @@ abbrev pub count_of : Ends → ℕ
 count_of e = iterations (from_of e) (signed e.last_lead (number e.last))
 
 pub record Looping (t : List Entry) (T' : List ℕ) (r : Looped) (e : Ends) : Type 0 where
-  pub rank : r.rank ≡ order (not (known e.name t)) ((leb (number e.first) 2147483647 && leb (number e.last) 2147483647) && leb (count_of e) 65535)
-  pub from : r.rank ≡ 0 → r.from ≡ from_of e
-  pub count : r.rank ≡ 0 → r.count ≡ count_of e
-  pub few : r.rank ≡ 0 → r.count ≤ 65535
+  pub rank : level r.rank ≡ order (not (known e.name t)) ((leb (number e.first) 2147483647 && leb (number e.last) 2147483647) && leb (count_of e) 65535)
+  pub from : level r.rank ≡ 0 → r.from ≡ from_of e
+  pub count : level r.rank ≡ 0 → r.count ≡ count_of e
+  pub few : level r.rank ≡ 0 → r.count ≤ 65535
   pub table : Tabled T' t
   pub variable : variable_of T' ≡ e.name
   pub short : length_at T' variable_entry ≤ name_words
 
-abbrev pub Do : List ℕ → List ℕ → ℕ → List ℕ → Looped → Type 0
-Do T s at T' r = (t : List Entry) → Tabled T t → Goes (Looping t T' r) s at read_ends r.next
+abbrev pub Do : List ℕ → List ℕ → ℕ → List ℕ → Option Looped → Type 0
+Do T s at T' o = (t : List Entry) → Tabled T t → Finds (λ r. r.next) (Looping t T') s at read_ends o

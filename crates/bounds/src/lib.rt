@@ -1,17 +1,19 @@
 // The `do` line (RULES 1.8), after its first word.
 #![tactic(auto)]
 
-ghost use Rattle.std.specs.Prelude.{◌≡◌, true, ◌≤◌, ◌<◌, ◌+◌, ◌-◌, length};
+ghost use Rattle.std.specs.Prelude.{◌≡◌, ◌≤◌};
 ghost use Rattle.syntax.specs.Known.{signed};
-ghost use Rattle.lexer.specs.Places.{Goes, lead_of};
+ghost use Rattle.lexer.specs.Places.{Finds, lead_of};
 ghost use Rattle.bounds.specs.DoLine.{Found, read_ends, raise, Do};
 
 use heading::{item_value, limited, ranked};
 use lexer::{Leading, digits, lead, name, pass};
 use names::{Table, VARIABLE, find, put_name};
+use syntax::Rank;
 
-// The name and the two bounds of the loop: the sign of the first and its size, the sign of the last and its size; sizes up to 2^31.
-#[derive(Clone, Copy)]
+// The name and the two bounds of the loop: the place after them, where the name lies, the sign of the first and its size, the sign of the last and its
+// size; sizes up to 2^31.
+#[derive(Clone, Copy, Debug, PartialEq, Eq)]
 pub struct Bounds {
     pub next: usize,
     pub start: usize,
@@ -22,28 +24,25 @@ pub struct Bounds {
     pub last: u32,
 }
 
-fn bounds_at(s: &[u8], at: usize) -> Bounds
-    requires { length s.now ≤ 2048 }
-    ensures { Goes (Found s.now result) s.now at read_ends result.next }
+fn bounds_at(s: &[u8], at: usize) -> Option<Bounds>
+    ensures { Finds (λ r. r.next) (Found s.now) s.now at read_ends result }
 {
-    let v = name(s, at);
-    let a = pass(s, v.next, b"=");
+    let v = name(s, at)?;
+    let a = pass(s, v.next, b"=")?;
     let l = lead(s, a);
-    let m = digits(s, l.next);
-    let b = pass(s, m.next, b",");
+    let m = digits(s, l.next)?;
+    let b = pass(s, m.next, b",")?;
     let k = lead(s, b);
-    let n = digits(s, k.next);
-    let lead = l.sign;
-    let tail = k.sign;
-    Bounds {
+    let n = digits(s, k.next)?;
+    Some(Bounds {
         next: n.next,
         start: v.start,
         stop: v.next,
-        lead,
+        lead: l.sign,
         first: m.number,
-        tail,
+        tail: k.sign,
         last: n.number,
-    }
+    })
 }
 
 // A bound and 2^31.
@@ -52,60 +51,36 @@ fn raised(sign: Leading, size: u32) -> u64
     ensures { result ≡ raise (signed (lead_of sign) size) }
 {
     match sign {
-        Leading::Bare => 2147483648 + size as u64,
-        Leading::Plus => 2147483648 + size as u64,
+        Leading::Bare | Leading::Plus => 2147483648 + size as u64,
         Leading::Minus => 2147483648 - size as u64,
     }
 }
 
-// How many iterations there are from one bound, raised, to the other.
-fn count_from(first: u64, last: u64) -> u64
-    requires { last ≤ 4294967296 }
-    ensures { result ≡ last + 1 - first }
-{
-    if last < first {
-        return 0;
-    }
-    last - first + 1
-}
-
-// What the loop's line comes to: m, and how many iterations there are.
-#[derive(Clone, Copy)]
+// What the loop's line comes to: the place after it, its rank, m, and how many iterations there are.
+#[derive(Clone, Copy, Debug, PartialEq, Eq)]
 pub struct Looped {
     pub next: usize,
-    pub rank: u32,
+    pub rank: Rank,
     pub from: i32,
     pub count: u64,
 }
 
 // The loop's line, after its first word: its variable is written into the table.
-pub fn do_line(s: &[u8], at: usize, table: &mut Table) -> Looped
-    requires { length s.now ≤ 2048 }
+pub fn do_line(s: &[u8], at: usize, table: &mut Table) -> Option<Looped>
     ensures { Do table.old s.now at table.new result }
 {
-    let b = bounds_at(s, at);
-    let next = b.next;
-    if s.len() < next {
-        return Looped {
-            next,
-            rank: 0,
-            from: 0,
-            count: 0,
-        };
-    }
-    let a = b.start;
-    let e = b.stop;
-    let lead = b.lead;
-    let tail = b.tail;
-    let count = count_from(raised(lead, b.first), raised(tail, b.last));
-    let v = find(table, &s[a..e]);
-    let rank = ranked(0, !v.known, limited(b.first, b.last));
-    let from = item_value(lead, b.first);
-    put_name(table, VARIABLE, &s[a..e]);
-    Looped {
-        next,
-        rank: ranked(rank, true, count <= 65535),
-        from,
+    let b = bounds_at(s, at)?;
+    let v = &s[b.start..b.stop];
+    let first = raised(b.lead, b.first);
+    let last = raised(b.tail, b.last);
+    let count = (last + 1).saturating_sub(first);
+    let named = find(table, v).is_none();
+    let small = limited(b.first, b.last) && count <= 65535;
+    put_name(table, VARIABLE, v);
+    Some(Looped {
+        next: b.next,
+        rank: ranked(Rank::InOrder, named, small),
+        from: item_value(b.lead, b.first),
         count,
-    }
+    })
 }

@@ -1,89 +1,77 @@
 -- The answers of Check and Load, by the verdict on the text and by what is lent.
-use mathlib.Core.Path.{◌≡◌, sym, ◌∙◌, ap}
+use mathlib.Core.Path.{◌≡◌, refl, sym, ◌∙◌, ap}
 use mathlib.Core.List.{List}
-use mathlib.Core.Bool.{Bool, cond}
-use Prim.Native.Nat.{ℕ, ◌-◌, ◌≤◌}
+use Prim.Native.Nat.{ℕ, zero, suc, ◌-◌, ◌≤◌}
 use native.Mathlib.Omega.{arith}
-use borrow.Author.Tests.{eq-eqb, ne_eqb}
-use lib.ListN.{length, take, replicate, length-append, drop, length-take}
+use borrow.Author.Tests.{eqb-true}
+use lib.Dec.{eqb}
+use lib.ListN.{length, take, replicate}
 use lib.Seq.{take_at}
 use lib.IntN.{ℤ, pos}
+use Rattle.std.specs.Prelude.{Result, Ok, Err}
 use Rattle.syntax.specs.Known.{cells}
 use Rattle.syntax.specs.Text.{Verdict, loaded, read}
 use Rattle.syntax.proofs.Sane.{accepted_sane}
 use Rattle.syntax.proofs.Loaded.{loaded_length}
-use Rattle.reader.specs.declared.Reading.{Reading}
-use Rattle.reader.specs.Judged.{Reads}
-use Rattle.answers.specs.declared.Checked.TheVariants.{Sizes, Refused}
-use Rattle.answers.specs.declared.Completed.TheVariants.{Done, Refused as Rejected}
-use Rattle.answers.specs.Answers.{check_of, taken, completed, load_of, cells_loaded}
-use Rattle.preparing.proofs.Verdicts.{Bad, Fine, is_fine}
-use Rattle.fitting.proofs.Copies.{copied_whole}
+use Rattle.lines.specs.declared.Progress.{Progress}
+use Rattle.answers.specs.declared.Refusal.{Refusal}
+use Rattle.answers.specs.declared.Sizes.{Sizes}
+use Rattle.answers.specs.Answers.{refusal_at, cells_number, load_number, taken, completed, check_of, load_of, cells_loaded}
+use Rattle.preparing.proofs.Verdicts.{refusal_is}
+use Rattle.preparing.specs.Prepared.{Accepts, Refuses}
+use Rattle.fitting.proofs.Fits.{fits_done, fits_not, cells_done}
 
-module _ (text : List ℕ) (r : Reading) (T : List ℕ) (I : List ℤ) (C : List ℕ) (h : Reads (read text) r T I C) where
-  -- ---- Check
+-- ---- a text that is refused
 
-  pub check_bad : Bad text r T I C h → Refused r.progress.number r.line ≡ check_of (read text)
+pub check_refused : (v : Verdict) (e : Refusal) → Refuses v e → Err e ≡ check_of v
+unfolding check_of
+check_refused v e r = ap Err (refusal_is r) ∙ sym (ap check_of r.verdict)
+
+pub load_refused : (v : Verdict) (e : Refusal) (M : List ℤ) → Refuses v e → (Err e ≡ load_of v (length M)) × (M ≡ cells_loaded v M)
+unfolding load_of cells_loaded
+load_refused v e M r = (ap Err (refusal_is r) ∙ sym (ap (λ (u : Verdict). load_of u (length M)) r.verdict), sym (ap (λ (u : Verdict). cells_loaded u M) r.verdict))
+
+-- ---- or accepted
+
+module _ (text : List ℕ) (p : Progress) (T : List ℕ) (I : List ℤ) (C : List ℕ) (a : Accepts (read text) p T I C) where
+  pub check_accepted : Ok (record { cells = p.cells; processors = p.processors }) ≡ check_of (read text)
   unfolding check_of
-  check_bad b = sym (ap check_of b.verdict)
-
-  pub check_fine : Fine text r T I C h → Sizes r.progress.cells r.progress.processors ≡ check_of (read text)
-  unfolding check_of
-  check_fine f = (λ i. Sizes (f.represents.cells_so_far i) (f.represents.processors i)) ∙ sym (ap check_of f.verdict)
-
-  -- ---- Load
+  check_accepted = (λ i. Ok (record { cells = a.represents.cells_so_far i; processors = a.represents.processors i })) ∙ sym (ap check_of a.verdict)
 
   module _ (M : List ℤ) where
-    pub load_bad : Bad text r T I C h → (Rejected r.progress.number r.line ≡ load_of (read text) (length M)) × (M ≡ cells_loaded (read text) M)
+    number_as : cells_number p.cells (length M) ≡ load_number a.state (length M)
+    number_as = λ i. cells_number (a.represents.cells_so_far i) (length M)
+
+    by_number : (n : ℕ) (r : Result Unit Refusal) (M' : List ℤ) → load_number a.state (length M) ≡ n → r ≡ completed n
+        → M' ≡ taken n (loaded a.state.table) M → (r ≡ load_of (read text) (length M)) × (M' ≡ cells_loaded (read text) M)
     unfolding load_of cells_loaded
-    load_bad b = (sym (ap (λ (v : Verdict). load_of v (length M)) b.verdict), sym (ap (λ (v : Verdict). cells_loaded v M) b.verdict))
+    by_number n r M' en er em = (
+      er ∙ ap completed (sym en) ∙ sym (ap (λ (v : Verdict). load_of v (length M)) a.verdict),
+      em ∙ ap (λ (k : ℕ). taken k (loaded a.state.table) M) (sym en) ∙ sym (ap (λ (v : Verdict). cells_loaded v M) a.verdict),
+    )
 
-    pub load_other : Fine text r T I C h → (length M ≡ r.progress.cells → ⊥)
-        → (Rejected 5 0 ≡ load_of (read text) (length M)) × (M ≡ cells_loaded (read text) M)
-    unfolding load_of cells_loaded
-    load_other f n =
-        let e = ne_eqb (length M) (cells f.state.table) (λ (z : length M ≡ cells f.state.table). n (z ∙ sym f.represents.cells_so_far)) in (
-          sym (ap (λ (v : Verdict). load_of v (length M)) f.verdict ∙ ap (λ (b : Bool). completed (cond b 0 5)) e),
-          sym (ap (λ (v : Verdict). cells_loaded v M) f.verdict ∙ ap (λ (b : Bool). taken (cond b 0 5) (loaded f.state.table) M) e),
-        )
+    pub load_unfit : (e : Refusal) → Err e ≡ completed (cells_number p.cells (length M))
+        → (Err e ≡ load_of (read text) (length M)) × (M ≡ cells_loaded (read text) M)
+    load_unfit e h = go (cells_number p.cells (length M)) refl
+      where
+        go : (n : ℕ) → cells_number p.cells (length M) ≡ n → (Err e ≡ load_of (read text) (length M)) × (M ≡ cells_loaded (read text) M)
+        go zero q = absurd (omega (arith, (fits_not (cells_number p.cells (length M)) e h).1, q))
+        go (suc n) q = by_number (suc n) (Err e) M (sym number_as ∙ q) (h ∙ ap completed q) refl
 
-    first_cells : (f : Fine text r T I C h) → length M ≡ r.progress.cells → take (length M) I ≡ loaded f.state.table
-    first_cells f e =
-        let sane = accepted_sane text f.state f.verdict in
-        ap (take (length M)) f.represents.filled
-        ∙ take_at (loaded f.state.table) (replicate (4096 - cells f.state.table) (pos 0)) (length M)
-        (loaded_length f.state.table sane.table ∙ sym (e ∙ f.represents.cells_so_far))
+    module _ (h : Ok tt ≡ completed (cells_number p.cells (length M))) where
+      as_many : length M ≡ p.cells
+      as_many = cells_done p.cells (length M) h
 
-    pub load_fine : (f : Fine text r T I C h) → length M ≡ r.progress.cells
-        → (Done ≡ load_of (read text) (length M)) × (take (length M) I ≡ cells_loaded (read text) M)
-    unfolding load_of cells_loaded
-    load_fine f e =
-        let q = eq-eqb (length M) (cells f.state.table) (e ∙ f.represents.cells_so_far) in (
-          sym (ap (λ (v : Verdict). load_of v (length M)) f.verdict ∙ ap (λ (b : Bool). completed (cond b 0 5)) q),
-          first_cells f e
-              ∙ sym (ap (λ (v : Verdict). cells_loaded v M) f.verdict ∙ ap (λ (b : Bool). taken (cond b 0 5) (loaded f.state.table) M) q),
-        )
+      pub few_cells : length M ≤ 4096
+      few_cells = omega (arith, as_many, a.represents.cells_so_far, (accepted_sane text a.state a.verdict).table.few_cells)
 
-    pub load_long : Fine text r T I C h → length M ≡ r.progress.cells → length M ≤ length I
-    load_long f e =
-        let sane = accepted_sane text f.state f.verdict in
-        omega (
-          arith,
-          ap length f.represents.filled,
-          length-append (loaded f.state.table) (replicate (4096 - cells f.state.table) (pos 0)),
-          loaded_length f.state.table sane.table,
-          e,
-          f.represents.cells_so_far,
-        )
+      first_cells : take (length M) I ≡ loaded a.state.table
+      first_cells =
+          let sane = accepted_sane text a.state a.verdict in
+          ap (take (length M)) a.represents.filled
+          ∙ take_at (loaded a.state.table) (replicate (4096 - cells a.state.table) (pos 0)) (length M)
+          (loaded_length a.state.table sane.table ∙ sym (as_many ∙ a.represents.cells_so_far))
 
-    -- the cells after a copy of the first
-    pub load_copied : (U : List ℤ) → length U ≡ length M → length M ≤ length I
-        → take (length (take (length M - 0) (drop 0 I))) U ≡ take (length M - 0) (drop 0 I) → U ≡ take (length M) I
-    load_copied U e b q =
-        let z : length M - 0 ≡ length M = omega arith in
-        copied_whole U (take (length M - 0) (drop 0 I)) (e ∙ sym (simp length-take (omega arith))) q ∙ ap (λ (n : ℕ). take n I) z
-
--- Check's answer where nothing is refused
-pub check_accepted : (text : List ℕ) (r : Reading) (T : List ℕ) (I : List ℤ) (C : List ℕ) → Reads (read text) r T I C → r.progress.number ≡ 0
-    → Sizes r.progress.cells r.progress.processors ≡ check_of (read text)
-check_accepted text r T I C h z = check_fine text r T I C h (is_fine text r T I C h z)
+      pub load_done : (M' : List ℤ) → M' ≡ take (length M) I
+          → (Ok tt ≡ load_of (read text) (length M)) × (M' ≡ cells_loaded (read text) M)
+      load_done M' e = by_number 0 (Ok tt) M' (sym number_as ∙ fits_done (cells_number p.cells (length M)) h) refl (e ∙ first_cells)

@@ -5,18 +5,22 @@ use mathlib.Core.List.{List, [], ◌∷◌, ◌++◌, map}
 use Prim.Native.Nat.{ℕ, ◌/◌, ◌%◌, ◌≤◌, ◌<◌, max}
 use native.Mathlib.Decide.{dec_lt, ℕ_discrete}
 use native.Mathlib.Omega.{arith}
+use borrow.Author.Tests.{not-true, not-false}
 use lib.Dec.{eqb}
 use lib.ListN.{length, get_or, length-map}
 use Rattle.rules.specs.declared.Operator.TheVariants.{Sum, Product, Maximum}
-use Rattle.rules.specs.Loop.{Class, shared, lastprivate, copied, reduction}
-use Rattle.rules.specs.Numbers.{class_number}
+use Rattle.rules.specs.declared.Class.{Class}
+use Rattle.rules.specs.declared.Class.TheVariants.{Shared as shared, Lastprivate as lastprivate, Copied as copied, Reduction as reduction}
 use Rattle.syntax.specs.declared.ClauseKind.{ClauseKind}
+use Rattle.syntax.specs.declared.Rank.{Rank}
+use Rattle.syntax.specs.Ranks.{level}
+use Rattle.syntax.proofs.RankLaws.{level_most}
 use Rattle.syntax.specs.Bytes.{any, same}
 use Rattle.syntax.specs.Known.{Entry, known, find, nowhere, with_class, in_firstprivate}
 use Rattle.syntax.proofs.Spelling.{same_true}
 use Rattle.syntax.proofs.TestLaws.{any_append, same_refl, same_comm_false}
 use Rattle.names.specs.declared.Named.{Named}
-use Rattle.names.specs.Table.{class_to, Tabled, Knows, Stands, Classed, CopiedIn, is_claimed, length_at, variable_of, variable_entry, name_words}
+use Rattle.names.specs.Table.{class_to, Tabled, Unknown, Knows, Stands, Classed, CopiedIn, is_claimed, length_at, variable_of, variable_entry, name_words}
 use Rattle.names.proofs.Laws.{find_none}
 use Rattle.names.proofs.Rows.{name_length, get_d_map, unknown_at}
 use Rattle.heading.specs.Lists.{order, Keeps}
@@ -54,20 +58,12 @@ marks_stay T w c t xs h i l =
     let b : i < length t = omega (arith, length-map t (class_to w c)) in
     h i b ∙ ap (λ (x : List ℕ). any (same x) xs) (sym (name_at w c t i b))
 
--- a class by its number
-last_number : (c : Class) → class_number c ≡ 1 → is_lastprivate c ≡ true
-last_number shared e = absurd (omega (arith, e))
-last_number lastprivate e = refl
-last_number copied e = absurd (omega (arith, e))
-last_number (reduction Sum) e = absurd (omega (arith, e))
-last_number (reduction Product) e = absurd (omega (arith, e))
-last_number (reduction Maximum) e = absurd (omega (arith, e))
-
-other_number : (c : Class) → (class_number c ≡ 1 → ⊥) → is_lastprivate c ≡ false
-other_number shared n = refl
-other_number lastprivate n = absurd (n refl)
-other_number copied n = refl
-other_number (reduction o) n = refl
+-- no other class is lastprivate's
+other_class : (c : Class) → (c ≡ lastprivate → ⊥) → is_lastprivate c ≡ false
+other_class shared n = refl
+other_class lastprivate n = absurd (n refl)
+other_class copied n = refl
+other_class (reduction o) n = refl
 
 module _ (T : List ℕ) (σ : Stand) (m : Marked T σ) (w : List ℕ) where
   abbrev t : List Entry
@@ -117,12 +113,12 @@ module _ (T : List ℕ) (σ : Stand) (m : Marked T σ) (w : List ℕ) where
           let e : fits (Claim k) σ w ≡ false = λ i. kn i && not (a i) in
           (e, claim_none e (taken_claimed a))
 
-      module _ (q : ℕ) (eq : q ≡ class_number c) (T' : List ℕ) (d : Classed T n.index q T') where
+      module _ (T' : List ℕ) (d : Classed T n.index c T') where
         pub claim_free : n.claimed ≡ false → (fits (Claim k) σ w ≡ true) × Marked T' (with_name (Claim k) σ w)
         claim_free z =
             let a : any (same w) xs ≡ false = sym flag ∙ z in
             let e : fits (Claim k) σ w ≡ true = λ i. kn i && not (a i) in
-            let tab = subst (λ (x : List ℕ). Tabled T' (map (class_to x c) t)) st.name (d.table t c eq m.table st.within) in (
+            let tab = subst (λ (x : List ℕ). Tabled T' (map (class_to x c) t)) st.name (d.table t m.table st.within) in (
               e,
               subst (λ (u : List Entry). Marked T' (record { table = u; names = xs ++ (w ∷ []) })) (sym (ap (λ (b : Bool). class_if b c w t) e))
                   (record { table = tab; claimed = marks_stay T' w c t (xs ++ (w ∷ [])) mark }),
@@ -158,13 +154,13 @@ module _ (T : List ℕ) (σ : Stand) (m : Marked T σ) (w : List ℕ) where
       let e : fits CopyIn σ w ≡ false = ap (λ (x : Entry). is_lastprivate x.class) (find_none w t (unknown_at w t u)).1 in
       (e, copy_none e)
 
-  pub copy_other : (class_number (find w t).class ≡ 1 → ⊥) → (fits CopyIn σ w ≡ false) × Marked T (with_name CopyIn σ w)
-  copy_other n = let e = other_number (find w t).class n in (e, copy_none e)
+  pub copy_other : ((find w t).class ≡ lastprivate → ⊥) → (fits CopyIn σ w ≡ false) × Marked T (with_name CopyIn σ w)
+  copy_other n = let e = other_class (find w t).class n in (e, copy_none e)
 
-  pub copy_last : class_number (find w t).class ≡ 1 → (n : Named) → Stands T t w n → (T' : List ℕ) → CopiedIn T n.index T'
+  pub copy_last : (find w t).class ≡ lastprivate → (n : Named) → Stands T t w n → (T' : List ℕ) → CopiedIn T n.index T'
       → (fits CopyIn σ w ≡ true) × Marked T' (with_name CopyIn σ w)
   copy_last h n st T' d =
-      let e = last_number (find w t).class h in
+      let e = ap is_lastprivate h in
       let tab = subst (λ (x : List ℕ). Tabled T' (map (class_to x copied) t)) st.name (d.table t m.table st.within) in (
         e,
         subst (λ (u : List Entry). Marked T' (record { table = u; names = xs })) (sym (ap (λ (b : Bool). class_if b copied w t) e))
@@ -186,37 +182,41 @@ as_deed {T} {w} {most} {T'} {r} p h = subst (λ (x : Deed). ClaimsOne x T w most
 pub skipped : (T w : List ℕ) (most : ℕ) → ClaimsOne Skip T w most T most
 skipped T w most σ m = record { rank_is = omega arith; marked = m }
 
-module _ (T w : List ℕ) (most : ℕ) (n : Named) (look : (t : List Entry) → Tabled T t → Knows t w n)
-    (where_to : (t : List Entry) → Tabled T t → n.known ≡ true → Stands T t w n) where
-  unknown : n.known ≡ false → (σ : Stand) → Marked T σ → known w σ.table ≡ false
-  unknown u σ m = sym (look σ.table m.table).known ∙ u
+-- a name that is not declared; one that is, as n
+abbrev Undeclared : List ℕ → List ℕ → Type 0
+Undeclared T w = (t : List Entry) → Tabled T t → Unknown t w
 
-  there : n.known ≡ true → (σ : Stand) → Marked T σ → known w σ.table ≡ true
-  there u σ m = sym (look σ.table m.table).known ∙ u
+abbrev Declared : List ℕ → List ℕ → Named → Type 0
+Declared T w n = (t : List Entry) → Tabled T t → Knows t w n × Stands T t w n
 
-  module _ (k : ClauseKind) where
-    pub claims_none : n.known ≡ false → (r : ℕ) → r ≡ max most (order false true) → ClaimsOne (Claim k) T w most T r
-    claims_none u r h = claims_as (Claim k) T w most T r false h (λ σ m. claim_unknown T σ m w k (unknown u σ m))
+-- a name that is wrong, after others of a rank
+module _ (T w : List ℕ) (q : Rank) where
+  unfit : 2 ≡ max (level q) (order false true)
+  unfit = omega (arith, level_most q)
 
-    module _ (u : n.known ≡ true) where
-      pub claims_taken : n.claimed ≡ true → (r : ℕ) → r ≡ max most (order false true) → ClaimsOne (Claim k) T w most T r
-      claims_taken z r h = claims_as (Claim k) T w most T r false h (λ σ m. claim_taken T σ m w k n (there u σ m) (where_to σ.table m.table u) z)
+  pub claims_none : (k : ClauseKind) → Undeclared T w → ClaimsOne (Claim k) T w (level q) T 2
+  claims_none k u = claims_as (Claim k) T w (level q) T 2 false unfit (λ σ m. claim_unknown T σ m w k (u σ.table m.table).known)
 
-      pub claims_free : n.claimed ≡ false → (q : ℕ) → q ≡ class_number (class_by k) → (T' : List ℕ) → Classed T n.index q T'
-          → ClaimsOne (Claim k) T w most T' most
-      claims_free z q eq T' d = claims_as (Claim k) T w most T' most true (omega arith)
-          (λ σ m. claim_free T σ m w k n (there u σ m) (where_to σ.table m.table u) q eq T' d z)
+  pub copies_none : Undeclared T w → ClaimsOne CopyIn T w (level q) T 2
+  copies_none u = claims_as CopyIn T w (level q) T 2 false unfit (λ σ m. copy_unknown T σ m w (u σ.table m.table).known)
 
-  pub copies_none : n.known ≡ false → (r : ℕ) → r ≡ max most (order false true) → ClaimsOne CopyIn T w most T r
-  copies_none u r h = claims_as CopyIn T w most T r false h (λ σ m. copy_unknown T σ m w (unknown u σ m))
+  module _ (n : Named) (d : Declared T w n) where
+    pub claims_taken : (k : ClauseKind) → not n.claimed ≡ false → ClaimsOne (Claim k) T w (level q) T 2
+    claims_taken k z = claims_as (Claim k) T w (level q) T 2 false unfit
+        (λ σ m. let (kn, st) = d σ.table m.table in claim_taken T σ m w k n kn.known st (not-false n.claimed z))
 
-  pub copies_other : (n.class ≡ 1 → ⊥) → (r : ℕ) → r ≡ max most (order false true) → ClaimsOne CopyIn T w most T r
-  copies_other z r h = claims_as CopyIn T w most T r false h
-      (λ σ m. copy_other T σ m w (λ (e : class_number (find w σ.table).class ≡ 1). z ((look σ.table m.table).class ∙ e)))
+    pub copies_other : (n.class ≡ lastprivate → ⊥) → ClaimsOne CopyIn T w (level q) T 2
+    copies_other z = claims_as CopyIn T w (level q) T 2 false unfit
+        (λ σ m. copy_other T σ m w (λ (e : (find w σ.table).class ≡ lastprivate). z ((d σ.table m.table).0.class ∙ e)))
 
-  pub copies_last : n.known ≡ true → n.class ≡ 1 → (T' : List ℕ) → CopiedIn T n.index T' → ClaimsOne CopyIn T w most T' most
-  copies_last u z T' d = claims_as CopyIn T w most T' most true (omega arith)
-      (λ σ m. copy_last T σ m w (sym (look σ.table m.table).class ∙ z) n (where_to σ.table m.table u) T' d)
+module _ (T w : List ℕ) (most : ℕ) (n : Named) (d : Declared T w n) (T' : List ℕ) where
+  pub claims_free : (k : ClauseKind) → not n.claimed ≡ true → Classed T n.index (class_by k) T' → ClaimsOne (Claim k) T w most T' most
+  claims_free k z c = claims_as (Claim k) T w most T' most true (omega arith)
+      (λ σ m. let (kn, st) = d σ.table m.table in claim_free T σ m w k n kn.known st T' c (not-true n.claimed z))
+
+  pub copies_last : n.class ≡ lastprivate → CopiedIn T n.index T' → ClaimsOne CopyIn T w most T' most
+  copies_last z c = claims_as CopyIn T w most T' most true (omega arith)
+      (λ σ m. let (kn, st) = d σ.table m.table in copy_last T σ m w (sym kn.class ∙ z) n st T' c)
 
 -- the variable stays
 pub variable_keeps : (T T' : List ℕ) → (length_at T variable_entry ≤ name_words → variable_of T' ≡ variable_of T) → Keeps T T'

@@ -2,15 +2,15 @@
 use mathlib.Core.Path.{◌≡◌, sym, ◌∙◌, ap, subst}
 use mathlib.Core.Bool.{Bool, true, and-true}
 use mathlib.Core.List.{List, [], ◌∷◌}
-use Prim.Native.Nat.{ℕ, ◌-◌, ◌≤◌, ◌<◌, max}
-use lib.ListN.{length}
+use Prim.Native.Nat.{ℕ, ◌<◌, max}
 use Rattle.syntax.specs.Bytes.{bytes}
 use Rattle.syntax.specs.Reader.{read_name, peek_in, skip_in}
-use Rattle.lexer.specs.Places.{Goes, Any, passes}
-use Rattle.lexer.proofs.PlaceLaws.{goes_some, goes_same}
+use Rattle.std.specs.Prelude.{Option, None, Some}
+use Rattle.syntax.specs.Ranks.{level}
+use Rattle.lexer.specs.Places.{Any, passes, NotRead, ReadTo}
 use Rattle.heading.specs.Lists.{order, Standing}
 use Rattle.heading.specs.declared.Headed.{Headed}
-use Rattle.heading.proofs.Lists.{list_last, list_more, read_there, onward}
+use Rattle.heading.proofs.Turns.{list_not, list_last, list_more, onward}
 use Rattle.claiming.specs.declared.Deed.{Deed}
 use Rattle.claiming.specs.Claims.{Stand, fits, with_name, all_fit, Marked, Claiming, ClaimsOne}
 use Rattle.clauses.specs.Directive.{ClaimAt, Claims}
@@ -32,23 +32,22 @@ pub claiming_at : (d : Deed) (σ : Stand) (most : ℕ) (T T' : List ℕ) (r : �
     → ClaimsOne d T w most T' r → Marked T σ → Claiming d σ most T' r (x ∷ [])
 claiming_at d σ most T T' r x w e h m = subst (λ (y : List ℕ). Claiming d σ most T' r (y ∷ [])) (sym e) (h σ m)
 
+pub claims_not : (d : Deed) (T s : List ℕ) (b : Headed) (T₁ : List ℕ) → ClaimAt d T s b T₁ None → Claims d T s b T₁ None
+claims_not d T s b T₁ h σ m f l = list_not (read_name peek_in skip_in) (h σ m) f
+
 -- a name at a place, and then none or a comma and others
-module _ (d : Deed) (T s : List ℕ) (from most : ℕ) (T₁ : List ℕ) (r₁ : Headed) (h : ClaimAt d T s from most T₁ r₁) (k : ℕ)
-    (g : Goes Any s r₁.next (passes (bytes ",")) k) where
-  pub claims_last : length s < k → Claims d T s from most T₁ r₁
-  claims_last l σ m = list_last (read_name peek_in skip_in) s from r₁.next k (λ y. Claiming d σ most T₁ r₁.rank (y ∷ []))
-      (Claiming d σ most T₁ r₁.rank) (h σ m) g l (λ y p q. p)
+module _ (d : Deed) (T s : List ℕ) (b : Headed) (T₁ : List ℕ) (r₁ : Headed) (h : ClaimAt d T s b T₁ (Some r₁)) where
+  pub claims_last : NotRead s r₁.next (passes (bytes ",")) → Claims d T s b T₁ (Some r₁)
+  claims_last g σ m = list_last (read_name peek_in skip_in) (h σ m) g (λ _. (h σ m).holds)
 
-  pub claims_more : k ≤ length s → (T₂ : List ℕ) (r₂ : Headed) → Claims d T₁ s k r₁.rank T₂ r₂ → Claims d T s from most T₂ r₂
-  claims_more l T₂ r₂ w σ m =
-      let here = h σ m in
-      let within = read_there (read_name peek_in skip_in) s from r₁.next k _ Any here g l in
-      let (y, _, e, p) = goes_some here within in
-      list_more (read_name peek_in skip_in) s from r₁.next k (λ x. y ≡ x) (Claiming d σ most T₂ r₂.rank) (goes_same here within y e) g l
-      (Claiming d (with_name d σ y) r₁.rank T₂ r₂.rank) r₂.next
-      (w (with_name d σ y) p.marked)
-      (λ x i ys u q z. subst (λ (x : List ℕ). Claiming d σ most T₂ r₂.rank (x ∷ ys)) i
-      (claiming_more d σ most T₁ T₂ r₁.rank r₂.rank y ys p z))
+  module _ {k : ℕ} (g : ReadTo Any s r₁.next (passes (bytes ",")) k) where
+    pub claims_more : (T₂ : List ℕ) (o : Option Headed) → Claims d T₁ s (record { next = k; rank = r₁.rank }) T₂ o → Claims d T s b T₂ o
+    claims_more T₂ o w σ m =
+        let here = h σ m in
+        list_more (read_name peek_in skip_in) here g (λ r. r.next)
+        (λ r. Claiming d (with_name d σ here.what) (level r₁.rank) T₂ (level r.rank)) (λ r. Claiming d σ (level b.rank) T₂ (level r.rank)) o
+        (w (with_name d σ here.what) here.holds.marked)
+        (λ r₂ _ ys u q z. claiming_more d σ (level b.rank) T₁ T₂ (level r₁.rank) (level r₂.rank) here.what ys here.holds z)
 
-  pub claims_onward : Standing T → {n : ℕ} → length s - from ≡ n → k ≤ length s → length s - k < n
-  claims_onward st e l = let (σ, m) = some_marked T st in onward s from r₁.next k e (h σ m) g l
+    pub claims_onward : Standing T → b.next < k
+    claims_onward st = let (σ, m) = some_marked T st in onward (read_name peek_in skip_in) (h σ m) g

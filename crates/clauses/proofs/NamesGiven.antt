@@ -3,7 +3,7 @@ use mathlib.Core.Path.{◌≡◌, refl, sym, ◌∙◌, ap}
 use mathlib.Core.Bool.{Bool, true, false, cond, ◌&&◌, ◌||◌, and_assoc}
 use mathlib.Core.List.{List, [], ◌∷◌, ◌++◌, map}
 use Prim.Native.Nat.{ℕ}
-use Rattle.rules.specs.Loop.{Class}
+use Rattle.rules.specs.declared.Class.{Class}
 use Rattle.syntax.specs.Bytes.{any, same}
 use Rattle.syntax.specs.Known.{Entry, known, with_class}
 use Rattle.names.specs.Table.{class_to}

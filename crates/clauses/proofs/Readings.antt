@@ -6,7 +6,7 @@ use Prim.Native.Nat.{ℕ, ◌/◌, ◌%◌, ◌<◌}
 use native.Mathlib.Omega.{arith}
 use lib.Dec.{eqb}
 use lib.ListN.{length, get_or}
-use Rattle.rules.specs.Loop.{lastprivate, copied}
+use Rattle.rules.specs.declared.Class.TheVariants.{Lastprivate as lastprivate, Copied as copied}
 use Rattle.rules.specs.Numbers.{class_number}
 use Rattle.syntax.specs.Bytes.{all, any, same}
 use Rattle.syntax.specs.Grammar.{Clause}

@@ -1,11 +1,13 @@
 -- RULES 1.7: what the functions on clauses yield. The clauses are read twice (RULES 1.12 d): the first time names get the classes
 -- of all clauses but `firstprivate`, the second time those of them that are lastprivate may be copied in.
-use Rattle.std.specs.Prelude.{◌≡◌, Bool, true, ◌&&◌, List, [], ◌∷◌, ℕ, zero, suc, ◌+◌, ◌-◌, ◌≤◌, ◌<◌, max, min, length}
+use Rattle.std.specs.Prelude.{◌≡◌, Bool, true, ◌&&◌, List, [], ◌∷◌, ℕ, zero, suc, ◌+◌, ◌-◌, ◌≤◌, ◌<◌, max, min, length, Option}
 use Rattle.syntax.specs.Bytes.{all, between}
 use Rattle.syntax.specs.Grammar.{number, Clause, clause, threads, static}
 use Rattle.syntax.specs.Known.{Entry, threads_in, statics_in}
+use Rattle.syntax.specs.declared.Rank.{Rank}
+use Rattle.syntax.specs.Ranks.{level}
 use Rattle.syntax.specs.Reader.{read_name, read_listed, read_clause, read_clauses, peek_in, skip_in}
-use Rattle.lexer.specs.Places.{Goes}
+use Rattle.lexer.specs.Places.{Finds}
 use Rattle.names.specs.Table.{Tabled}
 use Rattle.heading.specs.Lists.{read_some, order}
 use Rattle.heading.specs.declared.Headed.{Headed}
@@ -17,14 +19,15 @@ use Rattle.claiming.specs.Claims.{Claiming, Marked, Stand, all_fit, deed, with_n
 
 -- ---- names
 
-abbrev pub ClaimAt : Deed → List ℕ → List ℕ → ℕ → ℕ → List ℕ → Headed → Type 0
-ClaimAt d T s at most T' r =
-    (σ : Stand) → Marked T σ → Goes (λ y. Claiming d σ most T' r.rank (y ∷ [])) s at (read_name peek_in skip_in) r.next
+-- after others that came to b
+abbrev pub ClaimAt : Deed → List ℕ → List ℕ → Headed → List ℕ → Option Headed → Type 0
+ClaimAt d T s b T' o =
+    (σ : Stand) → Marked T σ → Finds (λ r. r.next) (λ r y. Claiming d σ (level b.rank) T' (level r.rank) (y ∷ [])) s b.next (read_name peek_in skip_in) o
 
-abbrev pub Claims : Deed → List ℕ → List ℕ → ℕ → ℕ → List ℕ → Headed → Type 0
-Claims d T s at most T' r =
-    (σ : Stand) → Marked T σ → (f : ℕ) → length s - at < f
-    → Goes (Claiming d σ most T' r.rank) s at (read_some f (read_name peek_in skip_in)) r.next
+abbrev pub Claims : Deed → List ℕ → List ℕ → Headed → List ℕ → Option Headed → Type 0
+Claims d T s b T' o =
+    (σ : Stand) → Marked T σ → (f : ℕ) → length s - b.next < f
+    → Finds (λ r. r.next) (λ r. Claiming d σ (level b.rank) T' (level r.rank)) s b.next (read_some f (read_name peek_in skip_in)) o
 
 -- ---- clauses
 
@@ -60,33 +63,33 @@ Naming q σ most T' rank (clause k y ys) = Claiming (deed q k) σ most T' rank (
 Naming q σ most T' rank (threads p) = ⊥
 Naming q σ most T' rank static = ⊥
 
-abbrev pub NamesAt : Reading → List ℕ → List ℕ → ℕ → ℕ → List ℕ → Headed → Type 0
-NamesAt q T s at most T' r =
-    (σ : Stand) → Marked T σ → (f : ℕ) → length s - at ≤ f
-    → Goes (Naming q σ most T' r.rank) s at (read_listed peek_in skip_in f) r.next
+abbrev pub NamesAt : Reading → List ℕ → List ℕ → Headed → List ℕ → Option Headed → Type 0
+NamesAt q T s b T' o =
+    (σ : Stand) → Marked T σ → (f : ℕ) → length s - b.next ≤ f
+    → Finds (λ r. r.next) (λ r. Naming q σ (level b.rank) T' (level r.rank)) s b.next (read_listed peek_in skip_in f) o
 
 -- clauses cs, after others that came to b
 pub record Clausal (q : Reading) (σ : Stand) (b : Directed) (T' : List ℕ) (r : Directed) (cs : List Clause) : Type 0 where
-  pub rank_is : r.rank ≡ max b.rank (order (clauses_fit q σ cs) (all few (threads_in cs)))
+  pub rank_is : level r.rank ≡ max (level b.rank) (order (clauses_fit q σ cs) (all few (threads_in cs)))
   pub threads_are : r.threads ≡ counted b.threads (length (threads_in cs))
   pub processors_are : r.processors ≡ last_threads b.processors (threads_in cs)
   pub statics_are : r.statics ≡ counted b.statics (statics_in cs)
   pub marked : Marked T' (with_clauses q σ cs)
 
-abbrev pub ClauseAt : Reading → List ℕ → List ℕ → Directed → List ℕ → Directed → Type 0
-ClauseAt q T s b T' r =
+abbrev pub ClauseAt : Reading → List ℕ → List ℕ → Directed → List ℕ → Option Directed → Type 0
+ClauseAt q T s b T' o =
     (σ : Stand) → Marked T σ → (f : ℕ) → length s - b.next ≤ f
-    → Goes (λ c. Clausal q σ b T' r (c ∷ [])) s b.next (read_clause peek_in skip_in f) r.next
+    → Finds (λ r. r.next) (λ r c. Clausal q σ b T' r (c ∷ [])) s b.next (read_clause peek_in skip_in f) o
 
-abbrev pub Clauses : Reading → List ℕ → List ℕ → Directed → List ℕ → Directed → Type 0
-Clauses q T s b T' r =
+abbrev pub Clauses : Reading → List ℕ → List ℕ → Directed → List ℕ → Option Directed → Type 0
+Clauses q T s b T' o =
     (σ : Stand) → Marked T σ → (f : ℕ) → length s - b.next < f
-    → Goes (Clausal q σ b T' r) s b.next (read_clauses peek_in skip_in f) r.next
+    → Finds (λ r. r.next) (Clausal q σ b T') s b.next (read_clauses peek_in skip_in f) o
 
 -- ---- the directive
 
 -- no clause comes before its first; so far names and limits came to a rank
-abbrev pub none_before : ℕ → ℕ → Directed
+abbrev pub none_before : ℕ → Rank → Directed
 none_before at rank = record { next = at; rank = rank; threads = 0; processors = 0; statics = 0 }
 
 -- the clauses cs of a directive, over the names t, none of which stood in a clause
@@ -100,13 +103,13 @@ abbrev pub with_both : List Entry → List Clause → List Entry
 with_both t cs = (with_clauses Copies (with_clauses Classes (bare t) cs) cs).table
 
 pub record Directing (t : List Entry) (T' : List ℕ) (r : Directed) (cs : List Clause) : Type 0 where
-  pub rank_is : r.rank ≡ order (twice_fit t cs) (all few (threads_in cs))
+  pub rank_is : level r.rank ≡ order (twice_fit t cs) (all few (threads_in cs))
   pub threads_are : r.threads ≡ counted 0 (length (threads_in cs))
   pub processors_are : r.processors ≡ last_threads 0 (threads_in cs)
   pub statics_are : r.statics ≡ counted 0 (statics_in cs)
   pub table : Tabled T' (with_both t cs)
 
-abbrev pub Directive : List ℕ → List ℕ → ℕ → List ℕ → Directed → Type 0
-Directive T s at T' r =
+abbrev pub Directive : List ℕ → List ℕ → ℕ → List ℕ → Option Directed → Type 0
+Directive T s at T' o =
     (t : List Entry) → Marked T (bare t) → (f : ℕ) → length s - at < f
-    → Goes (Directing t T' r) s at (read_clauses peek_in skip_in f) r.next
+    → Finds (λ r. r.next) (Directing t T') s at (read_clauses peek_in skip_in f) o

@@ -2,6 +2,11 @@
 // specs/Instr.antt, `operation`.
 #![tactic(auto)]
 
+ghost use Rattle.std.specs.Prelude.{◌≡◌};
+ghost use Rattle.code.specs.Instr.{relation_number as number_of, relation_of as of_number};
+
+use int32::Relation;
+
 // The operations: the first word is an operation and LINE times the line.
 pub const PUSH: u32 = 0;
 
@@ -54,3 +59,24 @@ pub const DISTANCE: u32 = 8;
 
 // The words that hold the code of any text.
 pub const WORDS: usize = 8194;
+
+// The number of a relation in the second word of a jump.
+pub fn relation_number(relation: Relation) -> u32
+    ensures { result ≡ number_of relation }
+{
+    relation as u32
+}
+
+// The relation of a number.
+pub fn relation_of(number: u32) -> Relation
+    ensures { result ≡ of_number number }
+{
+    match number {
+        0 => Relation::Equal,
+        1 => Relation::Unequal,
+        2 => Relation::Less,
+        3 => Relation::AtMost,
+        4 => Relation::Greater,
+        _ => Relation::AtLeast,
+    }
+}

@@ -4,7 +4,6 @@ use mathlib.Core.Bool.{Bool, true, false, cond, not, ◌&&◌, ◌||◌, or-fals
 use mathlib.Core.List.{List, [], ◌∷◌, ◌++◌, append_assoc, append-nil}
 use Prim.Native.Nat.{ℕ, zero, suc, ◌+◌, ◌*◌, ◌≤◌, ◌<◌, min, max}
 use native.Mathlib.Decide.{dec_lt, ℕ_discrete}
-use native.Mathlib.Nat.{mul-le-mul_right}
 use native.Mathlib.Omega.{arith}
 use borrow.Author.Tests.{leb-true, le-leb}
 use lib.Dec.{leb}
@@ -12,7 +11,7 @@ use lib.ListN.{length, get_or, drop, length-append}
 use Rattle.syntax.specs.Bytes.{bytes, choose, same, any, all, between}
 use Rattle.syntax.specs.Grammar.{number, Declared, one, array, grid}
 use Rattle.syntax.specs.Known.{Entry, known, declared_name, declared_extents, cells_of, declared_size, total, entry_of, entries}
-use Rattle.names.specs.Table.{extents_of, variable_of, Tabled, Unclaimed, declared, count_in, length_at, variable_entry, name_words}
+use Rattle.names.specs.Table.{extents_of, variable_of, Tabled, Unknown, Knows, Stands, Unclaimed, declared, count_in, length_at, variable_entry, name_words}
 use Rattle.names.proofs.Rows.{name_length}
 use Rattle.names.specs.declared.Shape.{Shape}
 use Rattle.syntax.proofs.Table.{extents_few}
@@ -21,15 +20,21 @@ use Rattle.syntax.proofs.Spelling.{both_true}
 use Rattle.syntax.proofs.TestLaws.{both_hold, any_append, neither_holds, same_comm_false, same_truth}
 use Rattle.syntax.specs.Reader.{Parsed, broken, done, Reader, next, sees, expects, read_name, read_digits, read_more, read_declared, peek_in, skip_in}
 use Rattle.lexer.specs.declared.Word.{Word}
-use Rattle.lexer.specs.Places.{Lands, Goes, Any, passes, Spells}
-use Rattle.lexer.proofs.PlaceLaws.{goes_next, goes_end, lands_next, lands_expect, pass_there, pass_not, goes_some, goes_same}
-use Rattle.lexer.proofs.Said.{sign_text}
+use Rattle.lexer.specs.declared.Number.{Number}
+use Rattle.lexer.specs.Places.{Any, passes, Spells, Numbers, NotRead, ReadTo}
+use Rattle.lexer.proofs.InTurn.{not_then, then_not, then_to, to_done, not_past, past_to, sign_to, sign_not, no_sign_to, no_sign_not}
+use Rattle.std.specs.Prelude.{Option, None, Some, MatchOption}
+use Rattle.std.specs.Prelude.{is_some}
+use Rattle.names.specs.declared.Named.{Named}
+use Rattle.syntax.specs.declared.Rank.{Rank}
+use Rattle.syntax.specs.Ranks.{level}
 use Rattle.declarations.specs.declared.Item.{Item}
 use Rattle.lexer.specs.Lex.{part}
 use Rattle.declarations.specs.Integer.{shape_of, Declares, Follow, names_of, Later, Repeated, Enters, fits, Entered, apart, fit, Enlists, Integers}
 use Rattle.declarations.specs.declared.Listed.{Listed}
 use Rattle.heading.specs.Lists.{order, Keeps}
-use Rattle.heading.proofs.Lists.{more_comma, more_none, list_last, list_more, read_there, order_unnamed, order_most, order_some, order_either}
+use Rattle.heading.proofs.Turns.{on, more_comma, more_none, list_last, list_more}
+use Rattle.heading.proofs.Lists.{order_unnamed, order_most, order_some, order_either}
 
 -- a reading that comes to something
 broken_done : {A : Type 0} {a : A} {u : List ℕ} → broken ≡ done a u → ⊥
@@ -40,18 +45,6 @@ what broken = []
 what (done xs v) = xs
 
 -- ---- one declared name
-
--- a factor over the limit, and another that is not 0
-pub over_first : (m n : ℕ) → 4096 < m → (n ≡ 0 → ⊥) → 4097 ≡ min (m * n) 4097
-over_first m zero h k = absurd (k refl)
-over_first m (suc n) h k = omega arith
-
-pub over_second : (m n : ℕ) → (m ≡ 0 → ⊥) → 4096 < n → 4097 ≡ min (m * n) 4097
-over_second zero n k h = absurd (k refl)
-over_second (suc m) n k h = omega arith
-
-pub few_times : (m n : ℕ) → m ≤ 4096 → n ≤ 4096 → m * n ≤ 16777216
-few_times m n h k = omega (arith, mul-le-mul_right n h)
 
 -- extents up to 2^31 have the same product up to 4,097
 capped : (a b : ℕ) → min (min a 2147483648 * min b 2147483648) 4097 ≡ min (a * b) 4097
@@ -68,148 +61,150 @@ capped (suc a) (suc b) = elim (dec_lt 2147483648 (suc a)) [
   ]
 ]
 
-module _ (s : List ℕ) (from : ℕ) (w : Word) (h : Goes (Spells s w) s from (read_name peek_in skip_in) w.next) (o : ℕ)
-    (g : Goes Any s w.next (passes (bytes "(")) o) where
-  -- what comes after the first extent, and after the name
-  abbrev second : List ℕ → List ℕ → Reader (List ℕ) Declared
-  second x y u = choose (sees peek_in skip_in "," u)
-      (λ _. next (read_digits peek_in skip_in (skip_in u)) (λ n v. next (expects peek_in skip_in ")" v) (λ _. done (grid x y n))))
-      (λ _. next (expects peek_in skip_in ")" u) (λ _. done (array x y)))
+-- what comes after the name, and after the first extent
+abbrev second : List ℕ → List ℕ → Reader (List ℕ) Declared
+second x y u = choose (sees peek_in skip_in "," u)
+    (λ _. next (read_digits peek_in skip_in (skip_in u)) (λ n v. next (expects peek_in skip_in ")" v) (λ _. done (grid x y n))))
+    (λ _. next (expects peek_in skip_in ")" u) (λ _. done (array x y)))
 
-  abbrev rest : List ℕ → Reader (List ℕ) Declared
-  rest x u = choose (sees peek_in skip_in "(" u) (λ _. next (read_digits peek_in skip_in (skip_in u)) (second x)) (λ _. done (one x) u)
+abbrev rest : List ℕ → Reader (List ℕ) Declared
+rest x u = choose (sees peek_in skip_in "(" u) (λ _. next (read_digits peek_in skip_in (skip_in u)) (second x)) (λ _. done (one x) u)
 
-  rest_by : (x : List ℕ) (b : Bool) → sees peek_in skip_in "(" (drop w.next s) ≡ b → (Q : Declared → Type 0) (r : ℕ)
-      → Lands Q s (choose b (λ _. next (read_digits peek_in skip_in (skip_in (drop w.next s))) (second x)) (λ _. done (one x) (drop w.next s))) r
-      → Lands Q s (rest x (drop w.next s)) r
-  rest_by x b e Q r l = subst (λ (c : Bool). Lands Q s
-      (choose c (λ _. next (read_digits peek_in skip_in (skip_in (drop w.next s))) (second x)) (λ _. done (one x) (drop w.next s))) r)
-      (sym e) l
+-- digits after the bracket, and after the comma
+abbrev extents : List ℕ → Reader (List ℕ) Declared
+extents x u = next (read_digits peek_in skip_in u) (second x)
 
-  pub declares_one : length s < o
-      → Goes (Declares s (record { next = w.next; start = w.start; stop = w.next; shape = record { size = 1; rows = 0; columns = 0 } })) s from
-      (read_declared peek_in skip_in) w.next
-  declares_one b = goes_next (Spells s w) _ s rest w.next w.next h
-      (λ x p l. rest_by x false (sign_text (bytes "(") refl (drop w.next s) ∙ pass_not s (bytes "(") w.next o g l b) _ w.next
-      (refl, l, record { name = p.bytes; order = p.order; inside = l; short = p.short; shape = refl }))
-      (λ l. omega arith)
-      (goes_end h)
+abbrev columns : List ℕ → List ℕ → Reader (List ℕ) Declared
+columns x y u = next (read_digits peek_in skip_in u) (λ n v. next (expects peek_in skip_in ")" v) (λ _. done (grid x y n)))
 
-  module _ (b : o ≤ length s) (n k : ℕ) (d : Goes (λ d. k ≡ min (number d) 2147483648) s o (read_digits peek_in skip_in) n) where
-    -- by what comes after the first extent
-    bracketed : (Q : Declared → Type 0) (c : ℕ)
-        → ((x y : List ℕ) → Spells s w x → k ≡ min (number y) 2147483648 → w.next ≤ length s → n ≤ length s → Lands Q s (second x y (drop n s)) c)
-        → (n ≤ length s → n ≤ c) → (length s < n → c ≡ length s + 1) → Goes Q s from (read_declared peek_in skip_in) c
-    bracketed Q c f fr lost = goes_next (Spells s w) Q s rest w.next c h
-        (λ x p l. let (e, m) = pass_there s (bytes "(") w.next o g l b in
-        rest_by x true (sign_text (bytes "(") refl (drop w.next s) ∙ e) Q c
-        (subst (λ (u : List ℕ). Lands Q s (next (read_digits peek_in skip_in u) (second x)) c) (sym m)
-        (lands_next (λ d. k ≡ min (number d) 2147483648) Q s (second x) n c (read_digits peek_in skip_in (drop o s)) (d.lands b)
-        (λ y q i. f x y p q l i) lost)))
-        (λ l. elim (dec_lt (length s) n) [
-          | yes i ↦ omega (arith, lost i)
-          | no i ↦ omega (arith, g.from l, d.from b, fr (omega arith))
-        ])
-        (λ l. absurd (omega (arith, g.lost l)))
+abbrev closed : Declared → Reader (List ℕ) Declared
+closed d u = next (expects peek_in skip_in ")" u) (λ _. done d)
 
-    module _ (m : ℕ) (gm : Goes Any s n (passes (bytes ",")) m) where
-      second_by : (x y : List ℕ) (b : Bool) → sees peek_in skip_in "," (drop n s) ≡ b → (Q : Declared → Type 0) (r : ℕ)
-          → Lands Q s (choose b
-          (λ _. next (read_digits peek_in skip_in (skip_in (drop n s))) (λ n v. next (expects peek_in skip_in ")" v) (λ _. done (grid x y n))))
-          (λ _. next (expects peek_in skip_in ")" (drop n s)) (λ _. done (array x y))))
-          r
-          → Lands Q s (second x y (drop n s)) r
-      second_by x y b e Q r l = subst (λ (c : Bool). Lands Q s (choose c
-          (λ _. next (read_digits peek_in skip_in (skip_in (drop n s))) (λ n v. next (expects peek_in skip_in ")" v) (λ _. done (grid x y n))))
-          (λ _. next (expects peek_in skip_in ")" (drop n s)) (λ _. done (array x y))))
-          r)
-          (sym e) l
+module _ {s : List ℕ} {from : ℕ} where
+  pub nameless : NotRead s from (read_name peek_in skip_in) → NotRead s from (read_declared peek_in skip_in)
+  nameless g = not_then rest g
 
-      -- an array
-      pub declares_array : length s < m → (c z : ℕ) → Goes Any s n (passes (bytes ")")) c → z ≡ min (k * 1) 4097
-          → Goes (Declares s (record { next = c; start = w.start; stop = w.next; shape = record { size = z; rows = k; columns = 0 } })) s from
-          (read_declared peek_in skip_in) c
-      declares_array l c z gc ez = bracketed _ c
-          (λ x y p q i j.
-          let e : z ≡ min (number y) 4097 = omega (arith, ez, q) in
-          second_by x y false (sign_text (bytes ",") refl (drop n s) ∙ pass_not s (bytes ",") n m gm j l) _ c
-          (lands_expect _ s ")" refl n c gc j (array x y)
-          (record { name = p.bytes; order = p.order; inside = i; short = p.short; shape = λ h. record { size = e h; rows = q h; columns = 0 } })))
-          gc.from gc.lost
+  module _ (w : Word) (h : ReadTo (Spells s w) s from (read_name peek_in skip_in) w.next) where
+    pub declares_one : NotRead s w.next (passes (bytes "("))
+        → ReadTo (Declares s (record { next = w.next; start = w.start; stop = w.next; shape = record { size = 1; rows = 0; columns = 0 } })) s from
+        (read_declared peek_in skip_in) w.next
+    declares_one g = then_to rest h (λ x p. no_sign_to (extents x) (done (one x)) "(" refl g
+        (to_done (one x) h.within (record { name = p.bytes; order = p.order; inside = h.within; short = p.short; shape = refl })))
 
-      -- a grid
-      module _ (l : m ≤ length s) (n₂ k₂ : ℕ) (d₂ : Goes (λ d. k₂ ≡ min (number d) 2147483648) s m (read_digits peek_in skip_in) n₂) (c z : ℕ)
-          (gc : Goes Any s n₂ (passes (bytes ")")) c) (ez : z ≡ min (k * k₂) 4097) where
-        abbrev found : Declared → Type 0
-        found = Declares s (record { next = c; start = w.start; stop = w.next; shape = record { size = z; rows = k; columns = k₂ } })
+    module _ {o : ℕ} (g : ReadTo Any s w.next (passes (bytes "(")) o) where
+      -- by what comes after the bracket
+      opened : {Q : Declared → Type 0} {c : ℕ} → ((x : List ℕ) → Spells s w x → ReadTo Q s o (extents x) c) → ReadTo Q s from (read_declared peek_in skip_in) c
+      opened f = then_to rest h (λ x p. sign_to (extents x) (done (one x)) "(" refl g (f x p))
 
-        pub declares_grid : Goes (Declares s (record { next = c; start = w.start; stop = w.next; shape = record { size = z; rows = k; columns = k₂ } })) s from
-            (read_declared peek_in skip_in) c
-        declares_grid = bracketed found c
-            (λ x y p q i j.
-            let (e, u) = pass_there s (bytes ",") n m gm j l in
-            second_by x y true (sign_text (bytes ",") refl (drop n s) ∙ e) found c
-            (subst (λ (u : List ℕ). Lands found s
-            (next (read_digits peek_in skip_in u) (λ n v. next (expects peek_in skip_in ")" v) (λ _. done (grid x y n)))) c)
-            (sym u)
-            (lands_next (λ d. k₂ ≡ min (number d) 2147483648) found s (λ n v. next (expects peek_in skip_in ")" v) (λ _. done (grid x y n))) n₂ c
-            (read_digits peek_in skip_in (drop m s)) (d₂.lands l)
-            (λ y₂ q₂ i₂.
-            let f : z ≡ min (number y * number y₂) 4097 = ez ∙ (λ h. min (q h * q₂ h) 4097) ∙ capped (number y) (number y₂) in
-            lands_expect found s ")" refl n₂ c gc i₂ (grid x y y₂)
-            (record { name = p.bytes; order = p.order; inside = i; short = p.short; shape = λ h. record { size = f h; rows = q h; columns = q₂ h } }))
-            gc.lost)))
-            (λ j. elim (dec_lt (length s) n₂) [
-              | yes i ↦ omega (arith, gc.lost i)
-              | no i ↦ omega (arith, gm.from j, d₂.from l, gc.from (omega arith))
-            ])
-            (λ i. absurd (omega (arith, gm.lost i)))
+      not_opened : ((x : List ℕ) → NotRead s o (extents x)) → NotRead s from (read_declared peek_in skip_in)
+      not_opened f = then_not rest h (λ x p. sign_not (extents x) (done (one x)) "(" refl g (f x))
+
+      pub rowless : NotRead s o (read_digits peek_in skip_in) → NotRead s from (read_declared peek_in skip_in)
+      rowless n = not_opened (λ x. not_then (second x) n)
+
+      module _ (k : Number) (d : ReadTo (Numbers k) s o (read_digits peek_in skip_in) k.next) where
+        -- an array
+        module _ (l : NotRead s k.next (passes (bytes ","))) where
+          pub array_open : NotRead s k.next (passes (bytes ")")) → NotRead s from (read_declared peek_in skip_in)
+          array_open n = not_opened (λ x. then_not (second x) d (λ y q. no_sign_not (columns x y) (closed (array x y)) "," refl l
+              (not_past ")" (done (array x y)) refl n)))
+
+          pub declares_array : (c z : ℕ) → ReadTo Any s k.next (passes (bytes ")")) c → z ≡ min (k.number * 1) 4097
+              → ReadTo (Declares s (record { next = c; start = w.start; stop = w.next; shape = record { size = z; rows = k.number; columns = 0 } })) s from
+              (read_declared peek_in skip_in) c
+          declares_array c z n ez = opened (λ x p. then_to (second x) d (λ y q.
+              let e : z ≡ min (number y) 4097 = omega (arith, ez, q) in
+              no_sign_to (columns x y) (closed (array x y)) "," refl l
+              (past_to ")" (done (array x y)) n refl (to_done (array x y) n.within
+              (record { name = p.bytes; order = p.order; inside = h.within; short = p.short; shape = λ i. record { size = e i; rows = q i; columns = 0 } })))))
+
+        -- a grid
+        module _ {m : ℕ} (l : ReadTo Any s k.next (passes (bytes ",")) m) where
+          pub columnless : NotRead s m (read_digits peek_in skip_in) → NotRead s from (read_declared peek_in skip_in)
+          columnless n = not_opened (λ x. then_not (second x) d (λ y q. sign_not (columns x y) (closed (array x y)) "," refl l
+              (not_then (λ e. closed (grid x y e)) n)))
+
+          module _ (k₂ : Number) (d₂ : ReadTo (Numbers k₂) s m (read_digits peek_in skip_in) k₂.next) where
+            pub grid_open : NotRead s k₂.next (passes (bytes ")")) → NotRead s from (read_declared peek_in skip_in)
+            grid_open n = not_opened (λ x. then_not (second x) d (λ y q. sign_not (columns x y) (closed (array x y)) "," refl l
+                (then_not (λ e. closed (grid x y e)) d₂ (λ e _. not_past ")" (done (grid x y e)) refl n))))
+
+            pub declares_grid : (c z : ℕ) → ReadTo Any s k₂.next (passes (bytes ")")) c → z ≡ min (k.number * k₂.number) 4097
+                → ReadTo (Declares s (record { next = c; start = w.start; stop = w.next; shape = record { size = z; rows = k.number; columns = k₂.number } })) s
+                from (read_declared peek_in skip_in) c
+            declares_grid c z n ez = opened (λ x p. then_to (second x) d (λ y q. sign_to (columns x y) (closed (array x y)) "," refl l
+                (then_to (λ e. closed (grid x y e)) d₂ (λ e q₂.
+                let f : z ≡ min (number y * number e) 4097 = ez ∙ (λ i. min (q i * q₂ i) 4097) ∙ capped (number y) (number e) in
+                past_to ")" (done (grid x y e)) n refl (to_done (grid x y e) n.within
+                (record { name = p.bytes; order = p.order; inside = h.within; short = p.short; shape = λ i. record { size = f i; rows = q i; columns = q₂ i } }))))))
 
 -- ---- further ones
 
 -- a name that follows, or none
-module _ (s : List ℕ) (from : ℕ) (w : List ℕ) (b : from ≤ length s) (k : ℕ) (g : Goes Any s from (passes (bytes ",")) k) where
-  pub later_none : length s < k → Later s from w false
+module _ (s : List ℕ) (from : ℕ) (w : List ℕ) where
+  pub later_none : from ≤ length s → NotRead s from (passes (bytes ",")) → Later s from w false
   unfolding read_more
-  later_none l ds (zero, u, e) = absurd (broken_done e)
-  later_none l ds (suc f, u, e) = ap (λ xs. any (same w) (names_of xs)) (nil (sym (more_none (read_declared peek_in skip_in) s f from k g b l) ∙ e))
+  later_none b g ds (zero, u, e) = absurd (broken_done e)
+  later_none b g ds (suc f, u, e) = ap (λ xs. any (same w) (names_of xs)) (nil (sym (more_none (read_declared peek_in skip_in) f g b) ∙ e))
     where
       nil : done [] (drop from s) ≡ done ds u → [] ≡ ds
       nil q = ap what q
 
-  module _ (i : k ≤ length s) (r : Item) (h : Goes (Declares s r) s k (read_declared peek_in skip_in) r.next) where
+  module _ {k : ℕ} (g : ReadTo Any s from (passes (bytes ",")) k) where
     -- what the first of them is, and what follows it
     parts : (ds : List Declared) → Follow s from ds
-        → (d : Declared) × (ds' : List Declared) × (ds ≡ d ∷ ds') × Declares s r d × (r.next ≤ length s) × Follow s r.next ds'
+        → (p : Parsed (List ℕ) Declared) → read_declared peek_in skip_in (drop k s) ≡ p
+        → (d : Declared) × (v : List ℕ) × (p ≡ done d v) × (ds' : List Declared) × (ds ≡ d ∷ ds')
+        × ((f : ℕ) × (u : List ℕ) × (read_more peek_in skip_in f (read_declared peek_in skip_in) v ≡ done ds' u))
     unfolding read_more
-    parts ds (zero, u, e) = absurd (broken_done e)
-    parts ds (suc f, u, e) = go (read_declared peek_in skip_in (drop k s)) (h.lands i) (sym (more_comma (read_declared peek_in skip_in) s f from k g b i) ∙ e)
+    parts ds (zero, u, e) p q = absurd (broken_done e)
+    parts ds (suc f, u, e) p q = go p
+        (ap (λ (p : Parsed (List ℕ) Declared). next p (on (read_declared peek_in skip_in) f)) (sym q) ∙ sym (more_comma (read_declared peek_in skip_in) f g) ∙ e)
       where
-        rest : (d : Declared) (p : Parsed (List ℕ) (List Declared)) → next p (λ xs. done (d ∷ xs)) ≡ done ds u
+        onto : (d : Declared) (p : Parsed (List ℕ) (List Declared)) → next p (λ xs. done (d ∷ xs)) ≡ done ds u
             → (xs : List Declared) × (v : List ℕ) × (p ≡ done xs v) × (d ∷ xs ≡ ds)
-        rest d broken q = absurd (broken_done q)
-        rest d (done xs v) q = (xs, v, refl, ap what q)
+        onto d broken q = absurd (broken_done q)
+        onto d (done xs v) q = (xs, v, refl, ap what q)
 
-        go : (p : Parsed (List ℕ) Declared) → Lands (Declares s r) s p r.next
-            → next p (λ d v. next (read_more peek_in skip_in f (read_declared peek_in skip_in) v) (λ xs. done (d ∷ xs))) ≡ done ds u
-            → (d : Declared) × (ds' : List Declared) × (ds ≡ d ∷ ds') × Declares s r d × (r.next ≤ length s) × Follow s r.next ds'
-        go broken l q = absurd (broken_done q)
-        go (done d v) l q =
-            let (xs, z, x, y) = rest d (read_more peek_in skip_in f (read_declared peek_in skip_in) v) q in
-            (d, xs, sym y, l.2, l.1, (f, z, ap (read_more peek_in skip_in f (read_declared peek_in skip_in)) (sym l.0) ∙ x))
+        go : (p : Parsed (List ℕ) Declared) → next p (on (read_declared peek_in skip_in) f) ≡ done ds u
+            → (d : Declared) × (v : List ℕ) × (p ≡ done d v) × (ds' : List Declared) × (ds ≡ d ∷ ds')
+            × ((f : ℕ) × (u : List ℕ) × (read_more peek_in skip_in f (read_declared peek_in skip_in) v ≡ done ds' u))
+        go broken q = absurd (broken_done q)
+        go (done d v) q =
+            let (xs, z, x, y) = onto d (read_more peek_in skip_in f (read_declared peek_in skip_in) v) q in
+            (d, v, refl, xs, sym y, (f, z, x))
 
-    pub later_broken : length s < r.next → Later s from w false
-    later_broken l ds q = let (d, ds', e, x, m, n) = parts ds q in absurd (omega arith)
+    pub later_broken : NotRead s k (read_declared peek_in skip_in) → Later s from w false
+    later_broken n ds q = let (d, v, e, ds', x, y) = parts ds q _ (n.fails g.within) in absurd (broken_done e)
 
-    pub later_here : same w (part s r.start r.stop) ≡ true → Later s from w true
-    later_here y ds q =
-        let (d, ds', e, x, m, n) = parts ds q in
-        sym (ap (λ xs. any (same w) (names_of xs)) e ∙ ap (λ (c : Bool). c || any (same w) (names_of ds')) (ap (same w) x.name ∙ y))
+    module _ (r : Item) (h : ReadTo (Declares s r) s k (read_declared peek_in skip_in) r.next) where
+      first : (ds : List Declared) → Follow s from ds → (ds' : List Declared) × (ds ≡ h.what ∷ ds') × Follow s r.next ds'
+      first ds q = let (d, v, e, ds', x, y) = parts ds q _ h.reads in
+          (ds', x ∙ ap (λ (d : Declared). d ∷ ds') (sym (ap (read_or d) e)), (y.0, y.1, ap (read_more peek_in skip_in y.0 (read_declared peek_in skip_in)) (ap left e) ∙ y.2))
+        where
+          read_or : Declared → Parsed (List ℕ) Declared → Declared
+          read_or c broken = c
+          read_or c (done d v) = d
 
-    pub later_on : same w (part s r.start r.stop) ≡ false → (v : Bool) → Later s r.next w v → Later s from w v
-    later_on y v z ds q =
-        let (d, ds', e, x, m, n) = parts ds q in
-        z ds' n ∙ sym (ap (λ xs. any (same w) (names_of xs)) e ∙ ap (λ (c : Bool). c || any (same w) (names_of ds')) (ap (same w) x.name ∙ y))
+          left : Parsed (List ℕ) Declared → List ℕ
+          left broken = []
+          left (done d v) = v
+
+      pub later_here : same w (part s r.start r.stop) ≡ true → Later s from w true
+      later_here y ds q =
+          let (ds', e, n) = first ds q in
+          sym (ap (λ xs. any (same w) (names_of xs)) e ∙ ap (λ (c : Bool). c || any (same w) (names_of ds')) (ap (same w) h.holds.name ∙ y))
+
+      pub later_on : same w (part s r.start r.stop) ≡ false → (v : Bool) → Later s r.next w v → Later s from w v
+      later_on y v z ds q =
+          let (ds', e, n) = first ds q in
+          z ds' n ∙ sym (ap (λ xs. any (same w) (names_of xs)) e ∙ ap (λ (c : Bool). c || any (same w) (names_of ds')) (ap (same w) h.holds.name ∙ y))
+
+-- a name that was not found
+pub undeclared : (T w : List ℕ) (o : Option Named) → ((t : List Entry) → Tabled T t → MatchOption o (Unknown t w) (λ n. Knows t w n × Stands T t w n))
+    → is_some o ≡ false → (t : List Entry) → Tabled T t → known w t ≡ false
+undeclared T w None f e t d = (f t d).known
+undeclared T w (Some n) f e t d = cc
 
 -- ---- ranks
 
@@ -238,19 +233,19 @@ fits_least n c z = same_truth _ _
 
 -- ---- one declared name, checked and added
 
-module _ (T s T' : List ℕ) (c most : ℕ) (r : Item) (again : Bool) (names rank more : ℕ)
-    (er : rank ≡ max most (order (not again) (fits names c r.shape.size))) where
+module _ (T s T' : List ℕ) (c most : ℕ) (r : Item) (again : Bool) (names more : ℕ) (rank : Rank)
+    (er : level rank ≡ max most (order (not again) (fits names c r.shape.size))) where
   -- rank 0: the names and the size are in order
-  pub rank_good : rank ≡ 0 → (most ≡ 0) × (again ≡ false) × (fits names c r.shape.size ≡ true)
+  pub rank_good : level rank ≡ 0 → (most ≡ 0) × (again ≡ false) × (fits names c r.shape.size ≡ true)
   rank_good e = go again (fits names c r.shape.size) refl refl
     where
       go : (a b : Bool) → again ≡ a → fits names c r.shape.size ≡ b → (most ≡ 0) × (a ≡ false) × (b ≡ true)
-      go true b ea eb = let q : rank ≡ max most 2 = er ∙ ap (λ (x : Bool). max most (order (not x) (fits names c r.shape.size))) ea in absurd (omega (arith, q, e))
-      go false true ea eb = let q : rank ≡ max most 0 = er ∙ (λ i. max most (order (not (ea i)) (eb i))) in (omega (arith, q, e), refl, refl)
-      go false false ea eb = let q : rank ≡ max most 1 = er ∙ (λ i. max most (order (not (ea i)) (eb i))) in absurd (omega (arith, q, e))
+      go true b ea eb = let q : level rank ≡ max most 2 = er ∙ ap (λ (x : Bool). max most (order (not x) (fits names c r.shape.size))) ea in absurd (omega (arith, q, e))
+      go false true ea eb = let q : level rank ≡ max most 0 = er ∙ (λ i. max most (order (not (ea i)) (eb i))) in (omega (arith, q, e), refl, refl)
+      go false false ea eb = let q : level rank ≡ max most 1 = er ∙ (λ i. max most (order (not (ea i)) (eb i))) in absurd (omega (arith, q, e))
 
   module _ (d : Declared) (p : Declares s r d) (rep : Repeated T s r.next (part s r.start r.stop) again) (en : names ≡ count_in T)
-      (ent : Enters T (part s r.start r.stop) c r.shape rank T' more) where
+      (ent : Enters T (part s r.start r.stop) c r.shape (level rank) T' more) where
     unknown : (t : List Entry) → Tabled T t → again ≡ false → known (declared_name d) t ≡ false
     unknown t tab b = go (known (declared_name d) t) refl
       where
@@ -270,19 +265,19 @@ module _ (T s T' : List ℕ) (c most : ℕ) (r : Item) (again : Bool) (names ran
           let n : names ≡ length t = omega (arith, en, tab.count, tab.few) in
           let (a, b, x) = rank_good z in
           (a, unknown t tab b, sym (fits_least (length t) c (declared_size d)) ∙ sym (λ i. fits (n i) c (p.shape i).size) ∙ x);
-      enters = subst (λ (w : List ℕ). Enters T w c (shape_of d) rank T' more) (sym p.name)
-          (subst (λ (z : Shape). Enters T (part s r.start r.stop) c z rank T' more) p.shape ent);
+      enters = subst (λ (w : List ℕ). Enters T w c (shape_of d) (level rank) T' more) (sym p.name)
+          (subst (λ (z : Shape). Enters T (part s r.start r.stop) c z (level rank) T' more) p.shape ent);
     }
 
-  module _ (w : List ℕ) (ent : Enters T w c r.shape rank T' more) where
+  module _ (w : List ℕ) (ent : Enters T w c r.shape (level rank) T' more) where
     pub few_cells : c ≤ 4096 → more ≤ 4096
-    few_cells b = elim (ℕ_discrete rank 0) [
+    few_cells b = elim (ℕ_discrete (level rank) 0) [
       | yes e ↦ omega (arith, ent.more e, (fits_true names c r.shape.size (rank_good e).2).2)
       | no n ↦ omega (arith, ent.same n)
     ]
 
     pub keeps : Keeps T T'
-    keeps h = elim (ℕ_discrete rank 0) [
+    keeps h = elim (ℕ_discrete (level rank) 0) [
       | yes e ↦ let q = (ent.added e).variable h in (omega (arith, name_length T' 16, name_length T 16, ap length q), q)
       | no n ↦ subst (λ (X : List ℕ). (length_at X variable_entry ≤ name_words) × (variable_of X ≡ variable_of T)) (sym (ent.left n)) (h, refl)
     ]
@@ -394,7 +389,7 @@ module _ (t : List Entry) (T s : List ℕ) (c most : ℕ) (T₁ : List ℕ) (r�
   e = entry_of c d
 
   -- in order
-  module _ (z : r₁.rank ≡ 0) where
+  module _ (z : level r₁.rank ≡ 0) where
     good : (most ≡ 0) × (known (declared_name d) t ≡ false) × (fits (length t) c (declared_size d) ≡ true)
     good = p.fresh z t tab
 
@@ -418,7 +413,7 @@ module _ (t : List Entry) (T s : List ℕ) (c most : ℕ) (T₁ : List ℕ) (r�
       none_follows = go (any (same (declared_name d)) (names_of ds)) refl (p.rank t tab ds q)
         where
           go : (b : Bool) → any (same (declared_name d)) (names_of ds) ≡ b
-              → r₁.rank ≡ max most (order (not (known (declared_name d) t || b)) (fits (length t) c (declared_size d))) → b ≡ false
+              → level r₁.rank ≡ max most (order (not (known (declared_name d) t || b)) (fits (length t) c (declared_size d))) → b ≡ false
           go false e h = refl
           go true e h = absurd (omega (
             arith,
@@ -434,7 +429,7 @@ module _ (t : List Entry) (T s : List ℕ) (c most : ℕ) (T₁ : List ℕ) (r�
           ∙ sym (apart_first t d ds (λ i. good.1 i || none_follows i))
 
       -- and those after it by what it left
-      pub enlists_good : (T₂ : List ℕ) (r₂ : Listed) → Enlists (t ++ (e ∷ [])) T₁ r₁.cells r₁.rank T₂ r₂ ds → Enlists t T c most T₂ r₂ (d ∷ ds)
+      pub enlists_good : (T₂ : List ℕ) (r₂ : Listed) → Enlists (t ++ (e ∷ [])) T₁ r₁.cells (level r₁.rank) T₂ r₂ ds → Enlists t T c most T₂ r₂ (d ∷ ds)
       enlists_good T₂ r₂ h =
           let n = length-append t (e ∷ []) in
           record {
@@ -451,30 +446,30 @@ module _ (t : List Entry) (T s : List ℕ) (c most : ℕ) (T₁ : List ℕ) (r�
           }
 
   -- not in order
-  module _ (n : r₁.rank ≡ 0 → ⊥) (ds : List Declared) (q : Follow s r₁.next ds) where
+  module _ (n : level r₁.rank ≡ 0 → ⊥) (ds : List Declared) (q : Follow s r₁.next ds) where
     abbrev rep : Bool
     rep = known (declared_name d) t || any (same (declared_name d)) (names_of ds)
 
     abbrev fd : Bool
     fd = fits (length t) c (declared_size d)
 
-    rank_bad : (k : ℕ) → max r₁.rank (order (apart t ds) (fit t k ds)) ≡ max most (order (apart t (d ∷ ds)) (fit t c (d ∷ ds)))
+    rank_bad : (k : ℕ) → max (level r₁.rank) (order (apart t ds) (fit t k ds)) ≡ max most (order (apart t (d ∷ ds)) (fit t c (d ∷ ds)))
     rank_bad k = go rep refl fd refl (p.rank t tab ds q)
       where
-        go : (a : Bool) → rep ≡ a → (b : Bool) → fd ≡ b → r₁.rank ≡ max most (order (not a) b)
-            → max r₁.rank (order (apart t ds) (fit t k ds)) ≡ max most (order (apart t (d ∷ ds)) (fit t c (d ∷ ds)))
+        go : (a : Bool) → rep ≡ a → (b : Bool) → fd ≡ b → level r₁.rank ≡ max most (order (not a) b)
+            → max (level r₁.rank) (order (apart t ds) (fit t k ds)) ≡ max most (order (apart t (d ∷ ds)) (fit t c (d ∷ ds)))
         go true ea b eb h = omega (arith, h, order_unnamed (apart t (d ∷ ds)) (fit t c (d ∷ ds)) (apart_not t d ds ea), order_most (apart t ds) (fit t k ds))
         go false ea true eb h =
             let x = ap (λ (y : Bool). order y (fit t c (d ∷ ds))) (apart_first t d ds ea) in
-            omega (arith, h, x, order_either (apart t ds) (fit t k ds) (fit t c (d ∷ ds)) r₁.rank (omega arith))
+            omega (arith, h, x, order_either (apart t ds) (fit t k ds) (fit t c (d ∷ ds)) (level r₁.rank) (omega arith))
         go false ea false eb h =
             let x : order (apart t (d ∷ ds)) (fit t c (d ∷ ds)) ≡ order (apart t ds) false = λ i. order (apart_first t d ds ea i) (fit_not t c d ds eb i) in
-            let w : r₁.rank ≡ max most 1 = h in
+            let w : level r₁.rank ≡ max most 1 = h in
             omega (arith, w, x, order_either (apart t ds) (fit t k ds) false (max most 1) (omega arith), order_some (apart t ds))
 
-    pub enlists_bad : (T₂ : List ℕ) (r₂ : Listed) → Enlists t T₁ r₁.cells r₁.rank T₂ r₂ ds → Enlists t T c most T₂ r₂ (d ∷ ds)
+    pub enlists_bad : (T₂ : List ℕ) (r₂ : Listed) → Enlists t T₁ r₁.cells (level r₁.rank) T₂ r₂ ds → Enlists t T c most T₂ r₂ (d ∷ ds)
     enlists_bad T₂ r₂ h =
-        let some : r₂.rank ≡ 0 → ⊥ = λ y. n (omega (arith, h.rank, y)) in
+        let some : level r₂.rank ≡ 0 → ⊥ = λ y. n (omega (arith, h.rank, y)) in
         record {
           rank = h.rank ∙ rank_bad r₁.cells;
           cells = λ y. absurd (some y);
@@ -483,37 +478,43 @@ module _ (t : List Entry) (T s : List ℕ) (c most : ℕ) (T₁ : List ℕ) (r�
         }
 
 -- no name more
-pub enlists_nil : (t : List Entry) (T : List ℕ) (r : Listed) → Tabled T t → r.cells ≤ 4096 → Enlists t T r.cells r.rank T r []
+pub enlists_nil : (t : List Entry) (T : List ℕ) (r : Listed) → Tabled T t → r.cells ≤ 4096 → Enlists t T r.cells (level r.rank) T r []
 enlists_nil t T r tab b = record {
-  rank = sym (ap (λ (x : Bool). max r.rank (order true x)) (true_fit t r.cells [] (omega (arith, tab.few)) refl (omega arith)) ∙ omega arith);
+  rank = sym (ap (λ (x : Bool). max (level r.rank) (order true x)) (true_fit t r.cells [] (omega (arith, tab.few)) refl (omega arith)) ∙ omega arith);
   cells = λ y. omega arith;
   table = λ y. subst (Tabled T) (sym (append-nil t)) tab;
   unclaimed = λ y u. subst (Unclaimed T) (omega arith) u;
 }
 
 -- a declared name, and then none or a comma and others
-module _ (T s : List ℕ) (from c most : ℕ) (T₁ : List ℕ) (r₁ : Listed)
-    (h : Goes (Entered T s c most T₁ r₁) s from (read_declared peek_in skip_in) r₁.next) (k : ℕ) (g : Goes Any s r₁.next (passes (bytes ",")) k)
+module _ (T s : List ℕ) (b : Listed) (T₁ : List ℕ) (r₁ : Listed)
+    (h : ReadTo (Entered T s b.cells (level b.rank) T₁ r₁) s b.next (read_declared peek_in skip_in) r₁.next)
   where
+    abbrev c : ℕ
+    c = b.cells
+
+    abbrev most : ℕ
+    most = level b.rank
+
     -- the table that it left
     left : (t : List Entry) → Tabled T t → (d : Declared) → Entered T s c most T₁ r₁ d
         → (t₁ : List Entry) × Tabled T₁ t₁
-        × ((ds : List Declared) → Follow s r₁.next ds → (T₂ : List ℕ) (r₂ : Listed) → Enlists t₁ T₁ r₁.cells r₁.rank T₂ r₂ ds
+        × ((ds : List Declared) → Follow s r₁.next ds → (T₂ : List ℕ) (r₂ : Listed) → Enlists t₁ T₁ r₁.cells (level r₁.rank) T₂ r₂ ds
         → Enlists t T c most T₂ r₂ (d ∷ ds))
-    left t tab d p = elim (ℕ_discrete r₁.rank 0) [
+    left t tab d p = elim (ℕ_discrete (level r₁.rank) 0) [
       | yes z ↦ (_, tabled₁ t T s c most T₁ r₁ tab d p z, enlists_good t T s c most T₁ r₁ tab d p z)
       | no n ↦ (t, subst (λ (X : List ℕ). Tabled X t) (sym (p.enters.left n)) tab, enlists_bad t T s c most T₁ r₁ tab d p n)
     ]
 
-    pub integers_last : length s < k → r₁.cells ≤ 4096 → Integers T s from c most T₁ r₁
-    integers_last l b t tab = list_last (read_declared peek_in skip_in) s from r₁.next k (Entered T s c most T₁ r₁) (Enlists t T c most T₁ r₁) h g l
-        (λ d p q. let (t₁, tab₁, on) = left t tab d p in on [] (1, _, q 0) T₁ r₁ (enlists_nil t₁ T₁ r₁ tab₁ b))
+    pub integers_last : NotRead s r₁.next (passes (bytes ",")) → r₁.cells ≤ 4096 → Integers T s b T₁ (Some r₁)
+    integers_last g few t tab f l =
+        let (t₁, tab₁, on) = left t tab h.what h.holds in
+        list_last (read_declared peek_in skip_in) h g (λ q. on [] (1, _, q 0) T₁ r₁ (enlists_nil t₁ T₁ r₁ tab₁ few)) f l
 
-    pub integers_more : k ≤ length s → (T₂ : List ℕ) (r₂ : Listed) → Integers T₁ s k r₁.cells r₁.rank T₂ r₂ → Integers T s from c most T₂ r₂
-    integers_more l T₂ r₂ w t tab =
-        let between = read_there (read_declared peek_in skip_in) s from r₁.next k (Entered T s c most T₁ r₁) Any h g l in
-        let (d, _, e, p) = goes_some h between in
-        let (t₁, tab₁, on) = left t tab d p in
-        list_more (read_declared peek_in skip_in) s from r₁.next k (λ x. d ≡ x) (Enlists t T c most T₂ r₂) (goes_same h between d e) g l
-        (Enlists t₁ T₁ r₁.cells r₁.rank T₂ r₂) r₂.next (w t₁ tab₁)
-        (λ a i ds u q y. subst (λ (x : Declared). Enlists t T c most T₂ r₂ (x ∷ ds)) i (on ds (suc q.0, u, q.1) T₂ r₂ y))
+    pub integers_more : {k : ℕ} → ReadTo Any s r₁.next (passes (bytes ",")) k → (T₂ : List ℕ) (o : Option Listed)
+        → Integers T₁ s (record { next = k; cells = r₁.cells; rank = r₁.rank }) T₂ o → Integers T s b T₂ o
+    integers_more g T₂ o w t tab f l =
+        let (t₁, tab₁, on) = left t tab h.what h.holds in
+        list_more (read_declared peek_in skip_in) h g (λ r. r.next)
+        (λ r. Enlists t₁ T₁ r₁.cells (level r₁.rank) T₂ r) (λ r. Enlists t T c most T₂ r) o (w t₁ tab₁)
+        (λ r₂ _ ds u q y. on ds (q.0, u, q.1) T₂ r₂ y) f l

@@ -1,12 +1,13 @@
 -- RULES 1.5: what the functions on declared names yield.
-use Rattle.std.specs.Prelude.{◌≡◌, Bool, true, false, not, ◌&&◌, ◌||◌, List, ◌++◌, map, ℕ, ◌+◌, ◌-◌, ◌≤◌, ◌<◌, max, min, leb, length, get_or, drop}
+use Rattle.std.specs.Prelude.{◌≡◌, Bool, true, false, not, ◌&&◌, ◌||◌, List, ◌++◌, map, ℕ, ◌+◌, ◌-◌, ◌≤◌, ◌<◌, max, min, leb, length, get_or, drop, Option}
 use Rattle.syntax.specs.Bytes.{all, any, same, between}
 use Rattle.syntax.specs.Grammar.{Declared}
 use Rattle.syntax.specs.Known.{Entry, known, declared_name, declared_extents, declared_size, total, entries}
 use Rattle.syntax.specs.Conditions.{different}
+use Rattle.syntax.specs.Ranks.{level}
 use Rattle.syntax.specs.Reader.{done, read_more, read_declared, peek_in, skip_in}
 use Rattle.lexer.specs.Lex.{part}
-use Rattle.lexer.specs.Places.{Goes}
+use Rattle.lexer.specs.Places.{Finds}
 use Rattle.names.specs.declared.Shape.{Shape}
 use Rattle.names.specs.Table.{Tabled, Unclaimed, Added}
 use Rattle.heading.specs.Lists.{read_some, order}
@@ -57,9 +58,9 @@ fits n c z = between 1 4096 z && (leb (c + z) 4096 && leb (n + 1) 16)
 -- one declared name, after c cells: its rank by the names before it and those that follow
 pub record Entered (T s : List ℕ) (c most : ℕ) (T' : List ℕ) (r : Listed) (d : Declared) : Type 0 where
   pub rank : (t : List Entry) → Tabled T t → (ds : List Declared) → Follow s r.next ds
-      → r.rank ≡ max most (order (not (known (declared_name d) t || any (same (declared_name d)) (names_of ds))) (fits (length t) c (declared_size d)))
-  pub fresh : r.rank ≡ 0 → (t : List Entry) → Tabled T t → (most ≡ 0) × (known (declared_name d) t ≡ false) × (fits (length t) c (declared_size d) ≡ true)
-  pub enters : Enters T (declared_name d) c (shape_of d) r.rank T' r.cells
+      → level r.rank ≡ max most (order (not (known (declared_name d) t || any (same (declared_name d)) (names_of ds))) (fits (length t) c (declared_size d)))
+  pub fresh : level r.rank ≡ 0 → (t : List Entry) → Tabled T t → (most ≡ 0) × (known (declared_name d) t ≡ false) × (fits (length t) c (declared_size d) ≡ true)
+  pub enters : Enters T (declared_name d) c (shape_of d) (level r.rank) T' r.cells
 
 -- no name twice, and none that is declared
 abbrev pub apart : List Entry → List Declared → Bool
@@ -71,12 +72,13 @@ fit t c ds = leb (length t + length ds) 16 && (all (λ d. between 1 4096 (declar
 
 -- what declared names come to
 pub record Enlists (t : List Entry) (T : List ℕ) (c most : ℕ) (T' : List ℕ) (r : Listed) (ds : List Declared) : Type 0 where
-  pub rank : r.rank ≡ max most (order (apart t ds) (fit t c ds))
-  pub cells : r.rank ≡ 0 → r.cells ≡ c + total declared_size ds
-  pub table : r.rank ≡ 0 → Tabled T' (t ++ entries c ds)
-  pub unclaimed : r.rank ≡ 0 → Unclaimed T (length t) → Unclaimed T' (length t + length ds)
+  pub rank : level r.rank ≡ max most (order (apart t ds) (fit t c ds))
+  pub cells : level r.rank ≡ 0 → r.cells ≡ c + total declared_size ds
+  pub table : level r.rank ≡ 0 → Tabled T' (t ++ entries c ds)
+  pub unclaimed : level r.rank ≡ 0 → Unclaimed T (length t) → Unclaimed T' (length t + length ds)
 
-abbrev pub Integers : List ℕ → List ℕ → ℕ → ℕ → ℕ → List ℕ → Listed → Type 0
-Integers T s at c most T' r =
-    (t : List Entry) → Tabled T t → (f : ℕ) → length s - at < f
-    → Goes (Enlists t T c most T' r) s at (read_some f (read_declared peek_in skip_in)) r.next
+-- after others that came to b
+abbrev pub Integers : List ℕ → List ℕ → Listed → List ℕ → Option Listed → Type 0
+Integers T s b T' o =
+    (t : List Entry) → Tabled T t → (f : ℕ) → length s - b.next < f
+    → Finds (λ r. r.next) (λ r. Enlists t T b.cells (level b.rank) T' r) s b.next (read_some f (read_declared peek_in skip_in)) o

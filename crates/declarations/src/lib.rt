@@ -1,19 +1,21 @@
 // `integer` lines (RULES 1.5), after their first word.
 #![tactic(auto)]
 
-ghost use Rattle.std.specs.Prelude.{◌≡◌, true, not, ◌≤◌, ◌<◌, ◌+◌, ◌*◌, max, min, length};
+ghost use Rattle.std.specs.Prelude.{◌≡◌, not, ◌≤◌, ◌*◌, max, min, length, IfSome};
 ghost use Rattle.syntax.specs.Reader.{peek_in, skip_in, read_declared};
-ghost use Rattle.lexer.specs.Places.{Goes};
+ghost use Rattle.syntax.specs.Ranks.{level};
+ghost use Rattle.lexer.specs.Places.{Finds};
 ghost use Rattle.names.specs.Table.{name_words, most_names};
 ghost use Rattle.heading.specs.Lists.{order, Keeps};
 ghost use Rattle.declarations.specs.Integer.{Declares, Later, Repeated, Enters, fits, Entered, Integers};
 
 use heading::ranked;
-use lexer::{digits, equal, name, pass};
+use lexer::{digits, name, pass};
 use names::{MOST, Shape, Table, add, count, find};
+use syntax::Rank;
 
-// A declared name: where it lies, and its shape, with up to 4,097 cells and extents up to 2^31.
-#[derive(Clone, Copy)]
+// A declared name: the place after it, where it lies, and its shape, with up to 4,097 cells and extents up to 2^31.
+#[derive(Clone, Copy, Debug, PartialEq, Eq)]
 pub struct Item {
     pub next: usize,
     pub start: usize,
@@ -25,179 +27,132 @@ pub struct Item {
 fn product(m: u32, n: u32) -> u32
     ensures { result ≡ min (m * n) 4097 }
 {
-    if m == 0 {
-        return 0;
-    }
-    if n == 0 {
-        return 0;
-    }
-    if 4096 < m {
-        return 4097;
-    }
-    if 4096 < n {
-        return 4097;
-    }
-    let p = m * n;
-    if 4096 < p {
-        return 4097;
-    }
-    p
+    m.saturating_mul(n).min(4097)
 }
 
-fn declared(s: &[u8], at: usize) -> Item
-    requires { length s.now ≤ 2048 }
-    ensures { Goes (Declares s.now result) s.now at (read_declared peek_in skip_in) result.next }
+fn declared(s: &[u8], at: usize) -> Option<Item>
+    ensures { Finds (λ r. r.next) (Declares s.now) s.now at (read_declared peek_in skip_in) result }
 {
-    let x = name(s, at);
-    let start = x.start;
-    let stop = x.next;
-    let open = pass(s, stop, b"(");
-    if s.len() < open {
-        return Item {
-            next: stop,
-            start,
-            stop,
+    let x = name(s, at)?;
+    let Some(open) = pass(s, x.next, b"(") else {
+        return Some(Item {
+            next: x.next,
+            start: x.start,
+            stop: x.next,
             shape: Shape {
                 size: 1,
                 rows: 0,
                 columns: 0,
             },
-        };
-    }
-    let d = digits(s, open);
-    let rows = d.number;
-    let comma = pass(s, d.next, b",");
-    if s.len() < comma {
-        return Item {
-            next: pass(s, d.next, b")"),
-            start,
-            stop,
+        });
+    };
+    let rows = digits(s, open)?;
+    let Some(comma) = pass(s, rows.next, b",") else {
+        return Some(Item {
+            next: pass(s, rows.next, b")")?,
+            start: x.start,
+            stop: x.next,
             shape: Shape {
-                size: product(rows, 1),
-                rows,
+                size: product(rows.number, 1),
+                rows: rows.number,
                 columns: 0,
             },
-        };
-    }
-    let e = digits(s, comma);
-    let columns = e.number;
-    Item {
-        next: pass(s, e.next, b")"),
-        start,
-        stop,
+        });
+    };
+    let columns = digits(s, comma)?;
+    Some(Item {
+        next: pass(s, columns.next, b")")?,
+        start: x.start,
+        stop: x.next,
         shape: Shape {
-            size: product(rows, columns),
-            rows,
-            columns,
+            size: product(rows.number, columns.number),
+            rows: rows.number,
+            columns: columns.number,
         },
-    }
+    })
 }
 
 // Whether the name w is declared in what is left of the list after a place.
 fn later(s: &[u8], at: usize, w: &[u8]) -> bool
-    requires { (length s.now ≤ 2048) × (at ≤ length s.now) }
+    requires { at ≤ length s.now }
     ensures { Later s.now at w.now result }
 {
-    let comma = pass(s, at, b",");
-    if s.len() < comma {
+    let Some(comma) = pass(s, at, b",") else {
         return false;
+    };
+    match declared(s, comma) {
+        Some(d) => w == &s[d.start..d.stop] || later(s, d.next, w),
+        None => false,
     }
-    let d = declared(s, comma);
-    let next = d.next;
-    if s.len() < next {
-        return false;
-    }
-    let a = d.start;
-    let e = d.stop;
-    if equal(w, &s[a..e]) {
-        return true;
-    }
-    later(s, next, w)
 }
 
 // Whether a name was declared before, or is declared again in what is left of the list after a place.
 fn repeated(s: &[u8], at: usize, w: &[u8], table: &Table) -> bool
-    requires { (length s.now ≤ 2048) × (at ≤ length s.now) × (length w.now ≤ name_words) }
+    requires { (at ≤ length s.now) × (length w.now ≤ name_words) }
     ensures { Repeated table.now s.now at w.now result }
 {
-    let n = find(table, w);
-    if n.known {
-        return true;
-    }
-    later(s, at, w)
+    find(table, w).is_some() || later(s, at, w)
 }
 
 // The rank so far, with that of one declared name after as many cells and names.
-fn declared_rank(rank: u32, repeated: bool, cells: u32, size: u32, names: usize) -> u32
+fn declared_rank(rank: Rank, repeated: bool, cells: u32, size: u32, names: usize) -> Rank
     requires { (cells ≤ 4097) × (size ≤ 4097) × (names ≤ most_names) }
-    ensures { result ≡ max rank (order (not repeated) (fits names cells size)) }
+    ensures { level result ≡ max (level rank) (order (not repeated) (fits names cells size)) }
 {
-    if MOST <= names {
-        return ranked(rank, !repeated, false);
-    }
-    if size < 1 {
-        return ranked(rank, !repeated, false);
-    }
-    if 4096 < cells + size {
-        return ranked(rank, !repeated, false);
-    }
-    ranked(rank, !repeated, size <= 4096)
+    let fits = 1 <= size && size <= 4096 && cells + size <= 4096 && names < MOST;
+    ranked(rank, !repeated, fits)
 }
 
 // A declared name in order is added to the table: the number of cells after it.
-fn enter(table: &mut Table, w: &[u8], cells: u32, shape: Shape, rank: u32) -> u32
+fn enter(table: &mut Table, w: &[u8], cells: u32, shape: Shape, rank: Rank) -> u32
     requires { (length w.now ≤ name_words) × (cells ≤ 4097) × (shape.size ≤ 4097) }
-    ensures { Enters table.old w.now cells shape rank table.new result }
+    ensures { Enters table.old w.now cells shape (level rank) table.new result }
 {
-    if rank != 0 {
+    if rank != Rank::InOrder {
         return cells;
     }
     add(table, w, cells, shape);
     cells + shape.size
 }
 
-// What an integer line comes to: with the number of cells so far.
-#[derive(Clone, Copy)]
+// What declared names come to: the place after them, how many cells there are by then, and the highest rank.
+#[derive(Clone, Copy, Debug, PartialEq, Eq)]
 pub struct Listed {
     pub next: usize,
     pub cells: u32,
-    pub rank: u32,
+    pub rank: Rank,
 }
 
-// A declared name after as many cells: in order, it is added to the table.
-fn integer(s: &[u8], at: usize, table: &mut Table, cells: u32, rank: u32) -> Listed
-    requires { (length s.now ≤ 2048) × (cells ≤ 4096) }
-    ensures goes { Goes (Entered table.old s.now cells rank table.new result) s.now at (read_declared peek_in skip_in) result.next }
-    ensures keeps { Keeps table.old table.new × (result.cells ≤ 4096) }
+// A declared name after others: in order, it is added to the table.
+fn integer(s: &[u8], table: &mut Table, before: Listed) -> Option<Listed>
+    requires { before.cells ≤ 4096 }
+    ensures finds { Finds (λ r. r.next) (λ r. Entered table.old s.now before.cells (level before.rank) table.new r) s.now before.next
+        (read_declared peek_in skip_in) result }
+    ensures keeps { Keeps table.old table.new }
+    ensures few_cells { IfSome result (λ r. r.cells ≤ 4096) }
 {
-    let d = declared(s, at);
-    let next = d.next;
-    if s.len() < next {
-        return Listed { next, cells, rank };
-    }
-    let a = d.start;
-    let e = d.stop;
-    let shape = d.shape;
-    let again = repeated(s, next, &s[a..e], table);
-    let worst = declared_rank(rank, again, cells, shape.size, count(table));
-    let more = enter(table, &s[a..e], cells, shape, worst);
-    Listed {
-        next,
-        cells: more,
-        rank: worst,
-    }
+    let d = declared(s, before.next)?;
+    let w = &s[d.start..d.stop];
+    let again = repeated(s, d.next, w, table);
+    let rank = declared_rank(before.rank, again, before.cells, d.shape.size, count(table));
+    let cells = enter(table, w, before.cells, d.shape, rank);
+    Some(Listed {
+        next: d.next,
+        cells,
+        rank,
+    })
 }
 
-// Declared names.
-pub fn integers(s: &[u8], at: usize, table: &mut Table, cells: u32, rank: u32) -> Listed
-    requires { (length s.now ≤ 2048) × (cells ≤ 4096) }
-    ensures integers { Integers table.old s.now at cells rank table.new result }
-    ensures keeps { Keeps table.old table.new × (result.cells ≤ 4096) }
+// Declared names after others.
+pub fn integers(s: &[u8], table: &mut Table, before: Listed) -> Option<Listed>
+    requires { before.cells ≤ 4096 }
+    ensures integers { Integers table.old s.now before table.new result }
+    ensures keeps { Keeps table.old table.new }
+    ensures few_cells { IfSome result (λ r. r.cells ≤ 4096) }
 {
-    let d = integer(s, at, table, cells, rank);
-    let comma = pass(s, d.next, b",");
-    if s.len() < comma {
-        return d;
+    let d = integer(s, table, before)?;
+    match pass(s, d.next, b",") {
+        Some(next) => integers(s, table, Listed { next, ..d }),
+        None => Some(d),
     }
-    integers(s, comma, table, d.cells, d.rank)
 }

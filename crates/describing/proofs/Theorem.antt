@@ -7,13 +7,13 @@ use Rattle.syntax.specs.Bytes.{lower}
 use Rattle.syntax.specs.Text.{read}
 use Rattle.syntax.proofs.Sane.{accepted_sane}
 use Rattle.syntax.proofs.Table.{find_ends, find_apart}
-use Rattle.answers.specs.declared.Checked.TheVariants.{Sizes}
+use Rattle.std.specs.Prelude.{Ok}
 use Rattle.answers.specs.Answers.{check_of}
 use Rattle.describing.specs.Told.{Has}
 use Rattle.describing.proofs.Telling.{tells, accepted, counted}
 
 -- the cells of a name are of the N that Check tells
-pub name_within : (text x : List ℕ) (f n N P : ℕ) → Has text x f n → check_of (read text) ≡ Sizes N P → f + n ≤ N
+pub name_within : (text x : List ℕ) (f n N P : ℕ) → Has text x f n → check_of (read text) ≡ Ok (record { cells = N; processors = P }) → f + n ≤ N
 name_within text x f n N P h c = accepted text x f n h (λ s e.
     let d = tells text x f n h s e in
     omega (arith, find_ends (map lower x) s.table (accepted_sane text s e).table, d.first, d.size, counted text N P c s e))

@@ -7,6 +7,8 @@ use native.Mathlib.Omega.{arith}
 use borrow.Author.Tests.{eqb-true, eq-eqb, ne_eqb}
 use lib.Dec.{eqb}
 use lib.ListN.{drop}
+use denote.Enum.Bare.{sameb}
+use Rattle.std.specs.Prelude.{Option, Some, None}
 use Rattle.syntax.specs.declared.Function.TheVariants.{Rdiv, Max}
 use Rattle.syntax.specs.Bytes.{choose, bytes, same, sign}
 use Rattle.syntax.specs.Grammar.{Lead, bare, plus, minus, expr, Factor, literal, cell, brackets, Ref, single, element, Subscripts}
@@ -16,9 +18,10 @@ use Rattle.expressions.specs.Readers.{read_arguments, read_indices}
 use Rattle.parts.specs.Parts.{skipped, Passes, stands, either, joined, chosen, lead_by, Joins, begins}
 use Rattle.parts.specs.declared.Joint.{Joint}
 use Rattle.parts.specs.declared.Joint.TheVariants.{Neither, First, Second}
+use Rattle.parts.specs.contracts.Joint.{the_type}
 use Rattle.parts.specs.declared.Joined.{Joined}
 use Rattle.parts.specs.declared.Beginning.{Beginning}
-use Rattle.parts.specs.declared.Beginning.TheVariants.{Nothing, Literal, Bracket, Call, Name, Element}
+use Rattle.parts.specs.declared.Beginning.TheVariants.{Literal, Bracket, Call, Name, Element}
 
 -- ---- a lead, and terms
 
@@ -42,6 +45,17 @@ expr_shape s at r j f =
     (lead_shape s at r j)
 
 -- ---- a sign between two
+
+-- the code's test of it
+pub is_neither : (j : Joint) → sameb the_type j Neither ≡ true → j ≡ Neither
+is_neither Neither e = refl
+is_neither First e = absurd (let z : ◌≡◌ {A = ℕ} 0 1 = cc in omega arith)
+is_neither Second e = absurd (let z : ◌≡◌ {A = ℕ} 0 1 = cc in omega arith)
+
+pub is_sign : (j : Joint) → sameb the_type j Neither ≡ false → joined j ≡ 1
+is_sign Neither e = absurd (let z : ◌≡◌ {A = ℕ} 0 1 = cc in omega arith)
+is_sign First e = refl
+is_sign Second e = refl
 
 module _ (a b : ℕ) (s : List ℕ) (at : ℕ) (r : Joined) (j : Joins a b s at r) where
   pub no_sign : r.joint ≡ Neither → stands a (drop at s) || stands b (drop at s) ≡ false
@@ -95,33 +109,35 @@ module _ (a b : ℕ) (s : List ℕ) (at : ℕ) (r : Joined) (j : Joins a b s at 
 -- ---- how a factor begins
 
 -- by the tests of the definition
-abbrev begins_as : Bool → Bool → Bool → Bool → Bool → Bool → Beginning
+abbrev begins_as : Bool → Bool → Bool → Bool → Bool → Bool → Option Beginning
 begins_as n o r m p k =
-    cond n Literal (cond o Bracket (cond r (cond p (Call Rdiv) Nothing) (cond m (cond p (Call Max) Nothing) (cond k (cond p Element Name) Nothing))))
+    cond n (Some Literal)
+    (cond o (Some Bracket)
+    (cond r (cond p (Some (Call Rdiv)) None) (cond m (cond p (Some (Call Max)) None) (cond k (cond p (Some Element) (Some Name)) None))))
 
 -- a name begins with nothing else
-name_begins : (u : List ℕ) → kind (peek_in u) ≡ 1 → begins u ≡ cond (stands 40 (skip_in u)) Element Name
+name_begins : (u : List ℕ) → kind (peek_in u) ≡ 1 → begins u ≡ cond (stands 40 (skip_in u)) (Some Element) (Some Name)
 name_begins u e =
     ap (λ (k : ℕ). begins_as (eqb k 3) (eqb 4 k && same (40 ∷ []) (text (peek_in u))) (eqb 2 k && same (bytes "rdiv") (text (peek_in u)))
     (eqb 2 k && same (bytes "max") (text (peek_in u))) (stands 40 (skip_in u)) (eqb k 1))
     e
 
 -- and whatever begins like a name is one
-abbrev pub named : Beginning → Bool
-named Nothing = false
-named Literal = false
-named Bracket = false
-named (Call f) = false
-named Name = true
-named Element = true
+abbrev pub named : Option Beginning → Bool
+named None = false
+named (Some Literal) = false
+named (Some Bracket) = false
+named (Some (Call f)) = false
+named (Some Name) = true
+named (Some Element) = true
 
-abbrev counted : Beginning → Bool
-counted Nothing = false
-counted Literal = true
-counted Bracket = false
-counted (Call f) = false
-counted Name = false
-counted Element = false
+abbrev counted : Option Beginning → Bool
+counted None = false
+counted (Some Literal) = true
+counted (Some Bracket) = false
+counted (Some (Call f)) = false
+counted (Some Name) = false
+counted (Some Element) = false
 
 clash : {X : Type 0} → false ≡ true → X
 clash h = absurd (let z : ◌≡◌ {A = ℕ} 0 1 = cc in omega arith)
@@ -141,7 +157,7 @@ begins_kind u h = eqb-true (kind (peek_in u)) 1
     go false false false false p true h = refl
     go false false false false p false h = clash h
 
-pub begins_digits : (u : List ℕ) → begins u ≡ Literal → kind (peek_in u) ≡ 3
+pub begins_digits : (u : List ℕ) → begins u ≡ Some Literal → kind (peek_in u) ≡ 3
 begins_digits u h = eqb-true (kind (peek_in u)) 3
     (go (is_digits peek_in skip_in u) (stands 40 u) (says peek_in skip_in "rdiv" u) (says peek_in skip_in "max" u) (stands 40 (skip_in u))
     (eqb (kind (peek_in u)) 1) (ap counted h))
@@ -179,22 +195,22 @@ module _ (u : List ℕ) where
   ref_begun : (f : ℕ) → named (begins u) ≡ true → read_ref peek_in skip_in (suc f) u ≡ subscript f (stands 40 (skip_in u))
   ref_begun f h = ref_named f true (eq-eqb _ 1 (begins_kind u h))
 
-  begun_by : (b : Beginning) → named b ≡ true → begins u ≡ b → cond (stands 40 (skip_in u)) Element Name ≡ b
+  begun_by : (b : Option Beginning) → named b ≡ true → begins u ≡ b → cond (stands 40 (skip_in u)) (Some Element) (Some Name) ≡ b
   begun_by b h e = sym (name_begins u (begins_kind u (ap named e ∙ h))) ∙ e
 
-  pub ref_name : (f : ℕ) → begins u ≡ Name → read_ref peek_in skip_in (suc f) u ≡ done (single (text (peek_in u))) (skip_in u)
-  ref_name f e = ref_begun f (ap named e) ∙ ap (subscript f) (go (stands 40 (skip_in u)) (begun_by Name refl e))
+  pub ref_name : (f : ℕ) → begins u ≡ Some Name → read_ref peek_in skip_in (suc f) u ≡ done (single (text (peek_in u))) (skip_in u)
+  ref_name f e = ref_begun f (ap named e) ∙ ap (subscript f) (go (stands 40 (skip_in u)) (begun_by (Some Name) refl e))
     where
-      go : (p : Bool) → cond p Element Name ≡ Name → p ≡ false
+      go : (p : Bool) → cond p (Some Element) (Some Name) ≡ Some Name → p ≡ false
       go true h = absurd (let z : ◌≡◌ {A = ℕ} 0 1 = cc in omega arith)
       go false h = refl
 
-  pub ref_element : (f : ℕ) → begins u ≡ Element
+  pub ref_element : (f : ℕ) → begins u ≡ Some Element
       → read_ref peek_in skip_in (suc f) u
       ≡ next (read_indices f (skip_in (skip_in u))) (λ i v. done (element (text (peek_in u)) i) v)
-  ref_element f e = ref_begun f (ap named e) ∙ ap (subscript f) (go (stands 40 (skip_in u)) (begun_by Element refl e))
+  ref_element f e = ref_begun f (ap named e) ∙ ap (subscript f) (go (stands 40 (skip_in u)) (begun_by (Some Element) refl e))
     where
-      go : (p : Bool) → cond p Element Name ≡ Element → p ≡ true
+      go : (p : Bool) → cond p (Some Element) (Some Name) ≡ Some Element → p ≡ true
       go true h = refl
       go false h = absurd (let z : ◌≡◌ {A = ℕ} 0 1 = cc in omega arith)
 
@@ -206,18 +222,18 @@ module _ (u : List ℕ) where
   pub ref_none : (f : ℕ) → named (begins u) ≡ false → read_ref peek_in skip_in f u ≡ broken
   ref_none f n = no_name f (ne_eqb _ 1 (λ e. go (stands 40 (skip_in u)) (sym n ∙ ap named (name_begins u e))))
     where
-      go : (p : Bool) → false ≡ named (cond p Element Name) → ⊥
+      go : (p : Bool) → false ≡ named (cond p (Some Element) (Some Name)) → ⊥
       go true h = clash h
       go false h = clash h
 
 -- a factor, where there is fuel for what it begins with
-abbrev pub shape : Beginning → ℕ → List ℕ → Parsed (List ℕ) Factor
-shape Nothing f u = broken
-shape Literal f u = done (literal (text (peek_in u))) (skip_in u)
-shape Bracket f u = next (read_expr peek_in skip_in f (skip_in u)) (λ e v. next (expects peek_in skip_in ")" v) (λ _ w. done (brackets e) w))
-shape (Call g) f u = read_arguments g f (skip_in (skip_in u))
-shape Name f u = next (read_ref peek_in skip_in f u) (λ r v. done (cell r) v)
-shape Element f u = next (read_ref peek_in skip_in f u) (λ r v. done (cell r) v)
+abbrev pub shape : Option Beginning → ℕ → List ℕ → Parsed (List ℕ) Factor
+shape None f u = broken
+shape (Some Literal) f u = done (literal (text (peek_in u))) (skip_in u)
+shape (Some Bracket) f u = next (read_expr peek_in skip_in f (skip_in u)) (λ e v. next (expects peek_in skip_in ")" v) (λ _ w. done (brackets e) w))
+shape (Some (Call g)) f u = read_arguments g f (skip_in (skip_in u))
+shape (Some Name) f u = next (read_ref peek_in skip_in f u) (λ r v. done (cell r) v)
+shape (Some Element) f u = next (read_ref peek_in skip_in f u) (λ r v. done (cell r) v)
 
 pub factor_shape : (f : ℕ) (u : List ℕ) → read_factor peek_in skip_in (suc f) u ≡ shape (begins u) f u
 unfolding read_expr
@@ -243,8 +259,8 @@ factor_shape f u =
     go false false false false p false h = ap (λ (P : Parsed (List ℕ) Ref). next P (λ r v. done (cell r) v)) (h refl)
 
 -- an element, as a factor
-pub element_shape : (f : ℕ) (u : List ℕ) → begins u ≡ Element
-    → shape Element (suc f) u ≡ next (read_indices f (skip_in (skip_in u))) (λ i v. done (cell (element (text (peek_in u)) i)) v)
+pub element_shape : (f : ℕ) (u : List ℕ) → begins u ≡ Some Element
+    → shape (Some Element) (suc f) u ≡ next (read_indices f (skip_in (skip_in u))) (λ i v. done (cell (element (text (peek_in u)) i)) v)
 element_shape f u e = ap (λ (P : Parsed (List ℕ) Ref). next P (λ r v. done (cell r) v)) (ref_element u f e) ∙ go (read_indices f (skip_in (skip_in u)))
   where
     go : (P : Parsed (List ℕ) Subscripts) → next (next P (λ i v. done (element (text (peek_in u)) i) v)) (λ r v. done (cell r) v)

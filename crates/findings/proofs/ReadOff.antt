@@ -14,15 +14,16 @@ use Rattle.int32.specs.Integers.{value}
 use Rattle.rules.specs.ChooseLaws.{pick_same, pick_other}
 use Rattle.rules.specs.declared.Operator.{Operator}
 use Rattle.rules.specs.Operation.{Operation, operation}
-use Rattle.rules.specs.Loop.{Class, shared, lastprivate, copied, reduction, Loop, Partition}
+use Rattle.rules.specs.declared.Class.{Class}
+use Rattle.rules.specs.declared.Class.TheVariants.{Shared as shared, Lastprivate as lastprivate, Copied as copied, Reduction as reduction}
+use Rattle.rules.specs.Loop.{Loop, Partition}
 use Rattle.rules.specs.Merge.{join_all}
-use Rattle.rules.specs.Numbers.{class_number, operator_by}
-use Rattle.rules.proofs.NumberLaws.{reduction_number}
+use Rattle.rules.specs.Numbers.{class_by}
 use Rattle.rules.proofs.SumLaws.{join_same}
 use Rattle.shadow.specs.Tables.{Row, shown, StaleRow, Blocked, chosen}
 use Rattle.shadow.proofs.Shows.{merged_off}
-use Rattle.tables.specs.Layout.{bit, flags_word, class_word, RowHeld}
-use Rattle.tables.proofs.Flags.{flags_crossed, flags_updated, flags_class, flags_operator}
+use Rattle.tables.specs.Layout.{bit, flags_word, class_held, RowHeld}
+use Rattle.tables.proofs.Flags.{flags_crossed, flags_updated, flags_class}
 use Rattle.findings.specs.Findings.{marks_of, contested, stale, late, mixed, blocked, blocked_of, last_word, gathered, merged}
 
 -- ---- marks
@@ -38,8 +39,8 @@ module _ (p : ℕ) (k : Class) (e : ℤ) (W : List ℕ) (row : ℕ) (r : Row) (x
   updated_bit : flags_word W row / 2 % 2 ≡ bit r.updated
   updated_bit = ap (λ (f : ℕ). f / 2 % 2) x.flags ∙ flags_updated k r.crossed r.updated
 
-  class_bits : class_word W row ≡ class_number k
-  class_bits = ap (λ (f : ℕ). f / 4) x.flags ∙ flags_class k r.crossed r.updated
+  class_bits : class_held W row ≡ k
+  class_bits = ap (λ (f : ℕ). class_by (f / 4)) x.flags ∙ flags_class k r.crossed r.updated
 
   -- the marks
   pub marks_held : marks_of W row ≡ shown r
@@ -80,19 +81,13 @@ module _ (m w : ℕ) where
   mixed_is : (f : ℕ) (b : Bool) → f / 2 % 2 ≡ bit b → ((0 < m) × (b ≡ true)) ↔ (mixed m f ≡ true)
   mixed_is f b e = rw e (both (ltb 0 m) (eqb (bit b) 1) (above 0 m) (marked b))
 
--- the number of a class with updates is none of the others
-reduces : (o : Operator) (n : ℕ) → n ≡ class_number (reduction o) → (eqb n 0 ≡ false) × (eqb n 1 ≡ false) × (eqb n 3 ≡ false)
-reduces o n e =
-    let r = reduction_number o in
-    (ne_eqb n 0 (omega (arith, r.0, e)), ne_eqb n 1 (omega (arith, r.0, e)), ne_eqb n 3 (λ q. r.1 (sym e ∙ q)))
-
 late_is : (lo hi : ℕ) → ((0 < lo) × (lo < hi)) ↔ (late lo hi ≡ true)
 late_is lo hi = both (ltb 0 lo) (ltb lo hi) (above 0 lo) (above lo hi)
 
 module _ (p : ℕ) (k : Class) (e : ℤ) (W : List ℕ) (row : ℕ) (r : Row) (x : RowHeld p k e W row r) where
   -- the obstacles
   pub blocked_held : Blocked k r ↔ (blocked_of W row ≡ true)
-  blocked_held = rw (x.met, x.writers, x.lowest, x.highest) (by_class k (class_bits p k e W row r x))
+  blocked_held = rw (class_bits p k e W row r x, x.met, x.writers, x.lowest, x.highest) (by_class k)
     where
       s : StaleRow r ↔ (stale r.met r.writers (flags_word W row) ≡ true)
       s = stale_is r.met r.writers (flags_word W row) r.crossed (crossed_bit p k e W row r x)
@@ -102,12 +97,11 @@ module _ (p : ℕ) (k : Class) (e : ℤ) (W : List ℕ) (row : ℕ) (r : Row) (x
       reduced = either (stale r.met r.writers (flags_word W row)) (mixed r.met (flags_word W row)) s
           (mixed_is r.met r.writers (flags_word W row) r.updated (updated_bit p k e W row r x))
 
-      by_class : (k : Class) → class_word W row ≡ class_number k
-          → Blocked k r ↔ (blocked r.met r.writers (flags_word W row) r.lowest r.highest ≡ true)
-      by_class shared c = rw c (contested_is r.met r.writers)
-      by_class lastprivate c = rw c s
-      by_class copied c = rw c (late_is r.lowest r.highest)
-      by_class (reduction o) c = let a = reduces o (class_word W row) c in rw (a.0, a.2, a.1) reduced
+      by_class : (k : Class) → Blocked k r ↔ (blocked k r.met r.writers (flags_word W row) r.lowest r.highest ≡ true)
+      by_class shared = contested_is r.met r.writers
+      by_class lastprivate = s
+      by_class copied = late_is r.lowest r.highest
+      by_class (reduction o) = reduced
 
   -- ---- private values
 
@@ -149,10 +143,7 @@ module _ (l : Loop) (δ : Partition) (c : ℕ) (W : List ℕ) (row : ℕ) (r : R
       (last_held δ.processors copied (l.entry c) W row r x δ.processors (omega arith))
   merged_held (reduction o) x =
       let p = δ.processors in
-      let a = reduces o (class_word W row) (class_bits p (reduction o) (l.entry c) W row r x) in
       let u = ap (λ (b : ℕ). eqb b 1) (updated_bit p (reduction o) (l.entry c) W row r x) ∙ bit_is r.updated in
       let v = last_held p (reduction o) (l.entry c) W row r x p (omega arith) in
-      let j = ap (λ (f : ℕ). operator_by (f / 4)) x.flags ∙ flags_operator (reduction o) r.crossed r.updated in
-      rw (a.0, a.1, a.2, u, v)
-      (ap (λ (q : Operator). cond r.updated ((operation q).join last (gathered (operation q) W row p)) last) j
-      ∙ ap (λ (y : ℤ). cond r.updated ((operation o).join last y) last) (gathered_held p (reduction o) (l.entry c) W row r x (operation o)))
+      rw (class_bits p (reduction o) (l.entry c) W row r x, u, v)
+      (ap (λ (y : ℤ). cond r.updated ((operation o).join last y) last) (gathered_held p (reduction o) (l.entry c) W row r x (operation o)))

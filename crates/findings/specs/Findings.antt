@@ -4,10 +4,12 @@ use Rattle.std.specs.Prelude.{Bool, cond, ◌&&◌, ◌||◌, List, ℕ, zero, s
 use Rattle.std.proofs.Math.Option.{Option, none, some}
 use Rattle.int32.specs.Integers.{value}
 use Rattle.rules.specs.Choose.{pick, below}
+use Rattle.rules.specs.declared.Class.{Class}
+use Rattle.rules.specs.declared.Class.TheVariants.{Shared as shared, Lastprivate as lastprivate, Copied as copied, Reduction as reduction}
 use Rattle.rules.specs.Operation.{Operation, operation}
-use Rattle.rules.specs.Numbers.{operator_by}
+use Rattle.rules.specs.Numbers.{class_by}
 use Rattle.rules.specs.Merge.{join_all}
-use Rattle.tables.specs.Layout.{own_at, entry_word, met_word, writers_word, flags_word, lowest_word, highest_word, class_word, private_word, wrote_word, partial_word}
+use Rattle.tables.specs.Layout.{own_at, entry_word, met_word, writers_word, flags_word, lowest_word, highest_word, class_held, private_word, wrote_word, partial_word}
 
 -- ---- marks
 
@@ -37,20 +39,16 @@ late lowest highest = ltb 0 lowest && ltb lowest highest
 abbrev pub mixed : ℕ → ℕ → Bool
 mixed met flags = ltb 0 met && eqb (flags / 2 % 2) 1
 
--- the cell has an obstacle
-abbrev pub blocked : ℕ → ℕ → ℕ → ℕ → ℕ → Bool
-blocked met writers flags lowest highest =
-    cond
-    (eqb (flags / 4) 0)
-    (contested met writers)
-    (cond
-    (eqb (flags / 4) 3)
-    (late lowest highest)
-    (cond (eqb (flags / 4) 1) (stale met writers flags) (stale met writers flags || mixed met flags)))
+-- a cell of a class has an obstacle
+abbrev pub blocked : Class → ℕ → ℕ → ℕ → ℕ → ℕ → Bool
+blocked shared met writers flags lowest highest = contested met writers
+blocked copied met writers flags lowest highest = late lowest highest
+blocked lastprivate met writers flags lowest highest = stale met writers flags
+blocked (reduction o) met writers flags lowest highest = stale met writers flags || mixed met flags
 
 -- by its row
 abbrev pub blocked_of : List ℕ → ℕ → Bool
-blocked_of W row = blocked (met_word W row) (writers_word W row) (flags_word W row) (lowest_word W row) (highest_word W row)
+blocked_of W row = blocked (class_held W row) (met_word W row) (writers_word W row) (flags_word W row) (lowest_word W row) (highest_word W row)
 
 -- ---- private values and the merge
 
@@ -67,23 +65,17 @@ last_word W row (suc k) = pick (wrote_word W (own_at row k)) 0 (last_word W row 
 abbrev pub gathered : Operation → List ℕ → ℕ → ℕ → ℤ
 gathered o W row p = join_all o p (λ q. value (partial_word W (own_at row q)))
 
--- what updates of a cell do, by the class in its flags
-abbrev pub joining : List ℕ → ℕ → Operation
-joining W row = operation (operator_by (class_word W row))
-
--- what a cell is left with after a run that passed; x is what stands in it
-abbrev pub merged : List ℕ → ℕ → ℕ → ℤ → ℤ
-merged W row p x =
+-- what a cell of a class is left with after a run that passed; x is what stands in it
+abbrev pub merged_by : Class → List ℕ → ℕ → ℕ → ℤ → ℤ
+merged_by shared W row p x = x
+merged_by lastprivate W row p x = value (last_word W row p)
+merged_by copied W row p x = value (last_word W row p)
+merged_by (reduction o) W row p x =
     cond
-    (eqb (class_word W row) 0)
-    x
-    (cond
-    (eqb (class_word W row) 1)
-    (value (last_word W row p))
-    (cond
-    (eqb (class_word W row) 3)
-    (value (last_word W row p))
-    (cond
     (eqb (flags_word W row / 2 % 2) 1)
-    ((joining W row).join (value (last_word W row p)) (gathered (joining W row) W row p))
-    (value (last_word W row p)))))
+    ((operation o).join (value (last_word W row p)) (gathered (operation o) W row p))
+    (value (last_word W row p))
+
+-- by its row
+abbrev pub merged : List ℕ → ℕ → ℕ → ℤ → ℤ
+merged W row = merged_by (class_held W row) W row

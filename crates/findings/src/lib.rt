@@ -9,8 +9,8 @@ ghost use Rattle.rules.specs.Operation.{operation};
 ghost use Rattle.tables.specs.Layout.{pairs_word, cells_word, entry_word};
 ghost use Rattle.findings.specs.Findings.{marks_read, marks_of, contested, stale, late, mixed, blocked, blocked_of, last_word, gathered, merged};
 
-use rules::{COPIED, LASTPRIVATE, Operator, Processor, SHARED};
-use tables::{CELLS, FLAGS, HIGHEST, LOWEST, MET, PAIRS, PARTIAL, WRITERS, WROTE, choose, own_of};
+use rules::{Class, Operator, Processor};
+use tables::{CELLS, FLAGS, HIGHEST, LOWEST, MET, PAIRS, PARTIAL, WRITERS, WROTE, own_of};
 
 // The number of different pairs of iteration and cell among writes and updates.
 pub fn pair_count(w: &[u32]) -> u32
@@ -38,18 +38,12 @@ pub fn entry_value(w: &[u32], row: usize) -> i32
 
 // ---- marks
 
-// A mark m if i is below j.
-fn mark(i: u32, j: u32, m: u32) -> u32
-    ensures { (result ≡ below i j m 0) × (result ≤ m) }
-{
-    if i < j { m } else { 0 }
-}
-
 // The marks of a cell by three words of its row.
+#[tactic(auto, unfolding(rules::specs::Choose::below))]
 fn marks_by(met: u32, writers: u32, flags: u32) -> u32
     ensures { result ≡ marks_read met writers flags }
 {
-    mark(0, writers, 1) + mark(writers, met, 2) + 4 * (flags % 2) + 8 * (flags / 2 % 2)
+    u32::from(0 < writers) + 2 * u32::from(writers < met) + 4 * (flags % 2) + 8 * (flags / 2 % 2)
 }
 
 // The marks of a cell.
@@ -66,55 +60,40 @@ pub fn marks_of(w: &[u32], row: usize) -> u32
 fn is_contested(met: u32, writers: u32) -> bool
     ensures { result ≡ contested met writers }
 {
-    if 0 < writers { 1 < met } else { false }
+    0 < writers && 1 < met
 }
 
 // And one read it exposed.
 fn is_stale(met: u32, writers: u32, flags: u32) -> bool
     ensures { result ≡ stale met writers flags }
 {
-    if is_contested(met, writers) {
-        if writers < met {
-            return true;
-        }
-        return flags % 2 == 1;
-    }
-    false
+    is_contested(met, writers) && (writers < met || flags % 2 == 1)
 }
 
 // A group wrote a cell and a higher one read it exposed, by the record of the cell.
 fn is_late(lowest: u32, highest: u32) -> bool
     ensures { result ≡ late lowest highest }
 {
-    if 0 < lowest { lowest < highest } else { false }
+    0 < lowest && lowest < highest
 }
 
 // A cell has an update and an ordinary access.
 fn is_mixed(met: u32, flags: u32) -> bool
     ensures { result ≡ mixed met flags }
 {
-    if 0 < met { flags / 2 % 2 == 1 } else { false }
+    0 < met && flags / 2 % 2 == 1
 }
 
-// Whether a cell has an obstacle, by five words of its row.
-fn is_obstacle(met: u32, writers: u32, flags: u32, lowest: u32, highest: u32) -> bool
-    ensures { result ≡ blocked met writers flags lowest highest }
+// Whether a cell of a class has an obstacle, by five words of its row.
+fn is_obstacle(class: Class, met: u32, writers: u32, flags: u32, lowest: u32, highest: u32) -> bool
+    ensures { result ≡ blocked class met writers flags lowest highest }
 {
-    let class = flags / 4;
-    if class == SHARED {
-        return is_contested(met, writers);
+    match class {
+        Class::Shared => is_contested(met, writers),
+        Class::Copied => is_late(lowest, highest),
+        Class::Lastprivate => is_stale(met, writers, flags),
+        Class::Reduction(_) => is_stale(met, writers, flags) || is_mixed(met, flags),
     }
-    if class == COPIED {
-        return is_late(lowest, highest);
-    }
-    let stale = is_stale(met, writers, flags);
-    if class == LASTPRIVATE {
-        return stale;
-    }
-    if stale {
-        return true;
-    }
-    is_mixed(met, flags)
 }
 
 // Whether a cell has an obstacle.
@@ -123,6 +102,7 @@ pub fn is_blocked(w: &[u32], row: usize) -> bool
     ensures { result ≡ blocked_of w.now row }
 {
     is_obstacle(
+        tables::class_of(w, row),
         w[row + MET],
         w[row + WRITERS],
         w[row + FLAGS],
@@ -134,33 +114,31 @@ pub fn is_blocked(w: &[u32], row: usize) -> bool
 // ---- the merge
 
 // The private value of the highest processor that wrote the cell, else the entry value.
+#[tactic(auto, unfolding(crate::specs::Findings::last_word, rules::specs::Choose::pick))]
 fn last_value(w: &[u32], row: usize, processors: u32) -> i32
     requires { (row < 4294967296) × (row + 6 + 5 * processors ≤ length w.now) }
     ensures { result ≡ value (last_word w.now row processors) }
 {
     let mut x = w[row];
-    let mut q: u32 = 0;
-    while q < processors {
-        let p = Processor(q);
-        let own = own_of(row, p);
-        x = choose(w[own + WROTE], 0, x, w[own]);
-        q += 1;
+    for q in 0..processors {
+        let own = own_of(row, Processor(q));
+        if w[own + WROTE] != 0 {
+            x = w[own];
+        }
     }
     int32::of_word(x)
 }
 
 // The partial results of the processors, taken together.
+#[tactic(auto, unfolding(rules::specs::Merge::join_all))]
 fn total(w: &[u32], row: usize, processors: u32, operator: Operator) -> i32
     requires { (row < 4294967296) × (row + 6 + 5 * processors ≤ length w.now) }
     ensures { result ≡ gathered (operation operator) w.now row processors }
 {
     let mut x = rules::neutral(operator);
-    let mut q: u32 = 0;
-    while q < processors {
-        let p = Processor(q);
-        let own = own_of(row, p);
+    for q in 0..processors {
+        let own = own_of(row, Processor(q));
         x = rules::combine(operator, x, int32::of_word(w[own + PARTIAL]));
-        q += 1;
     }
     x
 }
@@ -170,20 +148,13 @@ pub fn merged_value(w: &[u32], row: usize, shared: i32, processors: u32) -> i32
     requires { (row < 4294967296) × (row + 6 + 5 * processors ≤ length w.now) }
     ensures { result ≡ merged w.now row processors shared }
 {
-    let flags = w[row + FLAGS];
-    if flags / 4 == SHARED {
-        return shared;
+    match tables::class_of(w, row) {
+        Class::Shared => shared,
+        Class::Reduction(operator) if w[row + FLAGS] / 2 % 2 == 1 => rules::combine(
+            operator,
+            last_value(w, row, processors),
+            total(w, row, processors, operator),
+        ),
+        _ => last_value(w, row, processors),
     }
-    let last = last_value(w, row, processors);
-    if flags / 4 == LASTPRIVATE {
-        return last;
-    }
-    if flags / 4 == COPIED {
-        return last;
-    }
-    if flags / 2 % 2 == 1 {
-        let operator = rules::operator_of(flags / 4);
-        return rules::combine(operator, last, total(w, row, processors, operator));
-    }
-    last
 }

@@ -1,6 +1,5 @@
--- What the callers cite: what is lent fits, and a copy of cells.
+-- What the callers cite: what is lent fits.
 pub mod Fits
-pub mod Copies
-pub mod Front
--- The number of what can't be taken.
+-- The bound of the words that a run needs, and a schedule's test.
 mod Numbers
+mod Schedules

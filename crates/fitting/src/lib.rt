@@ -1,21 +1,11 @@
-// What is lent: a copy of cells, and what can't be taken (RULES 10: numbers 5 to 7).
+// What can't be taken of what is lent (RULES 10: numbers 5 to 7).
 #![tactic(auto)]
 
-ghost use Rattle.std.specs.Prelude.{◌≡◌, ◌≤◌, ltb, length, take};
+ghost use Rattle.std.specs.Prelude.{◌≡◌, ◌≤◌, ltb};
 ghost use Rattle.syntax.specs.Bytes.{all};
-ghost use Rattle.answers.specs.Answers.{needed, fit_number};
+ghost use Rattle.answers.specs.Answers.{needed, cells_number, fit_number, completed};
 
-// The cells of a list, at the front of another. Free: the cells past them.
-pub fn copy_front(own: &mut [i32], from: &[i32])
-    requires { length from.now ≤ length own.old }
-    ensures { take (length from.now) own.new ≡ from.now }
-{
-    let mut c = 0;
-    while c < from.len() {
-        own[c] = from[c];
-        c += 1;
-    }
-}
+use answers::Refusal;
 
 // The words of workspace that a run needs.
 fn needed_words(n: u32, processors: u32) -> usize
@@ -30,30 +20,37 @@ fn needed_words(n: u32, processors: u32) -> usize
 fn is_schedule(schedule: &[u8], processors: u32) -> bool
     ensures { result ≡ all (λ b. ltb b processors) schedule.now }
 {
-    let mut i = 0;
-    while i < schedule.len() {
-        if processors <= schedule[i] as u32 {
-            return false;
-        }
-        i += 1;
-    }
-    true
+    schedule.iter().all(|&b| u32::from(b) < processors)
 }
 
-// 0, or the number of the first that can't be taken: 5 the cells, 6 the workspace, 7 the schedule.
-pub fn unfit(n: u32, processors: u32, cells: usize, words: usize, schedule: &[u8]) -> u32
-    requires { (n ≤ 4096) × (processors ≤ 8) }
-    ensures { result ≡ fit_number n processors cells words schedule.now }
+// Whether so many cells can be taken for n: else number 5.
+pub fn check_cells(n: u32, cells: usize) -> Result<(), Refusal>
+    ensures { result ≡ completed (cells_number n cells) }
 {
     if cells != n as usize {
-        return 5;
+        return Err(Refusal::of_lent(5));
     }
+    Ok(())
+}
+
+// Whether so many cells and words and this schedule can be taken for n cells and so many processors; else the number of the first that can't be: 5 the cells,
+// 6 the workspace, 7 the schedule.
+pub fn check_lent(
+    n: u32,
+    processors: u32,
+    cells: usize,
+    words: usize,
+    schedule: &[u8],
+) -> Result<(), Refusal>
+    requires { (n ≤ 4096) × (processors ≤ 8) }
+    ensures { result ≡ completed (fit_number n processors cells words schedule.now) }
+{
+    check_cells(n, cells)?;
     if words < needed_words(n, processors) {
-        return 6;
+        return Err(Refusal::of_lent(6));
     }
-    if is_schedule(schedule, processors) {
-        0
-    } else {
-        7
+    if !is_schedule(schedule, processors) {
+        return Err(Refusal::of_lent(7));
     }
+    Ok(())
 }

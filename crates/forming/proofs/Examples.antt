@@ -13,9 +13,9 @@ use Rattle.syntax.specs.Text.{judged, judge_line, judge, read}
 use Rattle.syntax.specs.Follows.{spoken}
 use Rattle.syntax.proofs.Quoted.{text}
 use Rattle.printed.specs.Form.{shortest, written_out, plain, kept, after_blanks, program_of, form}
-use Rattle.answers.specs.declared.Printed.{Printed}
-use Rattle.answers.specs.declared.Printed.TheVariants.{Form, Refused}
-use Rattle.answers.specs.Answers.{print_of, bytes_printed}
+use Rattle.std.specs.Prelude.{Result, Ok}
+use Rattle.answers.specs.declared.Refusal.{Refusal}
+use Rattle.answers.specs.Answers.{refuse, print_of, bytes_printed}
 
 -- a loop without statements, with these data and this end
 abbrev loop : String → String → List ℕ
@@ -33,27 +33,27 @@ lent n = replicate n 35
 
 -- what is answered, and the bytes lent afterwards
 pub record Row : Type 0 where
-  pub got : Printed × List ℕ
-  pub want : Printed × List ℕ
+  pub got : Result ℕ Refusal × List ℕ
+  pub want : Result ℕ Refusal × List ℕ
 
-abbrev row : List ℕ → ℕ → Printed → List ℕ → Row
+abbrev row : List ℕ → ℕ → Result ℕ Refusal → List ℕ → Row
 row t n r b = record { got = (print_of (read t) t (length (lent n)), bytes_printed (read t) t (lent n)); want = (r, b) }
 
 pub rows : List Row
 rows =
     -- more bytes than it has: the rest is unchanged; just enough; one too few; none
-    row small 96 (Form 93) (printed ++ lent 3)
-    ∷ row small 93 (Form 93) printed
-    ∷ row small 92 (Refused 12 0) (lent 92)
-    ∷ row small 0 (Refused 12 0) []
+    row small 96 (Ok 93) (printed ++ lent 3)
+    ∷ row small 93 (Ok 93) printed
+    ∷ row small 92 (refuse 12 0) (lent 92)
+    ∷ row small 0 (refuse 12 0) []
     -- the closing directive goes
-    ∷ row (small ++ text ("" ∷ "!$omp end parallel do" ∷ [])) 94 (Form 93) (printed ++ lent 1)
+    ∷ row (small ++ text ("" ∷ "!$omp end parallel do" ∷ [])) 94 (Ok 93) (printed ++ lent 1)
     -- what is refused before 12, with its line
-    ∷ row [] 3 (Refused 2 1) (lent 3)
-    ∷ row (loop "data a/2*-007/" "do") 93 (Refused 2 6) (lent 93)
-    ∷ row (loop "data a/1*-007/" "enddo") 0 (Refused 3 3) []
-    ∷ row (loop "data a/2*2147483648/" "enddo") 2 (Refused 4 3) (lent 2)
-    ∷ row (replicate 2049 32) 2 (Refused 1 0) (lent 2)
+    ∷ row [] 3 (refuse 2 1) (lent 3)
+    ∷ row (loop "data a/2*-007/" "do") 93 (refuse 2 6) (lent 93)
+    ∷ row (loop "data a/1*-007/" "enddo") 0 (refuse 3 3) []
+    ∷ row (loop "data a/2*2147483648/" "enddo") 2 (refuse 4 3) (lent 2)
+    ∷ row (replicate 2049 32) 2 (refuse 1 0) (lent 2)
     ∷ []
 
 pub rows_print : map (λ r. r.got) rows ≡ map (λ r. r.want) rows

@@ -8,14 +8,15 @@ ghost use Rattle.writing.specs.Written.{Fits, Writes};
 ghost use Rattle.answers.specs.Answers.{form_answered, form_written, print_of, bytes_printed};
 ghost use Rattle.forming.specs.Lines.{shape_by, shaped, GoodLine, line_or_none, GoodLines, lines_form};
 
-use answers::Printed;
+use answers::Refusal;
 use kinds::{Kind, is_skipped, kind_of};
 use layout::put_line;
 use lexer::{line_end, lowered};
+use preparing::Source;
 use writing::put_bytes;
 
 // How a line is printed: with its own tokens; with the copies of its items; as an ending in two words; or not at all.
-#[derive(Clone, Copy)]
+#[derive(Clone, Copy, Debug, PartialEq, Eq)]
 pub enum Shape {
     Own,
     Copies,
@@ -65,9 +66,7 @@ fn put_line_of(out: &mut [u8], to: usize, s: &[u8]) -> usize
     if is_skipped(s) {
         return to;
     }
-    let k = kind_of(s);
-    let shape = shape_of(k);
-    put_shape(out, to, s, shape)
+    put_shape(out, to, s, shape_of(kind_of(s)))
 }
 
 // The lines of an accepted text in lower case.
@@ -78,6 +77,7 @@ fn put_lines(out: &mut [u8], s: &[u8]) -> usize
     let n = s.len();
     let mut to = 0;
     let mut at = 0;
+    // Where a line ends is known only when it is found, so that no range or iterator has these places.
     while at <= n {
         let e = line_end(s, at);
         to = put_line_of(out, to, &s[at..e]);
@@ -92,38 +92,25 @@ fn put_lines(out: &mut [u8], s: &[u8]) -> usize
 // ---- Print
 
 // The printed form of an accepted text in lower case, and its length: it is counted first, over no bytes.
-fn put_form(s: &[u8], bytes: &mut [u8]) -> Printed
+fn put_form(s: &[u8], bytes: &mut [u8]) -> Result<u32, Refusal>
     requires { (length s.now ≤ 2048) × GoodLines s.now × Fits 0 (lines_form s.now) }
     ensures value { result ≡ form_answered (lines_form s.now) (length bytes.old) }
     ensures bytes_after { bytes.new ≡ form_written (lines_form s.now) bytes.old }
 {
     let size = put_lines(&mut bytes[..0], s);
     if bytes.len() < size {
-        return Printed::Refused {
-            number: 12,
-            line: 0,
-        };
+        return Err(Refusal::of_lent(12));
     }
-    let end = put_lines(bytes, s);
-    Printed::Form { length: end as u32 }
+    Ok(put_lines(bytes, s) as u32)
 }
 
-pub fn print(text: &[u8], bytes: &mut [u8]) -> Printed
+// The printed form of a text, and its length.
+pub fn print(text: &[u8], bytes: &mut [u8]) -> Result<u32, Refusal>
     ensures value { result ≡ print_of (read_text text.now) text.now (length bytes.old) }
     ensures bytes_after { bytes.new ≡ bytes_printed (read_text text.now) text.now bytes.old }
 {
-    let mut table = [0; names::WORDS];
-    let mut initial: [i32; 4096] = [0; 4096];
-    let mut code = [0; code::WORDS];
-    let r = reader::read(text, &mut table, &mut initial, &mut code);
-    let line = r.line;
-    let p = r.progress;
-    if p.number != 0 {
-        return Printed::Refused {
-            number: p.number,
-            line,
-        };
-    }
+    let mut source = Source::new();
+    source.read(text)?;
     let n = text.len();
     let mut low = [0; 2048];
     lowered(text, &mut low);

@@ -1,26 +1,28 @@
-// What the lines before the statements share: ranks (0 in order, 1 over a limit, 2 a wrong name), lists of parts, and literals with a sign.
+// What the lines before the statements share: ranks, lists of parts, and literals with a sign.
 #![tactic(auto)]
 
-ghost use Rattle.std.specs.Prelude.{◌≡◌, ◌&&◌, leb, ◌<◌, max};
+ghost use Rattle.std.specs.Prelude.{◌≡◌, ◌&&◌, leb, max};
 ghost use Rattle.int32.specs.Integers.{value};
 ghost use Rattle.syntax.specs.Meaning.{led};
+ghost use Rattle.syntax.specs.Ranks.{level};
 ghost use Rattle.lexer.specs.Places.{lead_of};
 ghost use Rattle.heading.specs.Lists.{order};
 
 use int32::{negate, of_word};
 use lexer::Leading;
+use syntax::Rank;
 
 // The highest rank, where the names and the numbers of a part are in order or not.
-pub fn ranked(rank: u32, named: bool, small: bool) -> u32
-    ensures { result ≡ max rank (order named small) }
+pub fn ranked(rank: Rank, named: bool, small: bool) -> Rank
+    ensures { level result ≡ max (level rank) (order named small) }
 {
-    if !named {
-        return if 2 < rank { rank } else { 2 };
-    }
-    if small {
-        return rank;
-    }
-    if 1 < rank { rank } else { 1 }
+    rank.worse(if !named {
+        Rank::WrongName
+    } else if !small {
+        Rank::OverLimit
+    } else {
+        Rank::InOrder
+    })
 }
 
 // The value of an item; one over the limit stands for none.
@@ -29,8 +31,7 @@ pub fn item_value(sign: Leading, size: u32) -> i32
 {
     let n = of_word(size);
     match sign {
-        Leading::Bare => n,
-        Leading::Plus => n,
+        Leading::Bare | Leading::Plus => n,
         Leading::Minus => negate(n),
     }
 }
@@ -39,15 +40,12 @@ pub fn item_value(sign: Leading, size: u32) -> i32
 pub fn limited(copies: u32, size: u32) -> bool
     ensures { result ≡ leb copies 2147483647 && leb size 2147483647 }
 {
-    if 2147483647 < copies {
-        return false;
-    }
-    size <= 2147483647
+    copies <= 2147483647 && size <= 2147483647
 }
 
 // What a line comes to.
-#[derive(Clone, Copy)]
+#[derive(Clone, Copy, Debug, PartialEq, Eq)]
 pub struct Headed {
     pub next: usize,
-    pub rank: u32,
+    pub rank: Rank,
 }

@@ -1,11 +1,14 @@
 -- The instruction and the relation of a number.
-use mathlib.Core.Path.{◌≡◌, refl}
+use mathlib.Core.Path.{◌≡◌, refl, sym, subst}
 use mathlib.Core.List.{List, [], ◌∷◌}
 use Prim.Native.Nat.{ℕ, zero, suc, ◌/◌, ◌%◌, ◌≤◌}
 use native.Mathlib.Omega.{arith}
 use lib.ListN.{length, get_or}
+use lib.IntN.{ℤ}
 use Rattle.int32.specs.declared.Relation.TheVariants.{AtLeast}
-use Rattle.code.specs.Instr.{end, relations, relation_of, numbered, decode}
+use Rattle.code.specs.Instr.{Instr, end, relations, relation_of, numbered, decode}
+use Rattle.operands.specs.declared.Performed.{Performed}
+use Rattle.operands.specs.Performing.{does, Performs}
 
 -- past a list's end
 get_d_past : {A : Type 0} (l : List A) (n : ℕ) (x : A) → length l ≤ n → get_or l n x ≡ x
@@ -33,3 +36,9 @@ decode_as word arg n e = rw e
 pub decode_last : (word arg : ℕ) → 19 ≤ word % 32 → decode word arg ≡ end
 unfolding decode
 decode_last word arg h = get_d_past (numbered (word / 32) arg) (word % 32) end h
+
+-- what is done by the instruction of number n is done by the two words
+pub performs_as : (n word arg place d : ℕ) (a b : List ℤ) (v : ℤ) {r : Performed} → word % 32 ≡ n
+    → Performs (does (get_or (numbered (word / 32) arg) n end) place d a v) place b r → Performs (does (decode word arg) place d a v) place b r
+performs_as n word arg place d a b v {r} e p =
+    subst (λ (i : Instr). Performs (does i place d a v) place b r) (sym (decode_as word arg n e)) p

@@ -6,7 +6,6 @@ ghost use Rattle.code.specs.Instr.{Instr, decode, relation_of};
 ghost use Rattle.operands.specs.Pending.{Holding};
 ghost use Rattle.operands.specs.Performing.{does, Performs};
 
-use int32::Relation;
 use operands::{Move, Performed, go_on, stop};
 
 // ---- jumps
@@ -19,20 +18,6 @@ pub fn jump(place: usize, depth: usize, arg: u32) -> Performed
     go_on(place + (arg / code::DISTANCE) as usize, depth)
 }
 
-// The relation of a number.
-pub fn relation(number: u32) -> Relation
-    ensures { result ≡ relation_of number }
-{
-    match number {
-        0 => Relation::Equal,
-        1 => Relation::Unequal,
-        2 => Relation::Less,
-        3 => Relation::AtMost,
-        4 => Relation::Greater,
-        _ => Relation::AtLeast,
-    }
-}
-
 // A jump unless a relation holds between two values.
 pub fn jump_unless(place: usize, depth: usize, pending: &[i32; 32], arg: u32) -> Performed
     requires { (Holding pending.now depth) × (place < 2 ^ 63) }
@@ -42,9 +27,11 @@ pub fn jump_unless(place: usize, depth: usize, pending: &[i32; 32], arg: u32) ->
         return stop(place, depth, Move::End);
     }
     let d = depth - 2;
-    let x = pending[d];
-    let y = pending[d + 1];
-    if int32::holds(relation(arg % code::DISTANCE), x, y) {
+    if int32::holds(
+        code::relation_of(arg % code::DISTANCE),
+        pending[d],
+        pending[d + 1],
+    ) {
         return go_on(place, d);
     }
     jump(place, d, arg)
@@ -65,26 +52,37 @@ pub fn perform(
     ensures { Performs (does (decode word arg) place depth pending.old v) place pending.new result }
 {
     let line = word / code::LINE;
-    let operation = word % code::LINE;
-    match operation {
+    match word % code::LINE {
         code::PUSH => operands::push(place, depth, pending, int32::of_word(arg)),
         code::PUSH_V => operands::push(place, depth, pending, v),
         code::LOAD => accesses::load(place, depth, arg),
         code::LOAD_AT => accesses::load_at(place, depth, pending, arg, line),
-        code::ADD => operands::add(place, depth, pending),
-        code::SUBTRACT => operands::subtract(place, depth, pending),
-        code::MULTIPLY => operands::multiply(place, depth, pending),
+        code::ADD => operands::compute(place, depth, pending, int32::add),
+        code::SUBTRACT => operands::compute(place, depth, pending, int32::subtract),
+        code::MULTIPLY => operands::compute(place, depth, pending, int32::multiply),
         code::NEGATE => operands::negate(place, depth, pending),
-        code::DIVIDE => operands::divide(place, depth, pending, line),
-        code::ROUND => operands::round(place, depth, pending, line),
-        code::STORE => accesses::store(place, depth, pending, arg),
+        code::DIVIDE => operands::divide(place, depth, pending, int32::divide, line),
+        code::ROUND => operands::divide(place, depth, pending, int32::round_divide, line),
+        code::STORE => accesses::change_cell(
+            place,
+            depth,
+            pending,
+            arg,
+            |cell, value| Move::Write { cell, value },
+        ),
         code::STORE_AT => accesses::store_at(place, depth, pending, arg, line),
         code::CHECK => accesses::check(place, depth, pending, arg, line),
-        code::UPDATE => accesses::update(place, depth, pending, arg),
+        code::UPDATE => accesses::change_cell(
+            place,
+            depth,
+            pending,
+            arg,
+            |cell, value| Move::Update { cell, value },
+        ),
         code::UPDATE_AT => accesses::update_at(place, depth, pending, arg, line),
         code::JUMP_UNLESS => jump_unless(place, depth, pending, arg),
         code::JUMP => jump(place, depth, arg),
-        code::MAXIMUM => operands::maximum(place, depth, pending),
+        code::MAXIMUM => operands::compute(place, depth, pending, int32::maximum),
         code::FLATTEN => accesses::flatten(place, depth, pending, arg, line),
         _ => stop(place, depth, Move::End),
     }

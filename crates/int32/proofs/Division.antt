@@ -4,7 +4,7 @@ use native.Mathlib.Decide.{ℕ_discrete}
 use mathlib.Core.Path.{subst⁻¹}
 use lib.Signed.{mag}
 use mir.ValLaws.{to_z-of_z}
-use Rattle.int32.specs.declared.Divided.TheVariants.{Value, ByZero}
+use Rattle.std.specs.Prelude.{Some, None}
 use Rattle.int32.specs.Integers.{word, value, wrap, by_signs, even_of, nearer, nearest, same, divided, rdiv}
 use Rattle.int32.specs.SignWord.{sign_word}
 use Rattle.int32.proofs.Laws.{wrap_fits, word_negation}
@@ -15,18 +15,18 @@ from_bits {z} f n e = sym (to_z-of_z w32 z f) ∙ ap (to_z w32) e
 
 -- ---- the answer of a division, by f, at each test of the code
 
-pub divided_zero : (f : ℤ → ℤ → ℤ) (x : ℤ) {y : ℤ} → SFits w32 y → of_z w32 y ≡ 0 → ByZero ≡ divided f x y
+pub divided_zero : (f : ℤ → ℤ → ℤ) (x : ℤ) {y : ℤ} → SFits w32 y → of_z w32 y ≡ 0 → None ≡ divided f x y
 unfolding divided same
 divided_zero f x g e = ap (divided f x) (sym (from_bits g 0 e))
 
-pub divided_value : (f : ℤ → ℤ → ℤ) (x y : ℤ) → (of_z w32 y ≡ 0 → ⊥) → Value (f x y) ≡ divided f x y
+pub divided_value : (f : ℤ → ℤ → ℤ) (x y : ℤ) → (of_z w32 y ≡ 0 → ⊥) → Some (f x y) ≡ divided f x y
 unfolding divided same
-divided_value f x (pos n) h = ap (λ (t : Bool). cond t ByZero (Value (f x (pos n)))) (sym (ne_eqb n 0 h))
+divided_value f x (pos n) h = ap (λ (t : Bool). cond t None (Some (f x (pos n)))) (sym (ne_eqb n 0 h))
 divided_value f x (negsuc n) h = refl
 
 -- the smallest number over -1
 pub divided_end : (f : ℤ → ℤ → ℤ) → f (negsuc 2147483647) (negsuc 0) ≡ negsuc 2147483647 → {x y : ℤ} → SFits w32 x → SFits w32 y
-    → of_z w32 x ≡ 2147483648 → of_z w32 y ≡ 4294967295 → Value (negsuc 2147483647) ≡ divided f x y
+    → of_z w32 x ≡ 2147483648 → of_z w32 y ≡ 4294967295 → Some (negsuc 2147483647) ≡ divided f x y
 unfolding divided same
 divided_end f h {x} {y} g k p q = let a : x ≡ negsuc 2147483647 = from_bits g 2147483648 p in let b : y ≡ negsuc 0 = from_bits k 4294967295 q in rw (a, b, h)
 
@@ -81,11 +81,6 @@ module _ (a b : ℕ) where
       nearer_cases (λ k. a / b + a / b % 2 ≡ k) (a / b) (a % b) (b - a % b) (λ l e. omega (arith, e (omega arith))) (λ l e. omega (arith, e (omega arith)))
 
 -- ---- signs on words
-
-pub sign_word_lem : (x : ℤ) → SFits w32 x → sign_word x (word x) ≡ nat_abs x
-unfolding sign_word word
-sign_word_lem (pos n) f = omega (arith, f.sfits)
-sign_word_lem (negsuc n) f = omega (arith, f.sfits)
 
 once : (m : ℕ) → m < 2 ^ 32 → (2 ^ 32 - m % 2 ^ 32) % 2 ^ 32 ≡ (2 ^ 32 - m) % 2 ^ 32
 once m h = omega arith

@@ -1,9 +1,11 @@
 -- The laws of the cell arithmetic. Assumes nothing.
-use Rattle.std.proofs.Common.{◌≡◌, ℕ, zero, suc, ◌+◌, ◌-◌, ◌*◌, ◌/◌, ◌%◌, ◌^◌, ◌<◌, ◌≤◌, Bool, true, false, cond, not, T, ltb, ℤ, pos, negsuc, ◌+ℤ◌, ◌-ℤ◌, ◌*ℤ◌, neg_ℤ, sym, refl, ap, ◌∙◌, lt_of_le_of_lt, mod-lt, mul_assoc, mul_comm, add-mul, mul-le-mul, mul-le-mul_left, mul-one, mul_right_comm, arith, lit<, ltb→lt, nltb→le, w32, SFits, to_z, of_z}
-use native.Mathlib.Nat.{mod-add-div', add-mul-mod_self_right, mul-sub, le-pred_of_lt}
+use Rattle.std.proofs.Common.{◌≡◌, ℕ, zero, suc, ◌+◌, ◌-◌, ◌*◌, ◌/◌, ◌%◌, ◌^◌, ◌<◌, ◌≤◌, Bool, true, false, cond, not, T, ltb, ℤ, pos, negsuc, ◌+ℤ◌, ◌-ℤ◌, ◌*ℤ◌, neg_ℤ, sym, refl, ap, ◌∙◌, mod-lt, mul_assoc, mul_comm, add-mul, mul-le-mul_left, mul-one, mul_right_comm, arith, lit<, ltb→lt, nltb→le, w32, SFits, to_z, of_z}
+use native.Mathlib.Nat.{mod-add-div', add-mul-mod_self_right, mul-sub}
 use lib.IntN.{sub_ℕ, +ℤ_comm, +ℤ_assoc, +ℤ_idl}
 use mir.Syntax.{Width}
 use mir.ValLaws.{to_z-of_z}
+use Rattle.std.specs.Int.{int_wrap, int_wrapping_add, int_wrapping_sub, int_wrapping_mul, int_wrapping_neg}
+use Rattle.std.proofs.lemmas.Int.{wrapping_add_is, wrapping_sub_is, wrapping_mul_is, wrapping_neg_is}
 use Rattle.int32.specs.Integers.{word, value, wrap, sum, difference, product, negation, greater, larger}
 
 -- ---- by the test that a definition makes
@@ -159,24 +161,34 @@ pub sum_fits : (x y : ℤ) → SFits w32 (sum x y)
 unfolding sum
 sum_fits x y = wrap_fits (x +ℤ y)
 
--- ---- what the code computes on words, and a result as the machine hands it back
+-- ---- the library's operations on cells
 
-pub sum_words : (x y : ℤ) {a b u : ℕ} → a ≡ word x → b ≡ word y → u ≡ (a + b) % 2 ^ 32 → value u ≡ sum x y
-unfolding sum wrap
-sum_words x y p q e = ap value (e ∙ (λ i. (p i + q i) % 2 ^ 32) ∙ sym (word_sum x y))
-
-pub difference_words : (x y : ℤ) {a b u : ℕ} → a ≡ word x → b ≡ word y → u < 2 ^ 32 → (u + b) % 2 ^ 32 ≡ a → value u ≡ difference x y
-unfolding difference wrap
-difference_words x y {a} {b} {u} p q h e =
-    ap value (back u (word x) (word y) h (word_lt x) (word_lt y) ((λ i. (u + sym q i) % 2 ^ 32) ∙ e ∙ p)
-    ∙ ap (λ (n : ℕ). (word x + n) % 2 ^ 32) (sym (word_negation y)) ∙ sym (word_sum x (neg_ℤ y)))
+wraps_alike : (z : ℤ) → int_wrap w32 z ≡ wrap z
+unfolding wrap word int_wrap
+wraps_alike (pos n) = sym (value_to_z (n % 2 ^ 32))
+wraps_alike (negsuc n) = ap (to_z w32) (less n) ∙ sym (value_to_z (2 ^ 32 - suc (n % 2 ^ 32)))
   where
-    back : (u v w : ℕ) → u < 2 ^ 32 → v < 2 ^ 32 → w < 2 ^ 32 → (u + w) % 2 ^ 32 ≡ v → u ≡ (v + (2 ^ 32 - w) % 2 ^ 32) % 2 ^ 32
-    back u v w h k l e = omega arith
+    less : (n : ℕ) → 2 ^ 32 - 1 - n % 2 ^ 32 ≡ 2 ^ 32 - suc (n % 2 ^ 32)
+    less n = omega arith
 
-pub difference_zero : (y : ℤ) → difference (pos 0) y ≡ negation y
-unfolding difference negation
-difference_zero y = ap wrap (+ℤ_idl (neg_ℤ y))
+module _ (x y : ℤ) (f : SFits w32 x) (g : SFits w32 y) where
+  pub sum_wraps : int_wrapping_add w32 x y ≡ sum x y
+  unfolding sum
+  sum_wraps = wrapping_add_is w32 x y f g ∙ wraps_alike (x +ℤ y)
+
+  pub difference_wraps : int_wrapping_sub w32 x y ≡ difference x y
+  unfolding difference
+  difference_wraps = wrapping_sub_is w32 x y f g ∙ wraps_alike (x -ℤ y)
+
+  pub product_wraps : int_wrapping_mul w32 x y ≡ product x y
+  unfolding product
+  product_wraps = wrapping_mul_is w32 x y f g ∙ wraps_alike (x *ℤ y)
+
+pub negation_wraps : (x : ℤ) → SFits w32 x → int_wrapping_neg w32 x ≡ negation x
+unfolding negation
+negation_wraps x f = wrapping_neg_is w32 x f ∙ wraps_alike (neg_ℤ x)
+
+-- ---- differences
 
 -- a difference is the sum with the negation
 pub difference_sum : (x y : ℤ) → difference x y ≡ sum x (negation y)
@@ -185,10 +197,6 @@ difference_sum x y = ap wrap (+ℤ_comm x (neg_ℤ y)) ∙ sym (wrap_sum_l (neg_
 
 pub sum_difference : (x y z : ℤ) → difference (sum x y) z ≡ sum x (difference y z)
 sum_difference x y z = difference_sum (sum x y) z ∙ sum_assoc x y (negation z) ∙ ap (sum x) (sym (difference_sum y z))
-
-pub product_words : (x y : ℤ) {a b u : ℕ} → a ≡ word x → b ≡ word y → u ≡ a * b % 2 ^ 32 → value u ≡ product x y
-unfolding product wrap
-product_words x y p q e = ap value (e ∙ (λ i. p i * q i % 2 ^ 32) ∙ sym (word_product x y))
 
 pub difference_fits : (x y : ℤ) → SFits w32 (difference x y)
 unfolding difference
@@ -204,13 +212,6 @@ negation_fits x = wrap_fits (neg_ℤ x)
 
 pub landed : {w : Width} {r z : ℤ} → r ≡ z → SFits w z → to_z w (of_z w r) ≡ z
 landed {w} {r} {z} e f = ap (λ (v : ℤ). to_z w (of_z w v)) e ∙ to_z-of_z w z f
-
-pub words_fit : {a b : ℕ} → a < 2 ^ 32 → b < 2 ^ 32 → a * b < 2 ^ 64
-words_fit {a} {b} h k = lt_of_le_of_lt (mul-le-mul (le-pred_of_lt h) (le-pred_of_lt k)) (lit< tt)
-
--- a signed number that is passed on, as the callee's contract sees it
-pub seen : {z : ℤ} → SFits w32 z → word (to_z w32 (of_z w32 z)) ≡ word z
-seen {z} f = ap word (to_z-of_z w32 z f)
 
 -- the conversions are inverse: `word_value`, and
 pub value_word : (z : ℤ) → SFits w32 z → value (word z) ≡ z

@@ -1,8 +1,6 @@
 -- RULES 2.1 to 2.4 (document 01, Integers; document 02, Points 2, 4 and 6). A cell's value is a number of ℤ from -2^31 to 2^31 - 1. Each operation is
 -- done on ℤ and its result wrapped, so that "wrap at 32 bits" is said once; `/` goes by cases instead. Assumes nothing.
-use Rattle.std.specs.Prelude.{ℕ, suc, ◌+◌, ◌-◌, ◌/◌, ◌%◌, ◌^◌, min, max, Bool, false, cond, not, ℤ, pos, negsuc, ◌+ℤ◌, ◌-ℤ◌, ◌*ℤ◌, neg_ℤ, ◌==◌, int_le, int_lt, nat_lt}
-use Rattle.int32.specs.declared.Divided.{Divided}
-use Rattle.int32.specs.declared.Divided.TheVariants.{Value, ByZero}
+use Rattle.std.specs.Prelude.{ℕ, suc, ◌+◌, ◌-◌, ◌/◌, ◌%◌, ◌^◌, min, max, Bool, false, cond, not, ℤ, pos, negsuc, ◌+ℤ◌, ◌-ℤ◌, ◌*ℤ◌, neg_ℤ, ◌==◌, int_le, int_lt, nat_lt, Option, Some, None}
 use Rattle.int32.specs.declared.Relation.{Relation}
 use Rattle.int32.specs.declared.Relation.TheVariants.{Equal, Unequal, Less, AtMost, Greater, AtLeast}
 
@@ -96,8 +94,8 @@ unfoldable pub rdiv : ℤ → ℤ → ℤ
 rdiv x y = wrap (by_signs nearest x y)
 
 -- "a divisor against zero": a division by f has a value unless the divisor is 0
-unfoldable pub divided : (ℤ → ℤ → ℤ) → ℤ → ℤ → Divided
-divided f x y = cond (same y (pos 0)) ByZero (Value (f x y))
+unfoldable pub divided : (ℤ → ℤ → ℤ) → ℤ → ℤ → Option ℤ
+divided f x y = cond (same y (pos 0)) None (Some (f x y))
 
 -- "rel is ==, /=, <, <=, > or >="
 unfoldable pub related : Relation → ℤ → ℤ → Bool

@@ -1,4 +1,3 @@
--- Bytes of lines, how each kind begins, and the order of lines.
+-- Bytes of lines, and how each kind begins.
 pub mod WholeLines
 pub mod Starts
-pub mod Order

@@ -7,15 +7,16 @@ use native.Mathlib.Omega.{arith}
 use lib.Dec.{eqb}
 use lib.ListN.{length, take, drop, drop_of_length-le}
 use lib.Seq.{drop-drop}
-use mathlib.Core.Option.{Option}
+use mathlib.Core.Option.{Option as Maybe}
+use Rattle.std.specs.Prelude.{Option, None, Some}
 use Rattle.syntax.specs.Bytes.{choose, same, bytes, Token, tokens, tokens_after, bytes_of}
 use Rattle.syntax.specs.Grammar.{number}
 use Rattle.syntax.specs.Reader.{broken, done, kind, text, first, rest, read_digits, peek_in, skip_in}
 use Rattle.syntax.proofs.Places.{peek_tokens, skip_tokens}
 use Rattle.lexer.specs.declared.Tok.{Tok}
 use Rattle.lexer.specs.Lex.{part, kind_number, Lexed}
-use Rattle.lexer.specs.Places.{Lands, Goes, Any, passes}
-use Rattle.lexer.proofs.PlaceLaws.{pass_onward}
+use Rattle.lexer.specs.Places.{Lands, Any, passes, NotRead, ReadTo}
+use Rattle.lexer.proofs.InTurn.{goes_to, goes_not, stands, stands_not, stands_onward}
 use Rattle.printed.specs.Form.{after_blanks}
 use Rattle.writing.specs.declared.Moved.{Moved}
 use Rattle.writing.specs.Written.{Writes, Fits, told, blanked, Moves}
@@ -58,56 +59,72 @@ two_rests [] = refl
 two_rests (t ∷ []) = refl
 two_rests (t ∷ u ∷ ts) = refl
 
-module _ (s : List ℕ) (at : ℕ) (r : Repeat) where
-  pub no_repeat : (d : Bool) → d ≡ false → length s < r.next → Repeats d s at r
+module _ (s : List ℕ) (at : ℕ) where
+  pub no_repeat : (d : Bool) → d ≡ false → Repeats d s at None
   unfolding repeats
-  no_repeat d e h = subst (λ (b : Bool). Repeats b s at r) (sym e) h
+  no_repeat d e = subst (λ (b : Bool). Repeats b s at None) (sym e) tt
 
   -- by the digits that stand there, and by what comes after them
-  module _ (m : ℕ) (d : Goes (λ w. r.copies ≡ min (number w) 2147483648) s at (read_digits peek_in skip_in) m) (p : Goes Any s m (passes (bytes "*")) r.next)
-      (b : at ≤ length s) where
-    by_tests : (x y : Bool) → eqb (kind (peek_in (drop at s))) 3 ≡ x → same (bytes "*") (text (first (rest (tokens (drop at s))))) ≡ y → Starred (x && y) s at r
-        → Repeats true s at r
-    unfolding repeats
-    by_tests x y e f h =
-        subst (λ (c : Bool). Starred c s at r) (λ i. sym (ap (λ (o : Option Token). eqb (kind o) 3) (sym (peek_tokens (drop at s))) ∙ e) i && sym f i) h
+  by_tests : (o : Option Repeat) (x y : Bool) → eqb (kind (peek_in (drop at s))) 3 ≡ x → same (bytes "*") (text (first (rest (tokens (drop at s))))) ≡ y
+      → Starred (x && y) s at o
+      → Repeats true s at o
+  unfolding repeats
+  by_tests o x y e f h =
+      subst (λ (c : Bool). Starred c s at o) (λ i. sym (ap (λ (t : Maybe Token). eqb (kind t) 3) (sym (peek_tokens (drop at s))) ∙ e) i && sym f i) h
 
-    -- digits, which end at m
-    module _ (e : eqb (kind (peek_in (drop at s))) 3 ≡ true) (k : skip_in (drop at s) ≡ drop m s) (w : m ≤ length s)
-        (n : r.copies ≡ min (number (text (peek_in (drop at s)))) 2147483648) where
-      then : tokens (drop m s) ≡ rest (tokens (drop at s))
-      then = ap tokens (sym k) ∙ skip_tokens (drop at s)
+  -- no digits
+  pub no_digits : NotRead s at (read_digits peek_in skip_in) → at ≤ length s → (x : Bool) → x ≡ true → Repeats x s at None
+  no_digits g b x e = subst (λ (c : Bool). Repeats c s at None) (sym e) (go _ refl ((goes_not {P = Any} g).lands b))
+    where
+      go : (y : Bool) → eqb (kind (peek_in (drop at s))) 3 ≡ y
+          → Lands Any s (cond y (done (text (peek_in (drop at s))) (skip_in (drop at s))) broken) (length s + 1) → Repeats true s at None
+      go true f l = absurd (omega (arith, l.1))
+      go false f l = by_tests None false _ f refl tt
 
-      star : (y : Bool) → same (bytes "*") (text (peek_in (drop m s))) ≡ y → same (bytes "*") (text (first (rest (tokens (drop at s))))) ≡ y
-      star y h = ap (λ (o : Option Token). same (bytes "*") (text o)) (ap first (sym then) ∙ sym (peek_tokens (drop m s))) ∙ h
+  -- digits, which end at m
+  module _ {m n : ℕ} (d : ReadTo (λ w. n ≡ min (number w) 2147483648) s at (read_digits peek_in skip_in) m) (x : Bool) (b : x ≡ true) where
+    by_digits : (o : Option Repeat)
+        → (eqb (kind (peek_in (drop at s))) 3 ≡ true → skip_in (drop at s) ≡ drop m s → n ≡ min (number (text (peek_in (drop at s)))) 2147483648
+        → Repeats true s at o) → Repeats x s at o
+    by_digits o f = subst (λ (c : Bool). Repeats c s at o) (sym b) (go _ refl ((goes_to d).lands (omega (arith, d.from, d.within))))
+      where
+        go : (y : Bool) → eqb (kind (peek_in (drop at s))) 3 ≡ y
+            → Lands (λ w. n ≡ min (number w) 2147483648) s (cond y (done (text (peek_in (drop at s))) (skip_in (drop at s))) broken) m → Repeats true s at o
+        go true e l = f e l.0 l.2
+        go false e l = absurd (omega (arith, l, d.within))
 
-      by_star : (y : Bool) → same (bytes "*") (text (peek_in (drop m s))) ≡ y
-          → Lands {A = Unit {0}} Any s (cond y (done tt (skip_in (drop m s))) broken) r.next → Repeats true s at r
-      by_star true h l =
-          by_tests true true e (star true h) (
-            l.1,
-            omega (arith, d.from b, pass_onward s (bytes "*") m r.next p (omega arith) w l.1),
-            ap tokens (sym l.0) ∙ skip_tokens (drop m s) ∙ ap rest then ∙ two_rests (tokens (drop at s)),
-            n ∙ ap (λ (o : Option Token). min (number (text o)) 2147483648) (peek_tokens (drop at s)),
-          )
-      by_star false h l = by_tests true false e (star false h) (omega (arith, l))
+    after_digits : skip_in (drop at s) ≡ drop m s → tokens (drop m s) ≡ rest (tokens (drop at s))
+    after_digits k = ap tokens (sym k) ∙ skip_tokens (drop at s)
 
-    by_digits : (x : Bool) → eqb (kind (peek_in (drop at s))) 3 ≡ x
-        → Lands (λ w. r.copies ≡ min (number w) 2147483648) s (cond x (done (text (peek_in (drop at s))) (skip_in (drop at s))) broken) m → Repeats true s at r
-    by_digits true e l = by_star e l.0 l.1 l.2 _ refl (p.lands l.1)
-    by_digits false e l = by_tests false _ e refl (omega (arith, p.lost (omega (arith, l))))
+    star : skip_in (drop at s) ≡ drop m s → (y : Bool) → same (bytes "*") (text (peek_in (drop m s))) ≡ y
+        → same (bytes "*") (text (first (rest (tokens (drop at s))))) ≡ y
+    star k y h = ap (λ (t : Maybe Token). same (bytes "*") (text t)) (ap first (sym (after_digits k)) ∙ sym (peek_tokens (drop m s))) ∙ h
 
-    pub repeat_found : (x : Bool) → x ≡ true → Repeats x s at r
-    repeat_found x e = subst (λ (c : Bool). Repeats c s at r) (sym e) (by_digits _ refl (d.lands b))
+    pub no_star : NotRead s m (passes (bytes "*")) → Repeats x s at None
+    no_star p = by_digits None (λ e k q. by_tests None true false e (star k false (stands_not (bytes "*") p d.within)) tt)
+
+    pub star_found : {r : ℕ} → ReadTo Any s m (passes (bytes "*")) r → Repeats x s at (Some (record { next = r; copies = n }))
+    star_found {r} p = by_digits (Some (record { next = r; copies = n })) (λ e k q.
+        let (z, w) = stands (bytes "*") p in
+        by_tests (Some (record { next = r; copies = n })) true true e (star k true z) (
+          p.within,
+          omega (arith, d.from, stands_onward (bytes "*") p (omega arith)),
+          ap tokens (sym w) ∙ skip_tokens (drop m s) ∙ ap rest (after_digits k) ∙ two_rests (tokens (drop at s)),
+          q ∙ ap (λ (t : Maybe Token). min (number (text t)) 2147483648) (peek_tokens (drop at s)),
+        ))
 
   -- the copies that the code counts are those that are written, where they fit
-  module _ (data? : Bool) (h : Repeats data? s at r) (q : r.next ≤ length s) where
-    starred : (c : Bool) → repeats data? (tokens (drop at s)) ≡ c → Starred c s at r → (repeats data? (tokens (drop at s)) ≡ true) × Starred true s at r
+  module _ (r : Repeat) (data? : Bool) (h : Repeats data? s at (Some r)) where
+    starred : (c : Bool) → repeats data? (tokens (drop at s)) ≡ c → Starred c s at (Some r)
+        → (repeats data? (tokens (drop at s)) ≡ true) × Starred true s at (Some r)
     starred true e l = (e, l)
-    starred false e l = absurd (omega (arith, l))
+    starred false e l = absurd l
 
-    found : (repeats data? (tokens (drop at s)) ≡ true) × Starred true s at r
+    found : (repeats data? (tokens (drop at s)) ≡ true) × Starred true s at (Some r)
     found = starred _ refl h
+
+    pub found_within : r.next ≤ length s
+    found_within = found.1.0
 
     found_copies : (to : ℕ) → Fits to (blanked (front data? (tokens (drop at s)))) → r.copies ≡ number (text (first (tokens (drop at s))))
     unfolding front
@@ -145,9 +162,9 @@ module _ (s : List ℕ) (at : ℕ) (r : Repeat) where
         }
 
   -- or no `r*` stands there, and the next token comes
-  module _ (data? : Bool) (h : Repeats data? s at r) (q : length s < r.next) where
-    unstarred : (c : Bool) → repeats data? (tokens (drop at s)) ≡ c → Starred c s at r → repeats data? (tokens (drop at s)) ≡ false
-    unstarred true e l = absurd (omega (arith, l.0))
+  module _ (data? : Bool) (h : Repeats data? s at None) where
+    unstarred : (c : Bool) → repeats data? (tokens (drop at s)) ≡ c → Starred c s at None → repeats data? (tokens (drop at s)) ≡ false
+    unstarred true e l = absurd l
     unstarred false e l = e
 
     plain_front : front data? (tokens (drop at s)) ≡ take 1 (tokens (drop at s))

@@ -1,6 +1,6 @@
 -- The tokens of a line as they are printed: in a data line `r*` before an item is r copies of it. Nothing here has to be believed: of an accepted text's
 -- lines it comes to what Rattle.printed.specs.Form says (proofs/Data.antt).
-use Rattle.std.specs.Prelude.{◌≡◌, Bool, true, false, cond, ◌&&◌, List, [], ◌∷◌, ◌++◌, ℕ, zero, suc, ◌-◌, ◌≤◌, ◌<◌, min, eqb, length, take, drop}
+use Rattle.std.specs.Prelude.{◌≡◌, Bool, true, false, cond, ◌&&◌, List, [], ◌∷◌, ◌++◌, ℕ, zero, suc, ◌-◌, ◌≤◌, ◌<◌, min, eqb, length, take, drop, Option, None, Some}
 use Rattle.std.proofs.Math.Option.{some}
 use Rattle.syntax.specs.Bytes.{choose, same, bytes, Token, tokens}
 use Rattle.syntax.specs.Grammar.{number, sg}
@@ -79,11 +79,13 @@ unfoldable pub line_bytes : Bool → List Token → List ℕ
 line_bytes data? ts = (told (kind (first ts)) (text (first ts)) ++ blanked (spread data? (rest ts))) ++ (10 ∷ [])
 
 -- what the code finds of `r*` at a place of a line
-abbrev pub Starred : Bool → List ℕ → ℕ → Repeat → Type 0
-Starred true s at r =
+abbrev pub Starred : Bool → List ℕ → ℕ → Option Repeat → Type 0
+Starred true s at None = ⊥
+Starred true s at (Some r) =
     (r.next ≤ length s) × (at < r.next) × (tokens (drop r.next s) ≡ drop 2 (tokens (drop at s)))
     × (r.copies ≡ min (number (text (first (tokens (drop at s))))) 2147483648)
-Starred false s at r = length s < r.next
+Starred false s at None = Unit {0}
+Starred false s at (Some r) = ⊥
 
-abbrev pub Repeats : Bool → List ℕ → ℕ → Repeat → Type 0
+abbrev pub Repeats : Bool → List ℕ → ℕ → Option Repeat → Type 0
 Repeats data? s at r = Starred (repeats data? (tokens (drop at s))) s at r

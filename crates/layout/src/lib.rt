@@ -6,14 +6,14 @@ ghost use Rattle.syntax.specs.Bytes.{tokens};
 ghost use Rattle.writing.specs.Written.{Fits, Writes, blanked, Moves};
 ghost use Rattle.layout.specs.Copied.{after_signed, listed, literal_bytes, Within, Stands, comma_bytes, Repeats, front, back, spread, line_bytes};
 
-use lexer::{Kind, digits, pass, same_kind, token};
+use lexer::{Kind, digits, pass, token};
 use writing::{Moved, put, put_bytes, put_next, put_span, start_of};
 
 // ---- copies
 
 // Where a literal with an optional sign stands: its first token from `first` up to `stop`, and its second, if any, from `second` up to `next`, without
 // leading zeros.
-#[derive(Clone, Copy)]
+#[derive(Clone, Copy, Debug, PartialEq, Eq)]
 pub struct Literal {
     pub first: usize,
     pub stop: usize,
@@ -27,25 +27,21 @@ fn literal_at(s: &[u8], at: usize) -> Literal
     ensures { Stands s.now at result }
 {
     let t = token(s, at);
-    let k = t.kind;
-    let e = t.stop;
-    let a = start_of(s, t);
-    if same_kind(k, Kind::Digits) {
+    let first = start_of(s, t);
+    if t.kind == Kind::Digits {
         return Literal {
-            first: a,
-            stop: e,
-            second: e,
-            next: e,
+            first,
+            stop: t.stop,
+            second: t.stop,
+            next: t.stop,
         };
     }
-    let u = token(s, e);
-    let f = u.stop;
-    let b = start_of(s, u);
+    let u = token(s, t.stop);
     Literal {
-        first: a,
-        stop: e,
-        second: b,
-        next: f,
+        first,
+        stop: t.stop,
+        second: start_of(s, u),
+        next: u.stop,
     }
 }
 
@@ -73,10 +69,8 @@ fn put_commas(out: &mut [u8], to: usize, s: &[u8], l: Literal, copies: u32) -> u
     ensures { Writes out.old to (comma_bytes (copies - 1) (literal_bytes s.now l)) out.new result }
 {
     let mut p = to;
-    let mut k = 1;
-    while k < copies {
+    for _copy in 1..copies {
         p = put_after_comma(out, p, s, l);
-        k += 1;
     }
     p
 }
@@ -87,78 +81,67 @@ fn put_copies(out: &mut [u8], to: usize, s: &[u8], at: usize, copies: u32) -> Mo
     ensures { Moves out.old to s.now at (listed copies) after_signed out.new result }
 {
     let l = literal_at(s, at);
-    let next = l.next;
     let p = put_literal(out, to, s, l);
     Moved {
         to: put_commas(out, p, s, l, copies),
-        at: next,
+        at: l.next,
     }
 }
 
 // ---- the tokens of a line
 
-// `r*` of a data line: the place after it, past the line's end where none stands, and r up to 2^31.
-#[derive(Clone, Copy)]
+// `r*` of a data line: the place after it, and r up to 2^31.
+#[derive(Clone, Copy, Debug, PartialEq, Eq)]
 pub struct Repeat {
     pub next: usize,
     pub copies: u32,
 }
 
-// Free: `copies` where none stands.
-fn repeat_at(s: &[u8], at: usize, copying: bool) -> Repeat
-    requires { (length s.now ≤ 2048) × (at ≤ length s.now) }
+fn repeat_at(s: &[u8], at: usize, copying: bool) -> Option<Repeat>
+    requires { at ≤ length s.now }
     ensures { Repeats copying s.now at result }
 {
     if !copying {
-        return Repeat {
-            next: s.len() + 1,
-            copies: 0,
-        };
+        return None;
     }
-    let d = digits(s, at);
-    let next = pass(s, d.next, b"*");
-    Repeat {
+    let d = digits(s, at)?;
+    let next = pass(s, d.next, b"*")?;
+    Some(Repeat {
         next,
         copies: d.number,
-    }
+    })
 }
 
 // The next token, or all copies of an item.
 fn put_part(out: &mut [u8], to: usize, s: &[u8], at: usize, copying: bool) -> Moved
-    requires { (length s.now ≤ 2048) × (at ≤ length s.now) × Fits to (blanked (front copying (tokens (drop at s.now)))) }
+    requires { (at ≤ length s.now) × Fits to (blanked (front copying (tokens (drop at s.now)))) }
     ensures { Moves out.old to s.now at (front copying) (back copying) out.new result }
 {
-    let r = repeat_at(s, at, copying);
-    if r.next <= s.len() {
-        return put_copies(out, to, s, r.next, r.copies);
+    match repeat_at(s, at, copying) {
+        Some(r) => put_copies(out, to, s, r.next, r.copies),
+        None => put_next(out, to, s, at),
     }
-    put_next(out, to, s, at)
 }
 
 // All tokens from a place on.
 fn put_rest(out: &mut [u8], to: usize, s: &[u8], at: usize, copying: bool) -> usize
-    requires { (length s.now ≤ 2048) × (at ≤ length s.now) × Fits to (blanked (spread copying (tokens (drop at s.now)))) }
+    requires { (at ≤ length s.now) × Fits to (blanked (spread copying (tokens (drop at s.now)))) }
     ensures { Writes out.old to (blanked (spread copying (tokens (drop at s.now)))) out.new result }
 {
-    let mut p = to;
-    let mut i = at;
-    while i < s.len() {
-        let m = put_part(out, p, s, i, copying);
-        p = m.to;
-        i = m.at;
+    let mut m = Moved { to, at };
+    while m.at < s.len() {
+        m = put_part(out, m.to, s, m.at, copying);
     }
-    p
+    m.to
 }
 
 // A line that is printed with its own tokens, or with the copies of its items.
 pub fn put_line(out: &mut [u8], to: usize, s: &[u8], copying: bool) -> usize
-    requires { (length s.now ≤ 2048) × Fits to (line_bytes copying (tokens s.now)) }
+    requires { Fits to (line_bytes copying (tokens s.now)) }
     ensures { Writes out.old to (line_bytes copying (tokens s.now)) out.new result }
 {
     let t = token(s, 0);
-    let next = t.stop;
-    let a = start_of(s, t);
-    let p = put_bytes(out, to, &s[a..next]);
-    let q = put_rest(out, p, s, next, copying);
+    let p = put_bytes(out, to, &s[start_of(s, t)..t.stop]);
+    let q = put_rest(out, p, s, t.stop, copying);
     put(out, q, b'\n')
 }

@@ -5,11 +5,12 @@ use mathlib.Core.List.{List, [], ◌∷◌, ◌++◌, map, map-append}
 use Prim.Native.Nat.{ℕ, suc, ◌+◌, ◌-◌, ◌*◌, ◌≤◌, ◌<◌}
 use native.Mathlib.Numerals.{add-one}
 use native.Mathlib.Omega.{arith}
-use borrow.Author.Tests.{eq-eqb, ne_eqb}
 use lib.Dec.{eqb}
-use lib.ListN.{length, get_or, set, take, drop, drop_of_length-le, length-map, length-drop}
-use lib.Seq.{sets, drop-cons, take-suc, length-take-le, get_or-drop}
-use Rattle.syntax.specs.Bytes.{choose, run, same, starts}
+use lib.Pointwise.{pointwise}
+use lib.ListN.{length, get_or, set, take, drop, drop_of_length-le, length-map}
+use lib.Seq.{sets, drop-cons, take-suc, length-take-le}
+use Rattle.std.specs.Char.{to_ascii_lowercase}
+use Rattle.syntax.specs.Bytes.{choose, run, any, same, lower}
 use Rattle.syntax.specs.Grammar.{number, number_from}
 use Rattle.lexer.specs.Lex.{part}
 
@@ -47,33 +48,6 @@ same_lengths (x ∷ a) (y ∷ b) n = go (eqb x y) (same_lengths a b (λ e. n (ap
     go true h = h
     go false h = refl
 
-module _ (a b : List ℕ) (i : ℕ) (h : i < length a) (k : i < length b) where
-  heads : same (drop i a) (drop i b) ≡ eqb (get_or a i 0) (get_or b i 0) && same (drop (suc i) a) (drop (suc i) b)
-  heads = λ j. same (drop-cons a i 0 h j) (drop-cons b i 0 k j)
-
-  pub same_on : get_or a i 0 ≡ get_or b i 0 → same (drop i a) (drop i b) ≡ same (drop (i + 1) a) (drop (i + 1) b)
-  same_on e = rw add-one (heads ∙ ap (λ (c : Bool). c && same (drop (suc i) a) (drop (suc i) b)) (eq-eqb (get_or a i 0) (get_or b i 0) e))
-
-  pub same_off : (get_or a i 0 ≡ get_or b i 0 → ⊥) → same (drop i a) (drop i b) ≡ false
-  same_off n = heads ∙ ap (λ (c : Bool). c && same (drop (suc i) a) (drop (suc i) b)) (ne_eqb (get_or a i 0) (get_or b i 0) n)
-
-pub same_out : (a b : List ℕ) (i : ℕ) → length a ≡ length b → length a ≤ i → same (drop i a) (drop i b) ≡ true
-same_out a b i e h = λ j. same (drop_of_length-le a h j) (drop_of_length-le b {i = i} (omega arith) j)
-
-pub starts_same : (w s : List ℕ) → length w ≤ length s → starts w s ≡ same w (take (length w) s)
-starts_same [] s h = refl
-starts_same (x ∷ w) [] h = absurd (omega arith)
-starts_same (x ∷ w) (b ∷ s) h = ap (λ (c : Bool). eqb x b && c) (starts_same w s (omega arith))
-
-pub starts_short : (w s : List ℕ) → length s < length w → starts w s ≡ false
-starts_short [] s h = absurd (omega arith)
-starts_short (x ∷ w) [] h = refl
-starts_short (x ∷ w) (b ∷ s) h = go (eqb x b) (starts_short w s (omega arith))
-  where
-    go : (c : Bool) → starts w s ≡ false → c && starts w s ≡ false
-    go true h = h
-    go false h = refl
-
 -- ---- stores
 
 pub sets_append : {A : Type 0} (l : List A) (i : ℕ) (vs ws : List A) → sets (sets l i vs) (i + length vs) ws ≡ sets l i (vs ++ ws)
@@ -102,33 +76,43 @@ part_cons s a e h k =
     let n : e - a ≡ suc (e - (a + 1)) = omega arith in
     (λ j. take (n j) (drop-cons s a 0 (omega arith) j)) ∙ ap (λ (q : ℕ). get_or s a 0 ∷ take (e - (a + 1)) (drop q s)) (sym (add-one a))
 
-pub part_snoc : (s : List ℕ) (a i : ℕ) → a ≤ i → i < length s → part s a (i + 1) ≡ part s a i ++ (get_or s i 0 ∷ [])
-part_snoc s a i h k =
-    let e : i + 1 - a ≡ suc (i - a) = omega arith in
-    let f : a + (i - a) ≡ i = omega arith in
-    ap (λ (n : ℕ). take n (drop a s)) e ∙ take-suc (drop a s) (i - a) 0 (omega (arith, length-drop a s))
-    ∙ ap (λ (x : ℕ). part s a i ++ (x ∷ [])) (get_or-drop a s (i - a) 0 ∙ ap (λ (n : ℕ). get_or s n 0) f)
-
 number_snoc : (n : ℕ) (ds : List ℕ) (d : ℕ) → number_from n (ds ++ (d ∷ [])) ≡ 10 * number_from n ds + (d - 48)
 unfolding number_from
 number_snoc n [] d = refl
 number_snoc n (x ∷ ds) d = number_snoc (10 * n + (x - 48)) ds d
 
 -- a digit more
-pub number_part : (s : List ℕ) (a i : ℕ) → a ≤ i → i < length s → number (part s a (i + 1)) ≡ 10 * number (part s a i) + (get_or s i 0 - 48)
-number_part s a i h k = ap number (part_snoc s a i h k) ∙ number_snoc 0 (part s a i) (get_or s i 0)
+pub number_take : (w : List ℕ) (i : ℕ) → i < length w → number (take (i + 1) w) ≡ 10 * number (take i w) + (get_or w i 0 - 48)
+number_take w i h =
+    ap (λ (n : ℕ). number (take n w)) (add-one i) ∙ ap number (take-suc w i 0 h) ∙ number_snoc 0 (take i w) (get_or w i 0)
 
--- ---- tests one after another
+-- ---- bytes
+
+-- a word among others, by `==` from them to it
+-- `==` at two strings of bytes
+pub same_is : (w y : List ℕ) → pointwise eqb w y ≡ same w y
+same_is [] [] = refl
+same_is [] (b ∷ y) = refl
+same_is (a ∷ w) [] = refl
+same_is (a ∷ w) (b ∷ y) = ap (λ (c : Bool). eqb a b && c) (same_is w y)
+
+eqb_swap : (a b : ℕ) → eqb a b ≡ eqb b a
+eqb_swap a b = grind arith
+
+same_of : (w y : List ℕ) → pointwise eqb y w ≡ same w y
+same_of [] [] = refl
+same_of [] (b ∷ y) = refl
+same_of (a ∷ w) [] = refl
+same_of (a ∷ w) (b ∷ y) = λ i. eqb_swap b a i && same_of w y i
+
+pub any_word : (w : List ℕ) (ws : List (List ℕ)) → any (λ y. pointwise eqb y w) ws ≡ any (same w) ws
+any_word w [] = refl
+any_word w (y ∷ ws) = λ i. same_of w y i || any_word w ws i
+
+pub lower_is : (b : ℕ) → to_ascii_lowercase b ≡ lower b
+lower_is b = grind arith
+
+-- ---- a test before another
 
 pub or_yes : {a : Bool} (b : Bool) → a ≡ true → a || b ≡ true
 or_yes b e = ap (λ (a : Bool). a || b) e
-
-pub or_no : {a b x : Bool} → a ≡ false → b ≡ x → a || b ≡ x
-or_no {b} e h = ap (λ (a : Bool). a || b) e ∙ h
-
-pub or_last : {a x : Bool} → a ≡ x → a || false ≡ x
-or_last {a} {x} e = ap (λ (a : Bool). a || false) e ∙ go x
-  where
-    go : (x : Bool) → x || false ≡ x
-    go true = refl
-    go false = refl

@@ -5,3 +5,5 @@ pub mod Signs
 pub mod Said
 pub mod PlaceLaws
 pub mod Chains
+pub mod InTurn
+pub mod SameKind

@@ -10,12 +10,11 @@ use lib.ListN.{length, drop, length-drop}
 use Rattle.syntax.specs.Bytes.{choose, same, bytes, token_size, trimmed}
 use Rattle.syntax.proofs.Places.{size_one}
 use Rattle.syntax.proofs.Spelling.{same_true}
-use borrow.Author.Tests.{eq-eqb, ne_eqb}
 use lib.Dec.{eqb}
 use Rattle.syntax.specs.Grammar.{Lead, bare, plus, minus}
-use Rattle.syntax.specs.Reader.{Parsed, broken, done, Reader, next, kind, text, expects, wants, read_lead, token_in, after_in, peek_in, skip_in}
+use Rattle.syntax.specs.Reader.{Parsed, broken, done, Reader, next, text, expects, wants, read_lead, token_in, after_in, peek_in, skip_in}
 use Rattle.lexer.specs.declared.Tok.{Tok}
-use Rattle.lexer.specs.Lex.{part, kind_number, Lexed}
+use Rattle.lexer.specs.Lex.{kind_number, Lexed}
 use Rattle.lexer.specs.Places.{Lands, Goes, Any, passes, Spells}
 use Rattle.lexer.proofs.Said.{signed, lettered, sign_text, word_text, name_short}
 
@@ -91,17 +90,6 @@ expects_passes t h u = ap (λ (b : Bool). cond b (done tt (skip_in u)) broken) (
 pub wants_passes : (t : String) → lettered (bytes t) ≡ true → (u : List ℕ) → wants peek_in skip_in t u ≡ passes (bytes t) u
 wants_passes t h u = ap (λ (b : Bool). cond b (done tt (skip_in u)) broken) (word_text (bytes t) h u)
 
--- the token at a place has the bytes w, or not
-module _ {s : List ℕ} {at : ℕ} {t : Tok} (l : Lexed s at t) (w : List ℕ) where
-  pub passes_there : same w (part s t.start t.stop) ≡ true → Lands Any s (passes w (drop at s)) t.stop
-  passes_there h =
-      subst (λ (p : Parsed (List ℕ) (Unit {0})). Lands Any s p t.stop)
-      (sym (ap (λ (b : Bool). cond b (done tt (skip_in (drop at s))) broken) (ap (same w) l.bytes ∙ h))) (l.next, l.within, tt)
-
-  pub passes_other : same w (part s t.start t.stop) ≡ false → Lands Any s (passes w (drop at s)) (length s + 1)
-  passes_other h = subst (λ (p : Parsed (List ℕ) (Unit {0})). Lands Any s p (length s + 1))
-      (sym (ap (λ (b : Bool). cond b (done tt (skip_in (drop at s))) broken) (ap (same w) l.bytes ∙ h))) refl
-
 -- ---- where a token stands or not
 
 module _ (s w : List ℕ) (at r : ℕ) (g : Goes Any s at (passes w) r) (b : at ≤ length s) where
@@ -145,25 +133,7 @@ pass_onward s w at r g h b k =
     let q = ap length (same_true w (text (peek_in (drop at s))) e) in
     omega (arith, skip_shorter (drop at s) (omega (arith, q)), ap length n, length-drop at s, length-drop r s)
 
--- ---- a name, digits, a sign
-
--- a token of kind k, and what is read of it
-module _ {s : List ℕ} {at : ℕ} {t : Tok} (l : Lexed s at t) (k : ℕ) (P : List ℕ → Type 0) where
-  abbrev reads_kind : List ℕ → Parsed (List ℕ) (List ℕ)
-  reads_kind u = cond (eqb (kind (peek_in u)) k) (done (text (peek_in u)) (skip_in u)) broken
-
-  pub kind_there : kind_number t.kind ≡ k → P (text (peek_in (drop at s))) → Lands P s (reads_kind (drop at s)) t.stop
-  kind_there e p =
-      subst (λ (x : Parsed (List ℕ) (List ℕ)). Lands P s x t.stop)
-      (sym (ap (λ (b : Bool). cond b (done (text (peek_in (drop at s))) (skip_in (drop at s))) broken) (eq-eqb _ k (l.kinds ∙ e))))
-      (l.next, l.within, p)
-
-  pub kind_other : (kind_number t.kind ≡ k → ⊥) → Lands P s (reads_kind (drop at s)) (length s + 1)
-  kind_other n =
-      subst (λ (x : Parsed (List ℕ) (List ℕ)). Lands P s x (length s + 1))
-      (sym (ap (λ (b : Bool). cond b (done (text (peek_in (drop at s))) (skip_in (drop at s))) broken)
-      (ne_eqb _ k (λ (e : kind (peek_in (drop at s)) ≡ k). n (sym l.kinds ∙ e)))))
-      refl
+-- ---- a name, a sign
 
 pub spells : {s : List ℕ} {at : ℕ} {t : Tok} → Lexed s at t → kind_number t.kind ≡ 1
     → Spells s (record { next = t.stop; start = t.start }) (text (peek_in (drop at s)))
@@ -187,10 +157,6 @@ module _ (s : List ℕ) (at : ℕ) (b : at ≤ length s) (P : Lead → Type 0) w
   pub lead_minus : (q r : ℕ) → Goes Any s at (passes (bytes "+")) q → length s < q → Goes Any s at (passes (bytes "-")) r → r ≤ length s → P minus
       → Lands P s (read_lead peek_in skip_in (drop at s)) r
   lead_minus q r f l g h p = let (e, n) = pass_there s (bytes "-") at r g b h in to false true (pass_not s (bytes "+") at q f b l) e r (n, h, p)
-
-  pub lead_bare : (q r : ℕ) → Goes Any s at (passes (bytes "+")) q → length s < q → Goes Any s at (passes (bytes "-")) r → length s < r → P bare
-      → Lands P s (read_lead peek_in skip_in (drop at s)) at
-  lead_bare q r f l g h p = to false false (pass_not s (bytes "+") at q f b l) (pass_not s (bytes "-") at r g b h) at (refl, b, p)
 
 -- a sign that ends what is read
 pub lands_expect : {B : Type 0} (Q : B → Type 0) (s : List ℕ) (t : String) → signed (bytes t) ≡ true → (m c : ℕ) → Goes Any s m (passes (bytes t)) c

@@ -12,25 +12,24 @@ use Rattle.syntax.specs.Bytes.{choose, letter, digit, in_word, run, token_size, 
 use Rattle.syntax.specs.Reader.{kind, text, peek_in, skip_in, token_in, after_in}
 use Rattle.syntax.proofs.Places.{token_bytes}
 use Rattle.lexer.proofs.Laws.{part_none}
-use Rattle.lexer.specs.declared.Run.TheVariants.{Blank}
 use Rattle.lexer.specs.declared.Kind.{Kind}
 use Rattle.lexer.specs.declared.Kind.TheVariants.{End}
-use Rattle.lexer.specs.Lex.{goes, part, kind_number, Lexed}
+use Rattle.lexer.specs.Lex.{blank, part, kind_number, Lexed}
 
-pub trimmed_run : (l : List ℕ) → trimmed l ≡ drop (run (goes Blank) l) l
-unfolding trimmed run goes
+pub trimmed_run : (l : List ℕ) → trimmed l ≡ drop (run blank l) l
+unfolding trimmed run
 trimmed_run [] = refl
 trimmed_run (b ∷ l) = go (eqb b 32) (trimmed_run l)
   where
-    go : (c : Bool) → trimmed l ≡ drop (run (goes Blank) l) l
-        → choose c (λ _. trimmed l) (λ _. b ∷ l) ≡ drop (choose c (λ _. suc (run (goes Blank) l)) (λ _. 0)) (b ∷ l)
+    go : (c : Bool) → trimmed l ≡ drop (run blank l) l
+        → choose c (λ _. trimmed l) (λ _. b ∷ l) ≡ drop (choose c (λ _. suc (run blank l)) (λ _. 0)) (b ∷ l)
     go true h = h
     go false h = refl
 
 -- a is where the blanks from a place on end
-module _ (s : List ℕ) (at a : ℕ) (e : a ≡ at + run (goes Blank) (drop at s)) where
+module _ (s : List ℕ) (at a : ℕ) (e : a ≡ at + run blank (drop at s)) where
   pub trimmed_at : trimmed (drop at s) ≡ drop a s
-  trimmed_at = trimmed_run (drop at s) ∙ drop-drop (run (goes Blank) (drop at s)) at s ∙ ap (λ (n : ℕ). drop n s) (sym e)
+  trimmed_at = trimmed_run (drop at s) ∙ drop-drop (run blank (drop at s)) at s ∙ ap (λ (n : ℕ). drop n s) (sym e)
 
   pub lexed_end : length s ≤ a → a ≤ length s → Lexed s at (record { kind = End; start = a; stop = a })
   unfolding peek_in skip_in

@@ -1,18 +1,14 @@
 -- What the functions on bytes and tokens yield, by the definitions of texts.
 use Rattle.std.specs.Prelude.{◌≡◌, Bool, not, List, ℕ, ◌+◌, ◌-◌, ◌*◌, ◌≤◌, ◌<◌, min, eqb, length, take, drop}
-use Rattle.syntax.specs.Bytes.{in_word, digit, run}
+use Rattle.syntax.specs.Bytes.{run}
 use Rattle.syntax.specs.Reader.{kind, text, peek_in, skip_in}
 use Rattle.lexer.specs.declared.Kind.{Kind}
 use Rattle.lexer.specs.declared.Kind.TheVariants.{End, Name, Word, Digits, Sign}
-use Rattle.lexer.specs.declared.Run.{Run}
-use Rattle.lexer.specs.declared.Run.TheVariants.{Blank, InWord, Digit}
 use Rattle.lexer.specs.declared.Tok.{Tok}
 
--- over which bytes a run goes on
-unfoldable pub goes : Run → ℕ → Bool
-goes Blank b = eqb b 32
-goes InWord b = in_word b
-goes Digit b = digit b
+-- what stands between tokens
+abbrev pub blank : ℕ → Bool
+blank b = eqb b 32
 
 -- the bytes from a up to e
 abbrev pub part : List ℕ → ℕ → ℕ → List ℕ

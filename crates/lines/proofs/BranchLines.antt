@@ -7,6 +7,9 @@ use Prim.Native.Nat.{ℕ, suc, ◌+◌, ◌-◌, ◌*◌, ◌/◌, ◌%◌, ◌�
 use native.Mathlib.Omega.{arith}
 use lib.ListN.{length, get_or, set, take, length-set, length-append}
 use lib.Seq.{take-suc-set, get_or-set_same}
+use Rattle.std.specs.Prelude.{None, Ok, Err}
+use Rattle.syntax.specs.declared.Flaw.{Flaw}
+use Rattle.syntax.specs.declared.Flaw.TheVariants.{BrokenForm}
 use Rattle.syntax.specs.Grammar.{otherwise, end_if, inside}
 use Rattle.syntax.specs.Known.{Stmts, stop, Open, turned, closed, State, otherwise_after, end_if_after, after}
 use Rattle.syntax.specs.Conditions.{in_line, is_given, names, limits, else_fits, none_open}
@@ -16,9 +19,9 @@ use Rattle.code.proofs.Words.{words_append}
 use Rattle.code.proofs.OpenJumps.{jump_of}
 use Rattle.code.proofs.Emitted.{emits_otherwise, emits_end_if}
 use Rattle.lines.specs.declared.Progress.{Progress}
-use Rattle.lines.specs.Progress.{Held, moved, Opened, Represents, Numbers}
+use Rattle.lines.specs.Progress.{Held, moved, Opened, Represents, flaw_of, Comes}
 use Rattle.lines.specs.Lines.{Takes, reads}
-use Rattle.lines.proofs.AfterDo.{further, carried, number_fits, unfit, fit}
+use Rattle.lines.proofs.AfterDo.{further, carried, flaw_fits, unfit, more, fit}
 use Rattle.lines.proofs.InnermostJump.{no_depth, opened_below, Top, deep, top_of, filled_code, jump_is}
 
 -- the code with the distance of the jump at a place added
@@ -29,7 +32,7 @@ filled C q n = set C (2 * q + 1) (get_or C (2 * q + 1) 0 + 8 * n)
 abbrev turned_at : List ℕ → ℕ → ℕ → List ℕ
 turned_at C q place = set (set (filled C q (place - q)) (2 * place) 16) (2 * place + 1) 0
 
-module _ (k : ℕ) (s : List ℕ) (at : ℕ) (b : at ≤ length s) (H : Held) (q : Progress) where
+module _ (k : ℕ) (s : List ℕ) (at : ℕ) (b : at ≤ length s) (H : Held) where
   abbrev p : Progress
   p = H.progress
 
@@ -38,16 +41,15 @@ module _ (k : ℕ) (s : List ℕ) (at : ℕ) (b : at ≤ length s) (H : Held) (q
 
   -- ---- none is open
 
-  pub end_if_none : (j : Bool) → q ≡ moved p 2 5 place p.depth → p.depth ≡ 0
-      → Takes (reads (inside (end_if j)) at) 5 s k H (further H q H.code H.opens)
+  pub end_if_none : (C' : List ℕ) (j : Bool) → p.depth ≡ 0 → Takes (reads (inside (end_if j)) at) 5 s k H (λ q. further H q C' H.opens) (Err BrokenForm)
   unfolding names limits in_line
-  end_if_none j e z = unfit k s at b H (inside (end_if j)) 5 _ _ q H.code H.opens e
-      (λ st rp. number_fits st (inside (end_if j)) false (ap not (no_depth H st rp z)) refl refl)
+  end_if_none C' j z = unfit k s at b H (inside (end_if j)) 5 (λ q. further H q C' H.opens)
+      (λ st rp. flaw_fits st (inside (end_if j)) false (ap not (no_depth H st rp z)) refl refl)
 
-  pub else_none : q ≡ moved p 2 5 place p.depth → p.depth ≡ 0 → Takes (reads (inside otherwise) at) 5 s k H (further H q H.code H.opens)
+  pub else_none : p.depth ≡ 0 → Takes (reads (inside otherwise) at) 5 s k H (λ q. further H q H.code H.opens) (Err BrokenForm)
   unfolding names limits in_line
-  else_none e z = unfit k s at b H (inside otherwise) 5 _ _ q H.code H.opens e
-      (λ st rp. number_fits st (inside otherwise) false (none_fits st.opens (no_depth H st rp z)) refl refl)
+  else_none z = unfit k s at b H (inside otherwise) 5 (λ q. further H q H.code H.opens)
+      (λ st rp. flaw_fits st (inside otherwise) false (none_fits st.opens (no_depth H st rp z)) refl refl)
     where
       none_fits : (os : List Open) → none_open os ≡ true → else_fits os ≡ false
       none_fits [] h = refl
@@ -92,12 +94,12 @@ module _ (k : ℕ) (s : List ℕ) (at : ℕ) (b : at ≤ length s) (H : Held) (q
           ap (λ (l : List Open). places_of (end_if_after st l)) (sym tp.innermost.opens)
           ∙ (emits_end_if st tp.innermost tp.at tp.rest tp.places k j).places
 
-      end_if_good : (C' : List ℕ) → C' ≡ filled H.code tp.at (place - (tp.at + 1)) → (j : Bool) (n : ℕ)
-          → Represents (further H (moved p n 5 place d) C' H.opens) (after k (inside (end_if j)) st)
+      end_if_good : (C' : List ℕ) → C' ≡ filled H.code tp.at (place - (tp.at + 1)) → (j : Bool)
+          → Represents (further H (moved p 5 place d) C' H.opens) (after k (inside (end_if j)) st)
       unfolding after
-      end_if_good C' ec j n =
-          subst (λ (l : List Open). Represents (further H (moved p n 5 place d) C' H.opens) (end_if_after st l)) (sym tp.innermost.opens)
-          (carried H C' H.opens st rp n 5 place d os (closed br st.inner) (omega arith)
+      end_if_good C' ec j =
+          subst (λ (l : List Open). Represents (further H (moved p 5 place d) C' H.opens) (end_if_after st l)) (sym tp.innermost.opens)
+          (carried H C' H.opens st rp 5 place d os (closed br st.inner) (omega arith)
           (rp.place ∙ sym (length-set (code_of st) tp.at (jump_of br br.first (place - (tp.at + 1)))) ∙ ap length (sym (end_if_code j)))
           (ap (take (2 * place)) ec ∙ filled_code H st rp nz (place - (tp.at + 1)) ∙ ap words (sym (end_if_code j)))
           (subst (Opened H.opens d os) (sym (end_if_places j)) tp.others) (omega (arith, rp.shallow)) rp.stack)
@@ -160,39 +162,48 @@ module _ (k : ℕ) (s : List ℕ) (at : ℕ) (b : at ≤ length s) (H : Held) (q
                 opened_below H.opens d d (2 * place + 1) os tp.rest (omega arith) tp.others,
               )
 
-          else_good : (n : ℕ) → Represents (further H (moved p n 5 (place + 1) p.depth) C' O') (after k (inside otherwise) st)
+          else_good : Represents (further H (moved p 5 (place + 1) p.depth) C' O') (after k (inside otherwise) st)
           unfolding after
-          else_good n =
+          else_good =
               let c = jumped (place - tp.at) in
               let l = rp.place ∙ sym (length-set (code_of st) tp.at (jump_of br br.first (place - tp.at))) in
-              subst (λ (l : List Open). Represents (further H (moved p n 5 (place + 1) p.depth) C' O') (otherwise_after st l)) (sym tp.innermost.opens)
-              (carried H C' O' st rp n 5 (place + 1) p.depth (turned br st.inner ∷ os) stop (omega arith)
+              subst (λ (l : List Open). Represents (further H (moved p 5 (place + 1) p.depth) C' O') (otherwise_after st l)) (sym tp.innermost.opens)
+              (carried H C' O' st rp 5 (place + 1) p.depth (turned br st.inner ∷ os) stop (omega arith)
               (ap (λ (m : ℕ). m + 1) l ∙ sym (length-append c (jump 0 ∷ [])) ∙ ap length (sym else_code))
               (else_words ∙ ap words (sym else_code))
               (subst (Opened O' p.depth (turned br st.inner ∷ os)) (sym else_places) else_opened) rp.shallow
               (omega (arith, rp.stack, ap length eo, length-set H.opens d (2 * place + 1))))
 
-    pub end_if_ends : (C' : List ℕ) → C' ≡ filled H.code (w / 2) (place - (w / 2 + 1)) → (j : Bool) (n : ℕ) → q ≡ moved p n 5 place d → Numbers s at 0 n
-        → Takes (reads (inside (end_if j)) at) 5 s k H (further H q C' H.opens)
+    end_if_fits : (j : Bool) (st : State) → Represents H st → flaw_of st (inside (end_if j)) ≡ None
     unfolding names limits in_line
-    end_if_ends C' ec j n e hn = fit k s at b H (inside (end_if j)) 5 _ _ q C' H.opens n e hn
-        (λ st rp. (
-          number_fits st (inside (end_if j)) true (ap (λ (l : List Open). not (none_open l)) (tp st rp).innermost.opens) refl refl,
-          end_if_good st rp C' (ec ∙ ap (λ (m : ℕ). filled H.code m (place - (m + 1))) (jump_is H st rp nz)) j n,
-        ))
+    end_if_fits j st rp = flaw_fits st (inside (end_if j)) true (ap (λ (l : List Open). not (none_open l)) (tp st rp).innermost.opens) refl refl
 
-    pub else_again : q ≡ moved p 2 5 place p.depth → w % 2 ≡ 1 → Takes (reads (inside otherwise) at) 5 s k H (further H q H.code H.opens)
-    unfolding names limits in_line
-    else_again e h = unfit k s at b H (inside otherwise) 5 _ _ q H.code H.opens e
-        (λ st rp. number_fits st (inside otherwise) false (ap else_fits (tp st rp).innermost.opens ∙ ap not (met st rp h)) refl refl)
+    pub end_if_more : (j : Bool) (f : Flaw) → Comes s at 0 (Err f)
+        → Takes (reads (inside (end_if j)) at) 5 s k H (λ q. further H q H.code H.opens) (Err f)
+    end_if_more j f h = more k s at b H (inside (end_if j)) 5 (λ q. further H q H.code H.opens) f h (end_if_fits j)
 
-    pub else_turns : (w % 2 ≡ 1 → ⊥) → 2 * (place + 1) ≤ length H.code → (C' : List ℕ) → C' ≡ turned_at H.code (w / 2) place
-        → (O' : List ℕ) → O' ≡ set H.opens d (2 * place + 1) → (n : ℕ) → q ≡ moved p n 5 (place + 1) p.depth → Numbers s at 0 n
-        → Takes (reads (inside otherwise) at) 5 s k H (further H q C' O')
+    pub end_if_ends : (C' : List ℕ) → C' ≡ filled H.code (w / 2) (place - (w / 2 + 1)) → (j : Bool) (q : Progress) (u : Unit {0}) → Comes s at 0 (Ok u)
+        → q ≡ moved p 5 place d → Takes (reads (inside (end_if j)) at) 5 s k H (λ q. further H q C' H.opens) (Ok q)
+    end_if_ends C' ec j q u h e = fit k s at b H (inside (end_if j)) 5 (moved p 5 place d) q C' H.opens u h e (end_if_fits j)
+        (λ st rp. end_if_good st rp C' (ec ∙ ap (λ (m : ℕ). filled H.code m (place - (m + 1))) (jump_is H st rp nz)) j)
+
+    pub else_again : w % 2 ≡ 1 → Takes (reads (inside otherwise) at) 5 s k H (λ q. further H q H.code H.opens) (Err BrokenForm)
     unfolding names limits in_line
-    else_turns odd room C' ec O' eo n e hn = fit k s at b H (inside otherwise) 5 _ _ q C' O' n e hn
-        (λ st rp. (
-          number_fits st (inside otherwise) true
-              (ap else_fits (tp st rp).innermost.opens ∙ ap (λ (f : Option Stmts). not (is_given f)) (unmet st rp odd)) refl refl,
-          else_good st rp odd room C' (ec ∙ ap (λ (m : ℕ). turned_at H.code m place) (jump_is H st rp nz)) O' eo n,
-        ))
+    else_again h = unfit k s at b H (inside otherwise) 5 (λ q. further H q H.code H.opens)
+        (λ st rp. flaw_fits st (inside otherwise) false (ap else_fits (tp st rp).innermost.opens ∙ ap not (met st rp h)) refl refl)
+
+    module _ (odd : w % 2 ≡ 1 → ⊥) where
+      else_stands : (st : State) → Represents H st → flaw_of st (inside otherwise) ≡ None
+      unfolding names limits in_line
+      else_stands st rp = flaw_fits st (inside otherwise) true
+          (ap else_fits (tp st rp).innermost.opens ∙ ap (λ (f : Option Stmts). not (is_given f)) (unmet st rp odd)) refl refl
+
+      pub else_more : (f : Flaw) → Comes s at 0 (Err f)
+          → Takes (reads (inside otherwise) at) 5 s k H (λ q. further H q H.code H.opens) (Err f)
+      else_more f h = more k s at b H (inside otherwise) 5 (λ q. further H q H.code H.opens) f h else_stands
+
+      pub else_turns : 2 * (place + 1) ≤ length H.code → (C' : List ℕ) → C' ≡ turned_at H.code (w / 2) place
+          → (O' : List ℕ) → O' ≡ set H.opens d (2 * place + 1) → (q : Progress) (u : Unit {0}) → Comes s at 0 (Ok u) → q ≡ moved p 5 (place + 1) p.depth
+          → Takes (reads (inside otherwise) at) 5 s k H (λ q. further H q C' O') (Ok q)
+      else_turns room C' ec O' eo q u h e = fit k s at b H (inside otherwise) 5 (moved p 5 (place + 1) p.depth) q C' O' u h e else_stands
+          (λ st rp. else_good st rp odd room C' (ec ∙ ap (λ (m : ℕ). turned_at H.code m place) (jump_is H st rp nz)) O' eo)

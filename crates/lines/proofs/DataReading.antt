@@ -5,6 +5,9 @@ use mathlib.Core.List.{List, [], ◌∷◌}
 use Prim.Native.Nat.{ℕ, zero, suc}
 use native.Mathlib.Omega.{arith}
 use lib.Dec.{ltb}
+use Rattle.std.specs.Prelude.{Option, Some, None, Result, Ok, Err}
+use Rattle.syntax.specs.declared.Flaw.{Flaw}
+use Rattle.syntax.specs.declared.Flaw.TheVariants.{BrokenForm, WrongName, OverLimit}
 use Rattle.syntax.specs.Bytes.{choose, all}
 use Rattle.syntax.specs.Grammar.{Item, Line, give, close}
 use Rattle.syntax.specs.Known.{copies, State}
@@ -13,8 +16,8 @@ use Rattle.syntax.specs.Reader.{Parsed, broken, done, Reader, next, sees, finish
 use Rattle.syntax.proofs.ReaderLaws.{next_assoc, next_same}
 use Rattle.heading.specs.Lists.{read_some}
 use Rattle.values.specs.Data.{counted, read_counted, read_values}
-use Rattle.lines.specs.Progress.{number_of, whole, Concludes}
-use Rattle.lines.proofs.Verdicts.{ending}
+use Rattle.lines.specs.declared.Progress.{Progress}
+use Rattle.lines.specs.Progress.{flaw_of, whole, Concludes}
 
 -- ---- items of which none has 0 copies
 
@@ -121,7 +124,14 @@ give_end x i is u false e = go (expects peek_in skip_in "/" u)
     go broken = equal
     go (done a v) = ended (finish peek_in skip_in v)
 
-pub give_by : (f : ℕ) (s : List ℕ) → Weighed (whole (read_give peek_in skip_in f) s) (next (wants peek_in skip_in "data" s) (λ _ u. ending (read_values f) mk u))
+-- a name and values as a line
+abbrev pub valued : ℕ → Reader (List ℕ) Line
+valued f u = next (read_values f u) (λ y. done (mk y))
+
+abbrev pub given : ℕ → Reader (List ℕ) Line
+given f u = next (wants peek_in skip_in "data" u) (λ _. valued f)
+
+pub give_by : (f : ℕ) (s : List ℕ) → Weighed (whole (read_give peek_in skip_in f) s) (whole (given f) s)
 unfolding read_give
 give_by f s =
     subst₂ Weighed (sym line_steps) (sym code_steps)
@@ -140,22 +150,23 @@ give_by f s =
     line_steps = simp next_assoc
 
     reads_by : (M : Reader (List ℕ) (List Item))
-        → next (wants peek_in skip_in "data" s) (λ _ r.
-        next (next (read_name peek_in skip_in r) (λ x t. next (expects peek_in skip_in "/" t) (λ _ u. next (M u) (closes x)))) (λ a v. fin (mk a) v))
+        → next (next (wants peek_in skip_in "data" s) (λ _ r.
+        next (next (read_name peek_in skip_in r) (λ x t. next (expects peek_in skip_in "/" t) (λ _ u. next (M u) (closes x)))) (λ a. done (mk a)))) fin
         ≡ begin (λ x u. next (M u) (λ is v. stroke (mk (x, is)) v))
     reads_by M = simp next_assoc
 
-    code_steps : next (wants peek_in skip_in "data" s) (λ _ u. ending (read_values f) mk u)
+    code_steps : whole (given f) s
         ≡ steps (λ x i is u. next (counted_by (i ∷ is) u) (λ js v. stroke (mk (x, js)) v))
     code_steps = reads_by (read_some f read_counted) ∙ (λ k. begin (λ x u. some_then f u (λ is v. stroke (mk (x, is)) v) k))
 
 -- a line with an item of 0 copies is broken
-pub weighed_concludes : (st : State) (good : Line → Type 0) (p q : Parsed (List ℕ) Line) (n : ℕ) → Weighed p q
-    → Concludes (number_of st) good q n → Concludes (number_of st) good p n
-unfolding Concludes number_of
-weighed_concludes st good p q n equal h = h
-weighed_concludes st good p q n (unfit {x} {i} {is} e) h = (h ∙ sym (ap numbered_by e), λ z. absurd (omega (arith, h, z)))
+pub weighed_concludes : (st : State) (good : Line → Progress → Type 0) (p q : Parsed (List ℕ) Line) (r : Result Progress Flaw) → Weighed p q
+    → Concludes (flaw_of st) good q r → Concludes (flaw_of st) good p r
+unfolding Concludes flaw_of
+weighed_concludes st good p q r equal h = h
+weighed_concludes st good p q (Ok x) (unfit e) h = absurd h
+weighed_concludes st good p q (Err f) (unfit {x} {i} {is} e) h = ap told_by e ∙ ap Some (sym h)
   where
-    numbered_by : Bool → ℕ
-    numbered_by b = choose (not b) (λ _. 2) (λ _. choose (not (names st (give x i is))) (λ _. 3)
-        (λ _. choose (not (limits st (give x i is))) (λ _. 4) (λ _. 0)))
+    told_by : Bool → Option Flaw
+    told_by b = choose (not b) (λ _. Some BrokenForm) (λ _. choose (not (names st (give x i is))) (λ _. Some WrongName)
+        (λ _. choose (not (limits st (give x i is))) (λ _. Some OverLimit) (λ _. None)))

@@ -9,6 +9,6 @@ pub mod LoopLine
 pub mod AfterDo
 pub mod InnermostJump
 pub mod Yields
-pub mod StatementLines
 pub mod BranchLines
 pub mod EndLines
+pub mod StatementLines

@@ -4,16 +4,21 @@ use mathlib.Core.Bool.{Bool, true, false, cond, not, ◌&&◌, and-true, and_com
 use mathlib.Core.List.{List, [], ◌∷◌, ◌++◌}
 use Prim.Native.Nat.{ℕ, zero, suc, ◌+◌, ◌-◌, ◌*◌, ◌≤◌, ◌<◌, max}
 use native.Mathlib.Omega.{arith}
-use borrow.Author.Tests.{le-leb, lt-leb}
+use borrow.Author.Tests.{leb-true}
 use lib.Dec.{leb}
 use lib.ListN.{length, set, take, drop, length-set, length-append}
 use lib.Seq.{get_or-set_same}
 use Rattle.int32.specs.declared.Relation.{Relation}
+use Rattle.std.specs.Prelude.{Option, Some, None, Ok, Err}
+use Rattle.syntax.specs.declared.Flaw.{Flaw}
+use Rattle.syntax.specs.declared.Flaw.TheVariants.{BrokenForm}
+use Rattle.syntax.specs.Ranks.{level}
+use Rattle.lexer.specs.Places.{NotRead, ReadTo}
 use Rattle.syntax.specs.Bytes.{all, same}
 use Rattle.syntax.specs.Grammar.{Expr, Ref, assign, when, Line, inside}
 use Rattle.syntax.specs.Known.{Entry, stop, set as assignment, then_do, Open, opened, State, after}
 use Rattle.syntax.specs.Conditions.{Mention, in_line, rightly, small, ref_name, names, limits}
-use Rattle.syntax.specs.Reader.{Parsed, broken, done, Reader, next, finish, read_assign, read_when, peek_in, skip_in}
+use Rattle.syntax.specs.Reader.{Parsed, broken, done, Reader, read_assign, read_when, peek_in, skip_in}
 use Rattle.code.specs.Instr.{Instr, words}
 use Rattle.code.specs.Compile.{code_assign, code_if, code_of, places_of}
 use Rattle.code.proofs.Words.{words_append}
@@ -21,13 +26,13 @@ use Rattle.code.proofs.Emitted.{emits_assign, emits_when}
 use Rattle.names.specs.Table.{variable_of}
 use Rattle.parts.specs.Answer.{rank_of, worst}
 use Rattle.parts.specs.declared.Got.{Got}
-use Rattle.parts.specs.declared.Got.TheVariants.{Broken, Done}
-use Rattle.statements.specs.Statement.{code_line, assigned_rank, rank_line, Writes, Bounded, Compiles}
+use Rattle.statements.specs.Statement.{code_line, assigned_rank, rank_line, Writes, Compiles}
+use Rattle.statements.proofs.Written.{bounded_some}
 use Rattle.heading.specs.Lists.{order}
 use Rattle.lines.specs.declared.Progress.{Progress}
-use Rattle.lines.specs.Progress.{Held, moved, Opened, Represents, number_of, numbered, Concludes, Numbers}
+use Rattle.lines.specs.Progress.{Held, moved, Opened, Represents, flaw_of, flawed, Comes}
 use Rattle.lines.specs.Lines.{Takes}
-use Rattle.lines.proofs.Verdicts.{concludes_lands, number_by, numbered_zero}
+use Rattle.lines.proofs.Verdicts.{Settles, concludes_not, concludes_told, concludes_flaw, concludes_good, flaw_by}
 use Rattle.lines.proofs.AfterDo.{further, carried}
 use Rattle.lines.proofs.InnermostJump.{opened_below}
 use Rattle.lines.proofs.Yields.{Yields, yields_assign, yields_when}
@@ -58,24 +63,7 @@ opened_depth O (suc d) [] qs h = absurd h
 opened_depth O (suc d) (o ∷ os) [] h = absurd h
 opened_depth O (suc d) (o ∷ os) (q ∷ qs) h = ap suc (opened_depth O d os qs h.1)
 
--- ---- what is compiled, to the line's end
-
--- the parts of an answer
-abbrev which : Got → ℕ
-which Broken = 0
-which (Done n p d) = 1
-
-abbrev at_of : Got → ℕ
-at_of Broken = 0
-at_of (Done n p d) = n
-
-abbrev place_of : Got → ℕ
-place_of Broken = 0
-place_of (Done n p d) = p
-
-abbrev rank_of_got : Got → ℕ
-rank_of_got Broken = 0
-rank_of_got (Done n p d) = d
+-- ---- what is compiled
 
 module _ (k : ℕ) (s : List ℕ) (H : Held) (C' : List ℕ) where
   abbrev p : Progress
@@ -85,97 +73,119 @@ module _ (k : ℕ) (s : List ℕ) (H : Held) (C' : List ℕ) where
   abbrev v : List ℕ
   v = variable_of H.table
 
-  -- the code of a line was written up to the place m, and this is its rank
-  record Written (st : State) (m rank : ℕ) (l : Line) : Type 0 where
-    ends : m ≡ p.place + length (code_line st.table v k l)
-    ranks : rank ≡ rank_line st.table v l
-    code : take (2 * m) C' ≡ take (2 * p.place) H.code ++ words (code_line st.table v k l)
+  -- the code of a line was written up to a place, and this is its rank
+  record Written (st : State) (g : Got) (l : Line) : Type 0 where
+    ends : g.place ≡ p.place + length (code_line st.table v k l)
+    ranks : level g.rank ≡ rank_line st.table v l
+    code : take (2 * g.place) C' ≡ take (2 * p.place) H.code ++ words (code_line st.table v k l)
 
-  -- its number is that of a rank that may be worse, and where that is 0, H' is held after it
-  abbrev Judges : State → ℕ → ℕ → ℕ → Held → Line → Type 0
-  Judges st m rank worse H' l = Written st m rank l → (numbered worse ≡ number_of st l) × (numbered worse ≡ 0 → Represents H' (after k l st))
+  some_same : (x y : Got) → Some x ≡ Some y → x ≡ y
+  some_same x y h = cc
 
-  module _ (read : ℕ → Reader (List ℕ) Line) where
-    compiled : (n m rank : ℕ) → Compiles read H.table s k p.place H.code C' (Done n m rank) → (worse : ℕ) (H' : Held)
-        → Numbers s n worse H'.progress.number
-        → ((st : State) → Represents H st → (f : ℕ) → Yields (Judges st m rank worse H') (read f s)) → Takes read 5 s k H H'
-    unfolding Writes Bounded
-    compiled n m rank w worse H' hn h st rp sane fo f b = go (read f s) (h st rp f) (w.reads st.table rp.table f b)
+  module _ (read : ℕ → Reader (List ℕ) Line) (st : State) (rp : Represents H st) (f : ℕ) (b : 3 * length s + 4 ≤ f) where
+    -- nothing is read
+    compiled_not : Compiles read H.table s k p.place H.code C' None → NotRead s 0 (read f)
+    unfolding Writes
+    compiled_not w = record { fails = λ _. go (read f s) (w.reads st.table rp.table f b) }
       where
-        good : Line → Type 0
-        good l = Represents H' (after k l st)
+        go : (q : Parsed (List ℕ) Line) → Writes st.table v k s q p.place H.code C' None → q ≡ broken
+        go broken x = refl
+        go (done l u) x = absurd (let e = x.1.is in let z : ◌≡◌ {A = ℕ} 0 1 = cc in omega arith)
 
-        go : (q : Parsed (List ℕ) Line) → Yields (Judges st m rank worse H') q → Writes st.table v k s q p.place H.code C' (Done n m rank)
-            → Concludes (number_of st) good (next q (λ l u. next (finish peek_in skip_in u) (λ _. done l))) H'.progress.number
-        go broken y x = absurd (let z : ◌≡◌ {A = ℕ} 1 0 = ap which x in omega arith)
-        go (done l u) y x =
-            let en : n ≡ length s - length u = ap at_of x.1 in
-            let em : m ≡ p.place + length (code_line st.table v k l) = ap place_of x.1 in
-            let wr : Written st m rank l = record { ends = em; ranks = ap rank_of_got x.1; code = ap (λ (i : ℕ). take (2 * i) C') em ∙ x.2 } in
-            let number = H'.progress.number in
-            subst (λ (u : List ℕ). Concludes (number_of st) good (next (finish peek_in skip_in u) (λ _. done l)) number)
-            (sym (x.0 ∙ ap (λ (i : ℕ). drop i s) (sym en)))
-            (concludes_lands (λ (_ : Unit {0}). Unit {0}) s (λ _. l) (number_of st) good n worse number hn (λ _ _. y wr) (done (tt {0}) (drop n s))
-            (refl, w.within.0, tt {0}))
-
-    pub compiled_broken : Compiles read H.table s k p.place H.code C' Broken → (place depth : ℕ) (q : Progress) → q ≡ moved p 2 5 place depth
-        → (O' : List ℕ) → Takes read 5 s k H (further H q C' O')
-    unfolding Writes Concludes
-    compiled_broken w place depth q e O' =
-        subst (λ (x : Progress). Takes read 5 s k H (further H x C' O')) (sym e)
-        (λ st rp sane fo f b. go st _ (read f s) (w.reads st.table rp.table f b))
+    -- a line is, of which P holds
+    compiled_to : (g : Got) → Compiles read H.table s k p.place H.code C' (Some g) → (P : Line → Type 0)
+        → Yields (λ l. Written st g l → P l) (read f s) → ReadTo P s 0 (read f) g.at
+    unfolding Writes
+    compiled_to g w P y = go (read f s) refl y (w.reads st.table rp.table f b)
       where
-        go : (st : State) (good : Line → Type 0) (q : Parsed (List ℕ) Line) → Writes st.table v k s q p.place H.code C' Broken
-            → Concludes (number_of st) good (next q (λ l u. next (finish peek_in skip_in u) (λ _. done l))) 2
-        go st good broken x = refl
-        go st good (done l u) x = absurd (let z : ◌≡◌ {A = ℕ} 0 1 = ap which x.1 in omega arith)
+        go : (q : Parsed (List ℕ) Line) → read f s ≡ q → Yields (λ l. Written st g l → P l) q → Writes st.table v k s q p.place H.code C' (Some g)
+            → ReadTo P s 0 (read f) g.at
+        go broken e y x = absurd (let z : ◌≡◌ {A = ℕ} 0 1 = cc in omega arith)
+        go (done l u) e y x =
+            let h = x.1 in
+            let is : g ≡ h.got = some_same g h.got h.is in
+            let en : g.at ≡ length s - length u = ap (λ (y : Got). y.at) is ∙ h.at in
+            let em : g.place ≡ p.place + length (code_line st.table v k l) = ap (λ (y : Got). y.place) is ∙ h.place in record {
+              what = l;
+              reads = e ∙ ap (done l) (x.0 ∙ ap (λ (i : ℕ). drop i s) (sym en));
+              holds = y (record {
+                ends = em;
+                ranks = ap (λ (y : Got). level y.rank) is ∙ h.rank;
+                code = ap (λ (i : ℕ). take (2 * i) C') em ∙ x.2;
+              });
+              from = omega arith;
+              within = (bounded_some s p.place g w.within).0;
+            }
+
+  -- nothing is read
+  pub unread : (read : ℕ → Reader (List ℕ) Line) → Compiles read H.table s k p.place H.code C' None → (O' : List ℕ) (f : Flaw) → f ≡ BrokenForm
+      → Takes read 5 s k H (λ q. further H q C' O') (Err f)
+  unread read w O' e h st rp sane fo f b =
+      concludes_not (flaw_of st) (λ l q. Represents (further H q C' O') (after k l st)) (read f) s e h (compiled_not read st rp f b w)
 
   -- the code up to a statement's end
-  module _ (st : State) (rp : Represents H st) (l : Line) (c : List Instr) (ec : code_line st.table v k l ≡ c) (m rank : ℕ) (w : Written st m rank l) where
-    ends_at : m ≡ length (code_of st ++ c)
+  module _ (st : State) (rp : Represents H st) (l : Line) (c : List Instr) (ec : code_line st.table v k l ≡ c) (g : Got) (w : Written st g l) where
+    ends_at : g.place ≡ length (code_of st ++ c)
     ends_at = w.ends ∙ (λ i. rp.place i + length (ec i)) ∙ sym (length-append (code_of st) c)
 
-    holds_code : take (2 * m) C' ≡ words (code_of st ++ c)
+    holds_code : take (2 * g.place) C' ≡ words (code_of st ++ c)
     holds_code = w.code ∙ (λ i. rp.code i ++ words (ec i)) ∙ sym (words_append (code_of st) c)
 
   -- ---- a condition
 
-  module _ (n m rank : ℕ) (w : Compiles (read_when peek_in skip_in) H.table s k p.place H.code C' (Done n m rank)) where
-    -- its rank with that of its depth
-    abbrev worse : ℕ
-    worse = max rank (cond (leb (suc p.depth) 8) 0 1)
+  module _ (g : Got) (w : Compiles (read_when peek_in skip_in) H.table s k p.place H.code C' (Some g)) (worse : ℕ)
+      (ew : worse ≡ max (level g.rank) (cond (leb (p.depth + 1) 8) 0 1)) where
+    abbrev m : ℕ
+    m = g.place
 
-    when_rank : (st : State) → Represents H st → (a : Expr) (o : Relation) (b : Expr) → rank ≡ rank_line st.table v (inside (when a o b))
-        → numbered worse ≡ number_of st (inside (when a o b))
+    when_rank : (st : State) → Represents H st → (a : Expr) (o : Relation) (b : Expr) → level g.rank ≡ rank_line st.table v (inside (when a o b))
+        → flawed worse ≡ flaw_of st (inside (when a o b))
     unfolding names limits assigned_rank
     when_rank st rp a o b er =
         let l = inside (when a o b) in
         let t = st.table in
         let x = st.variable in
-        let z : rank ≡ worst t v (in_line l) = omega (arith, er) in
+        let z : level g.rank ≡ worst t v (in_line l) = omega (arith, er) in
         let y = z ∙ ap (λ (u : List ℕ). worst t u (in_line l)) rp.variable ∙ worst_order t x (in_line l) in
         let deep = leb (suc (length st.opens)) 8 in
-        let d : leb (suc p.depth) 8 ≡ deep = ap (λ (i : ℕ). leb (suc i) 8) (opened_depth H.opens p.depth st.opens (places_of st) rp.opened) in
-        ap numbered ((λ i. max (y i) (order true (d i))) ∙ order_both (all (rightly t x) (in_line l)) (all small (in_line l)) true deep)
-        ∙ number_by st l refl (names st l) (limits st l) refl refl
+        let one_more : p.depth + 1 ≡ suc (length st.opens) = omega (arith, opened_depth H.opens p.depth st.opens (places_of st) rp.opened) in
+        let d : leb (p.depth + 1) 8 ≡ deep = ap (λ (i : ℕ). leb i 8) one_more in
+        ap flawed (ew ∙ (λ i. max (y i) (order true (d i))) ∙ order_both (all (rightly t x) (in_line l)) (all small (in_line l)) true deep)
+        ∙ flaw_by st l refl (names st l) (limits st l) refl refl
+
+    -- something is wrong with it
+    pub when_told : (O' : List ℕ) (e : Flaw) → Comes s g.at worse (Err e)
+        → Takes (read_when peek_in skip_in) 5 s k H (λ q. further H q C' O') (Err e)
+    when_told O' e h st rp sane fo f b =
+        concludes_told (flaw_of st) (λ l q. Represents (further H q C' O') (after k l st)) (read_when peek_in skip_in f) s g.at worse e h
+        (compiled_to (read_when peek_in skip_in) st rp f b g w (λ l. flawed worse ≡ flaw_of st l)
+        (yields_when (λ l. Written st g l → flawed worse ≡ flaw_of st l) (λ a o b wr. when_rank st rp a o b wr.ranks) f s))
+
+    -- few are open where nothing is
+    pub when_shallow : worse ≡ 0 → p.depth < 8
+    when_shallow z = go (leb (p.depth + 1) 8) refl
+      where
+        go : (c : Bool) → leb (p.depth + 1) 8 ≡ c → p.depth < 8
+        go true e = omega (arith, leb-true (p.depth + 1) 8 e)
+        go false e = absurd (let x : ◌≡◌ {A = ℕ} (cond (leb (p.depth + 1) 8) 0 1) 1 = ap (λ (t : Bool). cond t 0 1) e in omega (arith, x, ew, z))
 
     -- one more is open
-    module _ (low : H.progress.depth < 8) (O' : List ℕ) (eo : O' ≡ set H.opens H.progress.depth (2 * (m - 1))) (number : ℕ) where
-      when_good : (st : State) → Represents H st → (a : Expr) (o : Relation) (b : Expr) → Written st m rank (inside (when a o b))
-          → Represents (further H (moved p number 5 m (p.depth + 1)) C' O') (after k (inside (when a o b)) st)
+    module _ (low : H.progress.depth < 8) (O' : List ℕ) (eo : O' ≡ set H.opens H.progress.depth (2 * (m - 1))) where
+      when_good : (st : State) → Represents H st → (a : Expr) (o : Relation) (b : Expr) → Written st g (inside (when a o b))
+          → Represents (further H (moved p 5 m (p.depth + 1)) C' O') (after k (inside (when a o b)) st)
       unfolding after code_line
       when_good st rp a o b wr =
           let l = inside (when a o b) in
           let c = code_if st.table st.variable k a o b 0 in
           let ec : code_line st.table v k l ≡ c = ap (λ (u : List ℕ). code_if st.table u k a o b 0) rp.variable in
           let e = emits_when k st a o b in
-          let f = ends_at st rp l c ec m rank wr in
+          let f = ends_at st rp l c ec g wr in
           let d = p.depth in
           let os = opened k a o b st.inner ∷ st.opens in
           let z : d + 1 ≡ suc d = omega arith in
           let y : 2 * (m - 1) ≡ 2 * (length (code_of st ++ c) - 1) + 0 = omega (arith, f) in
-          carried H C' O' st rp number 5 m (d + 1) os stop (omega arith) (f ∙ ap length (sym e.code))
-          (holds_code st rp l c ec m rank wr ∙ ap words (sym e.code))
+          carried H C' O' st rp 5 m (d + 1) os stop (omega arith) (f ∙ ap length (sym e.code))
+          (holds_code st rp l c ec g wr ∙ ap words (sym e.code))
           (subst₂ (λ (U : List ℕ) (i : ℕ). Opened U i os (places_of (after k l st))) (sym eo) (sym z)
           (subst (Opened (set H.opens d (2 * (m - 1))) (suc d) os) (sym e.places) (
             get_or-set_same H.opens d (2 * (m - 1)) 0 (omega (arith, rp.stack)) ∙ y,
@@ -183,37 +193,31 @@ module _ (k : ℕ) (s : List ℕ) (H : Held) (C' : List ℕ) where
           )))
           (omega arith) (omega (arith, rp.stack, ap length eo, length-set H.opens d (2 * (m - 1))))
 
-      pub when_line : (q : Progress) → q ≡ moved p number 5 m (p.depth + 1) → Numbers s n worse number
-          → Takes (read_when peek_in skip_in) 5 s k H (further H q C' O')
-      when_line q e hn =
-          let H' = further H (moved p number 5 m (p.depth + 1)) C' O' in
-          subst (λ (x : Progress). Takes (read_when peek_in skip_in) 5 s k H (further H x C' O')) (sym e)
-          (compiled (read_when peek_in skip_in) n m rank w worse H' hn
-          (λ st rp f. yields_when (Judges st m rank worse H') (λ a o b wr. (when_rank st rp a o b wr.ranks, λ _. when_good st rp a o b wr)) f s))
-
-    -- too many are
-    pub when_deep : (H.progress.depth < 8 → ⊥) → (number : ℕ) (q : Progress) → q ≡ moved p number 5 m p.depth → Numbers s n worse number
-        → (O' : List ℕ) → Takes (read_when peek_in skip_in) 5 s k H (further H q C' O')
-    when_deep high number q e hn O' =
-        let H' = further H (moved p number 5 m p.depth) C' O' in
-        subst (λ (x : Progress). Takes (read_when peek_in skip_in) 5 s k H (further H x C' O')) (sym e)
-        (compiled (read_when peek_in skip_in) n m rank w worse H' hn
-        (λ st rp f. yields_when (Judges st m rank worse H') (λ a o b wr. (when_rank st rp a o b wr.ranks, λ z. absurd (some_rank z))) f s))
-      where
-        some_rank : numbered worse ≡ 0 → ⊥
-        some_rank z =
-            let y = numbered_zero worse z in
-            let x : ◌≡◌ {A = ℕ} (cond (leb (suc p.depth) 8) 0 1) 1 = ap (λ (t : Bool). cond t 0 1) (lt-leb (suc p.depth) 8 (omega arith)) in
-            omega (arith, x, y)
+      pub when_line : (q : Progress) (u : Unit {0}) → Comes s g.at worse (Ok u) → q ≡ moved p 5 m (p.depth + 1)
+          → Takes (read_when peek_in skip_in) 5 s k H (λ q. further H q C' O') (Ok q)
+      when_line q u h e =
+          subst (λ (x : Progress). Takes (read_when peek_in skip_in) 5 s k H (λ q. further H q C' O') (Ok x)) (sym e)
+          (λ st rp sane fo f b.
+          let good : Line → Progress → Type 0 = λ l q. Represents (further H q C' O') (after k l st) in
+          let Fits : Line → Type 0 = Settles (flaw_of st) good worse (moved p 5 m (p.depth + 1)) in
+          concludes_good (flaw_of st) good (read_when peek_in skip_in f) s g.at worse (moved p 5 m (p.depth + 1)) u h
+          (compiled_to (read_when peek_in skip_in) st rp f b g w Fits
+          (yields_when (λ l. Written st g l → Fits l) (λ a o b wr. (when_rank st rp a o b wr.ranks, λ _. when_good st rp a o b wr)) f s)))
 
   -- ---- an assignment
 
-  module _ (n m rank : ℕ) (w : Compiles (read_assign peek_in skip_in) H.table s k p.place H.code C' (Done n m rank)) (number : ℕ) where
+  module _ (g : Got) (w : Compiles (read_assign peek_in skip_in) H.table s k p.place H.code C' (Some g)) where
+    abbrev m' : ℕ
+    m' = g.place
+
+    abbrev rank : ℕ
+    rank = level g.rank
+
     abbrev leaves : Progress → Held
     leaves q = further H q C' H.opens
 
     assign_rank : (st : State) → Represents H st → (r : Ref) (e : Expr) → rank ≡ rank_line st.table v (inside (assign r e))
-        → numbered rank ≡ number_of st (inside (assign r e))
+        → flawed rank ≡ flaw_of st (inside (assign r e))
     unfolding names limits assigned_rank
     assign_rank st rp r e er =
         let l = inside (assign r e) in
@@ -225,47 +229,43 @@ module _ (k : ℕ) (s : List ℕ) (H : Held) (C' : List ℕ) where
         let q : cond (same (ref_name r) x) 2 0 ≡ order other true = turned (same (ref_name r) x) in
         let z = er ∙ (λ i. max (cond (same (ref_name r) (rp.variable i)) 2 0) (worst t (rp.variable i) (in_line l))) in
         let y = z ∙ (λ i. max (q i) (worst_order t x (in_line l) i)) ∙ order_both other true right within in
-        ap numbered (y ∙ (λ i. order (and_comm other right i) (sym (and-true within) i))) ∙ number_by st l refl (names st l) (limits st l) refl refl
+        ap flawed (y ∙ (λ i. order (and_comm other right i) (sym (and-true within) i))) ∙ flaw_by st l refl (names st l) (limits st l) refl refl
       where
         turned : (b : Bool) → cond b 2 0 ≡ order (not b) true
         turned true = refl
         turned false = refl
 
-    assign_good : (st : State) → Represents H st → (r : Ref) (e : Expr) → Written st m rank (inside (assign r e))
-        → Represents (leaves (moved p number 5 m p.depth)) (after k (inside (assign r e)) st)
+    assign_good : (st : State) → Represents H st → (r : Ref) (e : Expr) → Written st g (inside (assign r e))
+        → Represents (leaves (moved p 5 m' p.depth)) (after k (inside (assign r e)) st)
     unfolding after code_line
     assign_good st rp r e wr =
         let l = inside (assign r e) in
         let c = code_assign st.table st.variable k r e in
         let ec : code_line st.table v k l ≡ c = ap (λ (u : List ℕ). code_assign st.table u k r e) rp.variable in
         let q = emits_assign k st r e in
-        carried H C' H.opens st rp number 5 m p.depth st.opens (then_do st.inner (assignment k r e stop)) (omega arith)
-        (ends_at st rp l c ec m rank wr ∙ ap length (sym q.code)) (holds_code st rp l c ec m rank wr ∙ ap words (sym q.code))
+        carried H C' H.opens st rp 5 m' p.depth st.opens (then_do st.inner (assignment k r e stop)) (omega arith)
+        (ends_at st rp l c ec g wr ∙ ap length (sym q.code)) (holds_code st rp l c ec g wr ∙ ap words (sym q.code))
         (subst (Opened H.opens p.depth st.opens) (sym q.places) rp.opened) rp.shallow rp.stack
 
-    pub assign_line : (q : Progress) → q ≡ moved p number 5 m p.depth → Numbers s n rank number → Takes (read_assign peek_in skip_in) 5 s k H (leaves q)
-    assign_line q e hn =
-        let H' = leaves (moved p number 5 m p.depth) in
-        subst (λ (x : Progress). Takes (read_assign peek_in skip_in) 5 s k H (leaves x)) (sym e)
-        (compiled (read_assign peek_in skip_in) n m rank w rank H' hn
-        (λ st rp f. yields_assign (Judges st m rank rank H') (λ r e wr. (assign_rank st rp r e wr.ranks, λ _. assign_good st rp r e wr)) f s))
+    -- something is wrong with it
+    pub assign_told : (e : Flaw) → Comes s g.at rank (Err e) → Takes (read_assign peek_in skip_in) 5 s k H leaves (Err e)
+    assign_told e h st rp sane fo f b =
+        concludes_told (flaw_of st) (λ l q. Represents (leaves q) (after k l st)) (read_assign peek_in skip_in f) s g.at rank e h
+        (compiled_to (read_assign peek_in skip_in) st rp f b g w (λ l. flawed rank ≡ flaw_of st l)
+        (yields_assign (λ l. Written st g l → flawed rank ≡ flaw_of st l) (λ r e wr. assign_rank st rp r e wr.ranks) f s))
 
--- the rank of an `if` inside as many others
-pub nested_low : (rank depth : ℕ) → depth < 8 → rank ≡ max rank (cond (leb (suc depth) 8) 0 1)
-nested_low rank depth h =
-    let x : ◌≡◌ {A = ℕ} (cond (leb (suc depth) 8) 0 1) 0 = ap (λ (b : Bool). cond b 0 1) (le-leb (suc depth) 8 (omega arith)) in
-    omega (arith, x)
-
-pub nested_high : (rank depth r : ℕ) → (depth < 8 → ⊥) → r ≡ max rank 1 → r ≡ max rank (cond (leb (suc depth) 8) 0 1)
-nested_high rank depth r h e =
-    let x : ◌≡◌ {A = ℕ} (cond (leb (suc depth) 8) 0 1) 1 = ap (λ (b : Bool). cond b 0 1) (lt-leb (suc depth) 8 (omega arith)) in
-    omega (arith, x, e)
+    pub assign_line : (q : Progress) (u : Unit {0}) → Comes s g.at rank (Ok u) → q ≡ moved p 5 m' p.depth
+        → Takes (read_assign peek_in skip_in) 5 s k H leaves (Ok q)
+    assign_line q u h e =
+        subst (λ (x : Progress). Takes (read_assign peek_in skip_in) 5 s k H leaves (Ok x)) (sym e)
+        (λ st rp sane fo f b.
+        let good : Line → Progress → Type 0 = λ l q. Represents (leaves q) (after k l st) in
+        let Fits : Line → Type 0 = Settles (flaw_of st) good rank (moved p 5 m' p.depth) in
+        concludes_good (flaw_of st) good (read_assign peek_in skip_in f) s g.at rank (moved p 5 m' p.depth) u h
+        (compiled_to (read_assign peek_in skip_in) st rp f b g w Fits
+        (yields_assign (λ l. Written st g l → Fits l) (λ r e wr. (assign_rank st rp r e wr.ranks, λ _. assign_good st rp r e wr)) f s)))
 
 -- how the code finds what is compiled
-pub compiled_bounded : (read : ℕ → List ℕ → Parsed (List ℕ) Line) (T s : List ℕ) (k place : ℕ) (C C' : List ℕ) (g : Got) (n m rank : ℕ)
-    → Compiles read T s k place C C' g → g ≡ Done n m rank → m ≤ place + 2 * length s
-unfolding Bounded
-compiled_bounded read T s k place C C' g n m rank w e = (subst (Bounded s place) e w.within).1
-
-pub compiled_number : (s : List ℕ) (n a b r : ℕ) → a ≡ b → Numbers s n a r → Numbers s n b r
-compiled_number s n a b r e h = subst (λ (m : ℕ). Numbers s n m r) e h
+pub compiled_bounded : (read : ℕ → List ℕ → Parsed (List ℕ) Line) (T s : List ℕ) (k place : ℕ) (C C' : List ℕ) (g : Got)
+    → Compiles read T s k place C C' (Some g) → (g.at ≤ length s) × (g.place ≤ place + 2 * length s)
+compiled_bounded read T s k place C C' g w = bounded_some s place g w.within

@@ -2,99 +2,154 @@
 use mathlib.Core.Path.{◌≡◌, refl, sym, ◌∙◌, ap, subst}
 use mathlib.Core.Bool.{Bool, true, false, cond, not, ◌&&◌}
 use mathlib.Core.List.{List}
-use Prim.Native.Nat.{ℕ, zero, suc, ◌+◌, ◌≤◌, ◌<◌}
-use Prim.Native.String.{String}
-use native.Mathlib.Omega.{arith}
 use mathlib.Core.Logic.{inl, inr}
+use Prim.Native.String.{String}
+use Prim.Native.Nat.{ℕ, zero, suc, ◌+◌, ◌*◌, ◌≤◌, ◌<◌}
+use native.Mathlib.Omega.{arith}
 use borrow.Author.Tests.{eqb-true}
 use lib.Dec.{eqb}
 use lib.ListN.{length, drop}
+use Rattle.std.specs.Prelude.{Option, Some, None, Result, Ok, Err, ok_or}
+use Rattle.syntax.specs.declared.Flaw.{Flaw}
+use Rattle.syntax.specs.declared.Flaw.TheVariants.{BrokenForm, WrongName, OverLimit}
 use Rattle.syntax.specs.Bytes.{bytes, choose}
 use Rattle.syntax.specs.Grammar.{Line}
-use Rattle.syntax.specs.Known.{State}
+use Rattle.syntax.specs.Known.{State, after}
 use Rattle.syntax.specs.Conditions.{names, limits, fits, several, may_miss, may_follow}
+use Rattle.syntax.specs.Reader.{Parsed, broken, done, Reader, next, kind, finish, peek_in, skip_in}
+use Rattle.syntax.specs.Sane.{Sane}
 use Rattle.syntax.proofs.Spelling.{both_true}
 use Rattle.syntax.proofs.TestLaws.{either_holds}
-use Rattle.syntax.specs.Reader.{Parsed, broken, done, Reader, next, kind, finish, wants, expects, peek_in, skip_in}
-use Rattle.lexer.specs.Places.{Lands, Goes, Any, passes}
-use Rattle.lexer.proofs.Said.{signed, lettered}
-use Rattle.lexer.proofs.PlaceLaws.{expects_passes, wants_passes}
+use Rattle.lexer.specs.Places.{NotRead, ReadTo, Finds, Any, passes}
+use Rattle.lexer.proofs.InTurn.{to_saying}
 use Rattle.heading.specs.Lists.{order}
-use Rattle.lines.specs.Progress.{number_of, numbered, Concludes, Numbers}
+use Rattle.lines.specs.declared.Progress.{Progress}
+use Rattle.lines.specs.Lines.{Takes}
+use Rattle.lines.specs.Progress.{Held, Represents, flaw_of, flawed, told, Comes, whole, Concludes}
 
--- ---- the number
+-- ---- what a reader found, or the form is broken
 
-pub numbers_beyond : {s : List ℕ} {next rank : ℕ} → length s < next → Numbers s next rank 2
-numbers_beyond h = record { beyond = λ _. refl; within = λ b. absurd (omega arith) }
+module _ {A R : Type 0} (after : R → ℕ) (P : R → A → Type 0) (s : List ℕ) (at : ℕ) (read : Reader (List ℕ) A) where
+  pub found : (o : Option R) (r : R) → Ok r ≡ ok_or o BrokenForm → Finds after P s at read o → ReadTo (P r) s at read (after r)
+  found None r e h = absurd (let z : ◌≡◌ {A = ℕ} 0 1 = cc in omega arith)
+  found (Some x) r e h = let z : x ≡ r = cc in subst (λ (y : R). ReadTo (P y) s at read (after y)) z h
 
-module _ {s : List ℕ} {next : ℕ} (b : next ≤ length s) where
-  pub numbers_more : {rank : ℕ} → eqb (kind (peek_in (drop next s))) 0 ≡ false → Numbers s next rank 2
-  numbers_more {rank} e = record { beyond = λ _. refl; within = λ _. sym (ap (λ (x : Bool). cond x (numbered rank) 2) e) }
+  pub missed : (o : Option R) (f : Flaw) → Err f ≡ ok_or o BrokenForm → Finds after P s at read o → NotRead s at read
+  missed None f e h = h
+  missed (Some x) f e h = absurd (let z : ◌≡◌ {A = ℕ} 0 1 = cc in omega arith)
 
-  pub numbers_end : {rank r : ℕ} → eqb (kind (peek_in (drop next s))) 0 ≡ true → r ≡ numbered rank → Numbers s next rank r
-  numbers_end {rank} e h = record { beyond = λ k. absurd (omega arith); within = λ _. h ∙ sym (ap (λ (x : Bool). cond x (numbered rank) 2) e) }
+-- a sign or a word
+module _ (t : String) (s : List ℕ) (at : ℕ) (o : Option ℕ) where
+  pub passed : (m : ℕ) → Ok m ≡ ok_or o BrokenForm → Finds (λ next. next) (λ _. Any) s at (passes (bytes t)) o → ReadTo Any s at (passes (bytes t)) m
+  passed m = found (λ next. next) (λ _. Any) s at (passes (bytes t)) o m
 
-pub numbered_large : (n : ℕ) → (n ≡ 0 → ⊥) → (n ≡ 1 → ⊥) → 3 ≡ numbered n
-numbered_large zero a b = absurd (a refl)
-numbered_large (suc zero) a b = absurd (b refl)
-numbered_large (suc (suc n)) a b = refl
+  pub unpassed : (f : Flaw) → Err f ≡ ok_or o BrokenForm → Finds (λ next. next) (λ _. Any) s at (passes (bytes t)) o → NotRead s at (passes (bytes t))
+  unpassed f = missed (λ next. next) (λ _. Any) s at (passes (bytes t)) o f
 
--- ---- what is read to the line's end
+-- something else
+pub some_of : {R : Type 0} (P : Option R → Type 0) (o : Option R) (r : R) → Ok r ≡ ok_or o BrokenForm → P o → P (Some r)
+some_of P None r e h = absurd (let z : ◌≡◌ {A = ℕ} 0 1 = cc in omega arith)
+some_of {R} P (Some x) r e h = let z : x ≡ r = cc in subst (λ (y : R). P (Some y)) z h
 
--- a part, and then the line's end
-abbrev pub ending : {A : Type 0} → Reader (List ℕ) A → (A → Line) → Reader (List ℕ) Line
-ending R mk u = next (R u) (λ a v. next (finish peek_in skip_in v) (λ _. done (mk a)))
+pub none_of : {R : Type 0} (P : Option R → Type 0) (o : Option R) (f : Flaw) → Err f ≡ ok_or o BrokenForm → P o → P None
+none_of P None f e h = h
+none_of P (Some x) f e h = absurd (let z : ◌≡◌ {A = ℕ} 0 1 = cc in omega arith)
 
-abbrev pub ended : Bool → List ℕ → Parsed (List ℕ) (Unit {0})
-ended b v = cond b (done tt v) broken
+-- and so says the flaw
+pub broken_form : {R : Type 0} (o : Option R) (f : Flaw) → Err f ≡ ok_or o BrokenForm → f ≡ BrokenForm
+broken_form None f e = cc
+broken_form (Some x) f e = absurd (let z : ◌≡◌ {A = ℕ} 0 1 = cc in omega arith)
 
-module _ {A : Type 0} (P : A → Type 0) (s : List ℕ) (mk : A → Line) (num : Line → ℕ) (good : Line → Type 0) (m rank n : ℕ) (h : Numbers s m rank n)
-    (f : (a : A) → P a → (numbered rank ≡ num (mk a)) × (numbered rank ≡ 0 → good (mk a))) where
-  pub concludes_lands : (p : Parsed (List ℕ) A) → Lands P s p m → Concludes num good (next p (λ a v. next (finish peek_in skip_in v) (λ _. done (mk a)))) n
-  unfolding Concludes
-  concludes_lands broken l = h.beyond (omega (arith, l))
-  concludes_lands (done a u) l =
-      subst (λ (v : List ℕ). Concludes num good (next (finish peek_in skip_in v) (λ _. done (mk a))) n) (sym l.0)
-      (go (eqb (kind (peek_in (drop m s))) 0) (h.within l.1))
-    where
-      go : (b : Bool) → n ≡ cond b (numbered rank) 2 → Concludes num good (next (ended b (drop m s)) (λ _. done (mk a))) n
-      go true e = let (x, y) = f a l.2 in (e ∙ x, λ z. y (sym e ∙ z))
-      go false e = e
+-- ---- what is told of it
 
--- a word or a sign, and what comes after it
-module _ (num : Line → ℕ) (good : Line → Type 0) (n : ℕ) (s : List ℕ) (at k : ℕ) (t : String) (g : Goes Any s at (passes (bytes t)) k) (b : at ≤ length s)
-    (rest : Reader (List ℕ) Line) (r : k ≤ length s → Concludes num good (rest (drop k s)) n) (o : length s < k → n ≡ 2) where
-  concludes_passed : Concludes num good (next (passes (bytes t) (drop at s)) (λ _. rest)) n
-  unfolding Concludes
-  concludes_passed = go (passes (bytes t) (drop at s)) (g.lands b)
-    where
-      go : (p : Parsed (List ℕ) (Unit {0})) → Lands Any s p k → Concludes num good (next p (λ _. rest)) n
-      go broken l = o (omega (arith, l))
-      go (done a u) l = subst (λ (v : List ℕ). Concludes num good (rest v) n) (sym l.0) (r l.1)
+told_some : (o : Option Flaw) (f : Flaw) → Err f ≡ told o → o ≡ Some f
+told_some None f e = absurd (let z : ◌≡◌ {A = ℕ} 0 1 = cc in omega arith)
+told_some (Some x) f e = let z : x ≡ f = cc in ap Some z
 
-  pub concludes_word : lettered (bytes t) ≡ true → Concludes num good (next (wants peek_in skip_in t (drop at s)) (λ _. rest)) n
-  concludes_word e = subst (λ (p : Parsed (List ℕ) (Unit {0})). Concludes num good (next p (λ _. rest)) n) (sym (wants_passes t e (drop at s))) concludes_passed
+told_none : (o : Option Flaw) (u : Unit {0}) → Ok u ≡ told o → o ≡ None
+told_none None u e = refl
+told_none (Some x) u e = absurd (let z : ◌≡◌ {A = ℕ} 0 1 = cc in omega arith)
 
-  pub concludes_sign : signed (bytes t) ≡ true → Concludes num good (next (expects peek_in skip_in t (drop at s)) (λ _. rest)) n
-  concludes_sign e = subst (λ (p : Parsed (List ℕ) (Unit {0})). Concludes num good (next p (λ _. rest)) n) (sym (expects_passes t e (drop at s)))
-      concludes_passed
+pub flawed_none : (n : ℕ) → flawed n ≡ None → n ≡ 0
+flawed_none zero h = refl
+flawed_none (suc zero) h = absurd (let z : ◌≡◌ {A = ℕ} 0 1 = cc in omega arith)
+flawed_none (suc (suc n)) h = absurd (let z : ◌≡◌ {A = ℕ} 0 1 = cc in omega arith)
+
+module _ (flaw : Line → Option Flaw) (good : Line → Progress → Type 0) where
+  -- a line of a rank: what is wrong with it, and else what it leaves
+  abbrev pub Settles : ℕ → Progress → Line → Type 0
+  Settles rank p l = (flawed rank ≡ flaw l) × (rank ≡ 0 → good l p)
+
+  -- the line's end after it
+  module _ (l : Line) (v : List ℕ) (rank : ℕ) where
+    abbrev after_it : Bool → Parsed (List ℕ) Line
+    after_it b = next (cond b (done (tt {0}) v) broken) (λ _. done l)
+
+    end_told : (b : Bool) (f : Flaw) → flawed rank ≡ flaw l → Err f ≡ cond b (told (flawed rank)) (Err BrokenForm)
+        → Concludes flaw good (after_it b) (Err f)
+    unfolding Concludes
+    end_told true f e h = sym e ∙ told_some (flawed rank) f h
+    end_told false f e h = cc
+
+    end_broken : (b : Bool) → flaw l ≡ Some BrokenForm → Concludes flaw good (after_it b) (Err BrokenForm)
+    unfolding Concludes
+    end_broken true e = e
+    end_broken false e = refl
+
+    end_good : (b : Bool) (u : Unit {0}) (p : Progress) → Settles rank p l → Ok u ≡ cond b (told (flawed rank)) (Err BrokenForm)
+        → Concludes flaw good (after_it b) (Ok p)
+    unfolding Concludes
+    end_good true u p (e, g) h = let n = told_none (flawed rank) u h in (sym e ∙ n, g (flawed_none rank n))
+    end_good false u p q h = absurd (let z : ◌≡◌ {A = ℕ} 0 1 = cc in omega arith)
+
+  module _ (R : Reader (List ℕ) Line) (s : List ℕ) where
+    -- nothing is read
+    pub concludes_not : (f : Flaw) → f ≡ BrokenForm → NotRead s 0 R → Concludes flaw good (whole R s) (Err f)
+    unfolding Concludes
+    concludes_not f e g = subst (λ (p : Parsed (List ℕ) Line). Concludes flaw good (next p (λ l u. next (finish peek_in skip_in u) (λ _. done l))) (Err f))
+        (sym (g.fails (omega arith))) e
+
+    module _ (m : ℕ) where
+      -- a line is read that may not stand there
+      pub concludes_broken : ReadTo (λ l. flaw l ≡ Some BrokenForm) s 0 R m → Concludes flaw good (whole R s) (Err BrokenForm)
+      concludes_broken g = subst (λ (q : Parsed (List ℕ) Line). Concludes flaw good (next q (λ l u. next (finish peek_in skip_in u) (λ _. done l))) (Err BrokenForm))
+          (sym g.reads) (end_broken g.what (drop m s) 0 (eqb (kind (peek_in (drop m s))) 0) g.holds)
+
+    module _ (m rank : ℕ) where
+      -- a line is read, and something is wrong with it
+      pub concludes_told : (f : Flaw) → Comes s m rank (Err f) → ReadTo (λ l. flawed rank ≡ flaw l) s 0 R m → Concludes flaw good (whole R s) (Err f)
+      concludes_told f e g = subst (λ (q : Parsed (List ℕ) Line). Concludes flaw good (next q (λ l u. next (finish peek_in skip_in u) (λ _. done l))) (Err f))
+          (sym g.reads) (end_told g.what (drop m s) rank (eqb (kind (peek_in (drop m s))) 0) f g.holds (e g.within))
+
+      pub concludes_flaw : (p : Progress) (f : Flaw) → Comes s m rank (Err f) → ReadTo (Settles rank p) s 0 R m → Concludes flaw good (whole R s) (Err f)
+      concludes_flaw p f e g = concludes_told f e (to_saying g (λ l q. q.0))
+
+      -- or nothing is
+      pub concludes_good : (p : Progress) (u : Unit {0}) → Comes s m rank (Ok u) → ReadTo (Settles rank p) s 0 R m → Concludes flaw good (whole R s) (Ok p)
+      concludes_good p u e g = subst (λ (q : Parsed (List ℕ) Line). Concludes flaw good (next q (λ l u. next (finish peek_in skip_in u) (λ _. done l))) (Ok p))
+          (sym g.reads) (end_good g.what (drop m s) rank (eqb (kind (peek_in (drop m s))) 0) u p g.holds (e g.within))
+
+-- a good part's rank
+pub ended_well : (s : List ℕ) (m rank : ℕ) (u : Unit {0}) → m ≤ length s → Comes s m rank (Ok u) → rank ≡ 0
+ended_well s m rank u b h = go (eqb (kind (peek_in (drop m s))) 0) (h b)
+  where
+    go : (b : Bool) → Ok u ≡ cond b (told (flawed rank)) (Err BrokenForm) → rank ≡ 0
+    go true h = flawed_none rank (told_none (flawed rank) u h)
+    go false h = absurd (let z : ◌≡◌ {A = ℕ} 0 1 = cc in omega arith)
 
 -- ---- a line in order
 
--- where it may stand, its number is that of its rank
-pub number_by : (st : State) (l : Line) → fits st.opens l ≡ true → (a b : Bool) → names st l ≡ a → limits st l ≡ b → numbered (order a b) ≡ number_of st l
-unfolding number_of
-number_by st l e a b ea eb = sym ((λ i. choose (not (e i)) (λ _. 2) (λ _. choose (not (ea i)) (λ _. 3) (λ _. choose (not (eb i)) (λ _. 4) (λ _. 0)))) ∙ go a b)
+-- where it may stand, what is wrong with it is what its rank says
+pub flaw_by : (st : State) (l : Line) → fits st.opens l ≡ true → (a b : Bool) → names st l ≡ a → limits st l ≡ b → flawed (order a b) ≡ flaw_of st l
+unfolding flaw_of
+flaw_by st l e a b ea eb =
+    sym ((λ i. choose (not (e i)) (λ _. Some BrokenForm) (λ _. choose (not (ea i)) (λ _. Some WrongName)
+    (λ _. choose (not (eb i)) (λ _. Some OverLimit) (λ _. None)))) ∙ go a b)
   where
-    go : (a b : Bool) → choose (not a) (λ _. 3) (λ _. choose (not b) (λ _. 4) (λ _. 0)) ≡ numbered (order a b)
+    go : (a b : Bool) → choose (not a) (λ _. Some WrongName) (λ _. choose (not b) (λ _. Some OverLimit) (λ _. None)) ≡ flawed (order a b)
     go true true = refl
     go true false = refl
     go false b = refl
-
-pub numbered_zero : (n : ℕ) → numbered n ≡ 0 → n ≡ 0
-numbered_zero zero h = refl
-numbered_zero (suc zero) h = absurd (omega (arith, h))
-numbered_zero (suc (suc n)) h = absurd (omega (arith, h))
 
 -- ---- the order of lines
 
@@ -106,3 +161,27 @@ follows_most k n h = elim (either_holds (eqb n (k + 1)) _ h) [
     | inr d ↦ omega (arith, eqb-true n (k + 2) (both_true (may_miss (k + 1)) (eqb n (k + 2)) d).1)
   ]
 ]
+
+-- ---- a line of a kind, by what its reader reads
+
+module _ (read : ℕ → Reader (List ℕ) Line) (j : ℕ) (s : List ℕ) (k : ℕ) (H : Held) (H' : Progress → Held) where
+  -- of each state that is held, with enough fuel
+  abbrev Each : ((st : State) → Reader (List ℕ) Line → Type 0) → Type 0
+  Each P = (st : State) → Represents H st → Sane st → may_follow st.stage j ≡ true → (n : ℕ) → length s < n → P st (read n)
+
+  abbrev leaves : State → Line → Progress → Type 0
+  leaves st l p = Represents (H' p) (after k l st)
+
+  pub takes_not : (f : Flaw) → f ≡ BrokenForm → Each (λ st. NotRead s 0) → Takes read j s k H H' (Err f)
+  takes_not f e g st rp sane fo n b = concludes_not (flaw_of st) (leaves st) (read n) s f e (g st rp sane fo n (omega (arith, b)))
+
+  pub takes_broken : (m : ℕ) → Each (λ st R. ReadTo (λ l. flaw_of st l ≡ Some BrokenForm) s 0 R m) → Takes read j s k H H' (Err BrokenForm)
+  takes_broken m g st rp sane fo n b = concludes_broken (flaw_of st) (leaves st) (read n) s m (g st rp sane fo n (omega (arith, b)))
+
+  module _ (m rank : ℕ) (p : Progress) (g : Each (λ st R. ReadTo (Settles (flaw_of st) (leaves st) rank p) s 0 R m)) where
+    pub takes_flaw : (f : Flaw) → Comes s m rank (Err f) → Takes read j s k H H' (Err f)
+    takes_flaw f e st rp sane fo n b = concludes_flaw (flaw_of st) (leaves st) (read n) s m rank p f e (g st rp sane fo n (omega (arith, b)))
+
+    pub takes_good : (q : Progress) (u : Unit {0}) → Comes s m rank (Ok u) → q ≡ p → Takes read j s k H H' (Ok q)
+    takes_good q u e i = subst (λ (x : Progress). Takes read j s k H H' (Ok x)) (sym i)
+        (λ st rp sane fo n b. concludes_good (flaw_of st) (leaves st) (read n) s m rank p u e (g st rp sane fo n (omega (arith, b))))

@@ -1,6 +1,8 @@
 -- How far a text was read: what the code holds, and what it stands for.
-use Rattle.std.specs.Prelude.{◌≡◌, cond, not, List, [], ◌∷◌, ◌++◌, ℕ, zero, suc, ◌+◌, ◌-◌, ◌*◌, ◌≤◌, ◌<◌, eqb, length, get_or, take, drop, replicate, ℤ, pos}
+use Rattle.std.specs.Prelude.{◌≡◌, cond, not, List, [], ◌∷◌, ◌++◌, ℕ, zero, suc, ◌+◌, ◌-◌, ◌*◌, ◌≤◌, ◌<◌, eqb, length, get_or, take, drop, replicate, ℤ, pos, Option, Some, None, Result, Ok, Err}
 use Rattle.rules.specs.declared.Grouping.{Grouping}
+use Rattle.syntax.specs.declared.Flaw.{Flaw}
+use Rattle.syntax.specs.declared.Flaw.TheVariants.{BrokenForm, WrongName, OverLimit}
 use Rattle.syntax.specs.Bytes.{choose}
 use Rattle.syntax.specs.Grammar.{Line}
 use Rattle.syntax.specs.Known.{Open, State, cells}
@@ -30,9 +32,8 @@ abbrev pub held : Progress → List ℕ → List ℤ → List ℕ → List ℕ �
 held p T I C O = record { progress = p; table = T; initial = I; code = C; opens = O }
 
 -- how far a text was read by a line before `do`
-abbrev pub before_do : ℕ → ℕ → ℕ → ℕ → Grouping → Progress
-before_do number stage cells processors grouping = record {
-  number = number;
+abbrev pub before_do : ℕ → ℕ → ℕ → Grouping → Progress
+before_do stage cells processors grouping = record {
   stage = stage;
   cells = cells;
   processors = processors;
@@ -44,9 +45,8 @@ before_do number stage cells processors grouping = record {
 }
 
 -- and by a line after it
-abbrev pub moved : Progress → ℕ → ℕ → ℕ → ℕ → Progress
-moved p number stage place depth = record {
-  number = number;
+abbrev pub moved : Progress → ℕ → ℕ → ℕ → Progress
+moved p stage place depth = record {
   stage = stage;
   cells = p.cells;
   processors = p.processors;
@@ -95,18 +95,18 @@ Underway p C O = (T : List ℕ) × (I : List ℤ) × (s : State) × Represents (
 
 -- ---- what a line comes to
 
--- the number of a line that stands where it may: "2 before 3 before 4"; 0 for a good one
-unfoldable pub number_of : State → Line → ℕ
-number_of s l =
-    choose (not (fits s.opens l)) (λ _. 2) (λ _.
-    choose (not (names s l)) (λ _. 3) (λ _.
-    choose (not (limits s l)) (λ _. 4) (λ _. 0)))
+-- what is wrong with a line that stands where it may: "2 before 3 before 4"; nothing with a good one
+unfoldable pub flaw_of : State → Line → Option Flaw
+flaw_of s l =
+    choose (not (fits s.opens l)) (λ _. Some BrokenForm) (λ _.
+    choose (not (names s l)) (λ _. Some WrongName) (λ _.
+    choose (not (limits s l)) (λ _. Some OverLimit) (λ _. None)))
 
--- a rank as a number of RULES 10: 1 over a limit, 2 a wrong name
-abbrev pub numbered : ℕ → ℕ
-numbered zero = 0
-numbered (suc zero) = 4
-numbered (suc (suc n)) = 3
+-- what a rank says is wrong: 1 over a limit, 2 a wrong name
+abbrev pub flawed : ℕ → Option Flaw
+flawed zero = None
+flawed (suc zero) = Some OverLimit
+flawed (suc (suc n)) = Some WrongName
 
 -- a part of a line that is a whole line
 abbrev pub whole : Reader (List ℕ) Line → Reader (List ℕ) Line
@@ -115,12 +115,18 @@ whole r = do
   finish peek_in skip_in
   yield l
 
--- 2 where the form is broken; else the line's number, and what a good line leaves
-unfoldable pub Concludes : (Line → ℕ) → (Line → Type 0) → Parsed (List ℕ) Line → ℕ → Type 0
-Concludes num good broken n = n ≡ 2
-Concludes num good (done l u) n = (n ≡ num l) × (n ≡ 0 → good l)
+-- what is told where the form is broken, and else of the line: what is wrong with it, or what a good line leaves
+unfoldable pub Concludes : (Line → Option Flaw) → (Line → Progress → Type 0) → Parsed (List ℕ) Line → Result Progress Flaw → Type 0
+Concludes flaw good broken (Err f) = f ≡ BrokenForm
+Concludes flaw good broken (Ok p) = ⊥
+Concludes flaw good (done l u) (Err f) = flaw l ≡ Some f
+Concludes flaw good (done l u) (Ok p) = (flaw l ≡ None) × good l p
 
--- the number of a part that ends at a place, with a rank
-pub record Numbers (s : List ℕ) (next rank r : ℕ) : Type 0 where
-  pub beyond : length s < next → r ≡ 2
-  pub within : next ≤ length s → r ≡ cond (eqb (kind (peek_in (drop next s))) 0) (numbered rank) 2
+-- what is wrong, if anything is
+abbrev pub told : Option Flaw → Result Unit Flaw
+told None = Ok tt
+told (Some f) = Err f
+
+-- what a part that ends at a place of the line comes to, with a rank
+abbrev pub Comes : List ℕ → ℕ → ℕ → Result Unit Flaw → Type 0
+Comes s next rank r = next ≤ length s → r ≡ cond (eqb (kind (peek_in (drop next s))) 0) (told (flawed rank)) (Err BrokenForm)

@@ -1,31 +1,33 @@
-// The lines of a loop text, each by its kind: read to its end, judged, and taken into what is known so far.
+// The lines of a loop text, each by its kind: read to its end, judged, and taken into what is known so far; or what is wrong with it.
 #![tactic(auto)]
 
-ghost use Rattle.std.specs.Prelude.{◌≡◌, List, Bool, cond, ℕ, suc, ◌≤◌, ◌<◌, ◌+◌, ◌-◌, ◌*◌, max, leb, length, get_or, set, ℤ};
+ghost use Rattle.std.specs.Prelude.{◌≡◌, List, Bool, ℕ, ◌≤◌, ◌<◌, ◌+◌, ◌-◌, ◌*◌, length, get_or, set, ℤ};
 ghost use Rattle.syntax.specs.Grammar.{otherwise, end_if, inside, end_do};
+ghost use Rattle.syntax.specs.Ranks.{level};
 ghost use Rattle.syntax.specs.Reader.{read_declare, read_give, read_opening, read_closing, read_loop, read_assign, read_when, peek_in, skip_in};
 ghost use Rattle.code.specs.Instr.{operation, jump};
 ghost use Rattle.heading.specs.Lists.{Standing};
 ghost use Rattle.lines.specs.Lines.{Takes, reads};
-ghost use Rattle.lines.specs.Progress.{held, before_do, moved, Numbers, Underway};
+ghost use Rattle.lines.specs.Progress.{held, before_do, moved, Comes, Underway};
 
 use assignments::assignment;
 use bounds::do_line;
 use clauses::{directive, grouping_of, stands_rightly};
 use code::JUMP;
 use conditions::condition;
-use declarations::integers;
+use declarations::{Listed, integers};
 use lexer::{is_end, pass};
 use names::Table;
-use parts::Got;
+use parts::opened;
 use rules::Grouping;
+use syntax::{Flaw, Rank};
 use values::data_values;
 
-// How far a text was read: 0 or the number of its first bad line; which of 1 to 7 stood last; how many cells, processors and iterations there are,
-// how iterations are grouped, and the first value of the loop's variable; how many instructions are emitted, and how many ifs are open.
+// How far a text was read: which of 1 to 7 stood last; how many cells, processors and iterations there are, how iterations are grouped, and the first
+// value of the loop's variable; how many instructions are emitted, and how many ifs are open.
 #[derive(Clone, Copy)]
 pub struct Progress {
-    pub number: u32,
+    // a number: what may follow what is reckoned with it (`kinds::is_next`)
     pub stage: u32,
     pub cells: u32,
     pub processors: u32,
@@ -36,34 +38,26 @@ pub struct Progress {
     pub depth: usize,
 }
 
-// The number of a line whose form was read up to a place, and that has a rank.
-fn number_of(s: &[u8], next: usize, rank: u32) -> u32
-    ensures { Numbers s.now next rank result }
+// What is wrong with a line whose form was read up to a place, and that has a rank.
+fn judged(s: &[u8], next: usize, rank: Rank) -> Result<(), Flaw>
+    ensures comes { Comes s.now next (level rank) result }
+    ensures beyond { length s.now < next → result ≡ Err Flaw.BrokenForm }
 {
-    if s.len() < next {
-        return 2;
+    if s.len() < next || !is_end(s, next) {
+        return Err(Flaw::BrokenForm);
     }
-    if !is_end(s, next) {
-        return 2;
+    match rank {
+        Rank::InOrder => Ok(()),
+        Rank::OverLimit => Err(Flaw::OverLimit),
+        Rank::WrongName => Err(Flaw::WrongName),
     }
-    if rank == 0 {
-        return 0;
-    }
-    if rank == 1 { 4 } else { 3 }
 }
 
 // How far a text was read by a line before `do`.
-pub fn before_do(
-    number: u32,
-    stage: u32,
-    cells: u32,
-    processors: u32,
-    grouping: Grouping,
-) -> Progress
-    ensures { result ≡ before_do number stage cells processors grouping }
+pub fn before_do(stage: u32, cells: u32, processors: u32, grouping: Grouping) -> Progress
+    ensures { result ≡ before_do stage cells processors grouping }
 {
     Progress {
-        number,
         stage,
         cells,
         processors,
@@ -77,110 +71,89 @@ pub fn before_do(
 
 // ---- 1. integer
 
-pub fn integer_line(s: &[u8], p: Progress, table: &mut Table) -> Progress
+pub fn integer_line(s: &[u8], p: Progress, table: &mut Table) -> Result<Progress, Flaw>
     requires { (length s.now ≤ 2048) × (p.cells ≤ 4096) }
     ensures { (k : ℕ) (I : List ℤ) (C O : List ℕ) → Takes (read_declare peek_in skip_in) 1 s.now k
-        (held p table.old I C O) (held result table.new I C O) }
+        (held p table.old I C O) (λ q. held q table.new I C O) result }
 {
-    let a = pass(s, 0, b"integer");
-    let r = integers(s, a, table, p.cells, 0);
-    before_do(
-        number_of(s, r.next, r.rank),
-        1,
-        r.cells,
-        0,
-        Grouping::Iterations,
-    )
+    let next = pass(s, 0, b"integer").ok_or(Flaw::BrokenForm)?;
+    let before = Listed {
+        next,
+        cells: p.cells,
+        rank: Rank::InOrder,
+    };
+    let r = integers(s, table, before).ok_or(Flaw::BrokenForm)?;
+    judged(s, r.next, r.rank)?;
+    Ok(before_do(1, r.cells, 0, Grouping::Iterations))
 }
 
 // ---- 2. data
 
-pub fn data_line(s: &[u8], p: Progress, table: &mut Table, initial: &mut [i32]) -> Progress
+pub fn data_line(
+    s: &[u8],
+    p: Progress,
+    table: &mut Table,
+    initial: &mut [i32],
+) -> Result<Progress, Flaw>
     requires { (length s.now ≤ 2048) × (length initial.old ≡ 4096) × Standing table.old }
     ensures { (k : ℕ) (C O : List ℕ) → Takes (read_give peek_in skip_in) 2 s.now k
-        (held p table.old initial.old C O) (held result table.new initial.new C O) }
+        (held p table.old initial.old C O) (λ q. held q table.new initial.new C O) result }
 {
-    let a = pass(s, 0, b"data");
-    let r = data_values(s, a, table, initial);
-    before_do(
-        number_of(s, r.next, r.rank),
-        2,
-        p.cells,
-        0,
-        Grouping::Iterations,
-    )
+    let next = pass(s, 0, b"data").ok_or(Flaw::BrokenForm)?;
+    let r = data_values(s, next, table, initial).ok_or(Flaw::BrokenForm)?;
+    judged(s, r.next, r.rank)?;
+    Ok(before_do(2, p.cells, 0, Grouping::Iterations))
 }
 
 // ---- 3. the directive, with `num_threads` exactly once and `schedule(static)` at most once
 
-pub fn directive_line(s: &[u8], p: Progress, table: &mut Table) -> Progress
+pub fn directive_line(s: &[u8], p: Progress, table: &mut Table) -> Result<Progress, Flaw>
     requires { (length s.now ≤ 2048) × Standing table.old }
     ensures { (k : ℕ) (I : List ℤ) (C O : List ℕ) → Takes (read_opening peek_in skip_in) 3 s.now k
-        (held p table.old I C O) (held result table.new I C O) }
+        (held p table.old I C O) (λ q. held q table.new I C O) result }
 {
-    let a = pass(s, 0, b"!$omp");
-    let b = pass(s, a, b"parallel");
-    let c = pass(s, b, b"do");
-    let r = directive(s, c, table);
-    let grouping = grouping_of(r.statics);
-    if stands_rightly(r.threads, r.statics) {
-        return before_do(
-            number_of(s, r.next, r.rank),
-            3,
-            p.cells,
-            r.processors,
-            grouping,
-        );
+    let a = pass(s, 0, b"!$omp").ok_or(Flaw::BrokenForm)?;
+    let b = pass(s, a, b"parallel").ok_or(Flaw::BrokenForm)?;
+    let c = pass(s, b, b"do").ok_or(Flaw::BrokenForm)?;
+    let r = directive(s, c, table).ok_or(Flaw::BrokenForm)?;
+    if !stands_rightly(r.threads, r.statics) {
+        return Err(Flaw::BrokenForm);
     }
-    before_do(2, 3, p.cells, r.processors, grouping)
+    judged(s, r.next, r.rank)?;
+    Ok(before_do(3, p.cells, r.processors, grouping_of(r.statics)))
 }
 
 // ---- 4. do
 
-pub fn loop_line(s: &[u8], p: Progress, table: &mut Table) -> Progress
+pub fn loop_line(s: &[u8], p: Progress, table: &mut Table) -> Result<Progress, Flaw>
     requires { length s.now ≤ 2048 }
     ensures { (k : ℕ) (I : List ℤ) (C O : List ℕ) → Takes (read_loop peek_in skip_in) 4 s.now k
-        (held p table.old I C O) (held result table.new I C O) }
+        (held p table.old I C O) (λ q. held q table.new I C O) result }
 {
-    let a = pass(s, 0, b"do");
-    let r = do_line(s, a, table);
-    let cells = p.cells;
-    let processors = p.processors;
-    let grouping = p.grouping;
-    Progress {
-        number: number_of(s, r.next, r.rank),
+    let a = pass(s, 0, b"do").ok_or(Flaw::BrokenForm)?;
+    let r = do_line(s, a, table).ok_or(Flaw::BrokenForm)?;
+    judged(s, r.next, r.rank)?;
+    Ok(Progress {
         stage: 4,
-        cells,
-        processors,
-        grouping,
         from: r.from,
         count: r.count,
         place: 0,
         depth: 0,
-    }
+        ..p
+    })
 }
 
 // ---- lines after do
 
-// How far a text was read, with this line's number and stage, and another place and depth.
-pub fn onward(p: Progress, number: u32, stage: u32, place: usize, depth: usize) -> Progress
-    ensures { result ≡ moved p number stage place depth }
+// How far a text was read, with this line's stage, and another place and depth.
+fn onward(p: Progress, stage: u32, place: usize, depth: usize) -> Progress
+    ensures { result ≡ moved p stage place depth }
 {
-    let cells = p.cells;
-    let processors = p.processors;
-    let grouping = p.grouping;
-    let from = p.from;
-    let count = p.count;
     Progress {
-        number,
         stage,
-        cells,
-        processors,
-        grouping,
-        from,
-        count,
         place,
         depth,
+        ..p
     }
 }
 
@@ -197,29 +170,23 @@ fn open_word(place: usize) -> u32
     2 * (place as u32 - 1)
 }
 
-// The rank of an `if` inside as many others.
-fn nested(rank: u32, depth: usize) -> u32
-    ensures { result ≡ max rank (cond (leb (suc depth) 8) 0 1) }
-{
-    if depth < 8 {
-        return rank;
-    }
-    if rank < 1 { 1 } else { rank }
-}
-
-pub fn assign_line(s: &[u8], line: u32, p: Progress, table: &Table, code: &mut [u32]) -> Progress
+pub fn assign_line(
+    s: &[u8],
+    line: u32,
+    p: Progress,
+    table: &Table,
+    code: &mut [u32],
+) -> Result<Progress, Flaw>
     requires { (length s.now ≤ 2048) × (line ≤ 2049) × (2 * (p.place + 2 * length s.now) ≤ length code.old) }
     ensures { (I : List ℤ) (O : List ℕ) → Takes (read_assign peek_in skip_in) 5 s.now line
-        (held p table.now I code.old O) (held result table.now I code.new O) }
+        (held p table.now I code.old O) (λ q. held q table.now I code.new O) result }
 {
-    let depth = p.depth;
-    let before = p.place;
-    match assignment(s, line, table, code, before) {
-        Got::Done { at, place, rank } => onward(p, number_of(s, at, rank), 5, place, depth),
-        Got::Broken => onward(p, 2, 5, before, depth),
-    }
+    let g = assignment(s, line, table, code, p.place).ok_or(Flaw::BrokenForm)?;
+    judged(s, g.at, g.rank)?;
+    Ok(onward(p, 5, g.place, p.depth))
 }
 
+// An `if` inside eight others is over the limit.
 pub fn if_line(
     s: &[u8],
     line: u32,
@@ -227,25 +194,16 @@ pub fn if_line(
     table: &Table,
     code: &mut [u32],
     opens: &mut [u32; 8],
-) -> Progress
+) -> Result<Progress, Flaw>
     requires { (length s.now ≤ 2048) × (line ≤ 2049) × (2 * (p.place + 2 * length s.now) ≤ length code.old) × (p.place ≤ 32768) × (p.depth ≤ 8) }
     ensures { (I : List ℤ) → Takes (read_when peek_in skip_in) 5 s.now line
         (held p table.now I code.old opens.old)
-        (held result table.now I code.new opens.new) }
+        (λ q. held q table.now I code.new opens.new) result }
 {
-    let depth = p.depth;
-    let before = p.place;
-    match condition(s, line, table, code, before) {
-        Got::Done { at, place, rank } => {
-            let number = number_of(s, at, nested(rank, depth));
-            if depth < 8 {
-                opens[depth] = open_word(place);
-                return onward(p, number, 5, place, depth + 1);
-            }
-            onward(p, number, 5, place, depth)
-        }
-        Got::Broken => onward(p, 2, 5, before, depth),
-    }
+    let g = condition(s, line, table, code, p.place).ok_or(Flaw::BrokenForm)?;
+    judged(s, g.at, opened(g.rank, p.depth + 1))?;
+    opens[p.depth] = open_word(g.place);
+    Ok(onward(p, 5, g.place, p.depth + 1))
 }
 
 // Fills in the distance of a jump.
@@ -275,68 +233,70 @@ pub fn else_line(
     p: Progress,
     code: &mut [u32],
     opens: &mut [u32; 8],
-) -> Progress
+) -> Result<Progress, Flaw>
     requires { (at ≤ length s.now) × (p.place ≤ 4096) × (2 * (p.place + 1) ≤ length code.old) × Underway p code.old opens.old }
     ensures { (k : ℕ) (T : List ℕ) (I : List ℤ) → Takes (reads (inside otherwise) at) 5 s.now k
-        (held p T I code.old opens.old) (held result T I code.new opens.new) }
+        (held p T I code.old opens.old) (λ q. held q T I code.new opens.new) result }
 {
-    let depth = p.depth;
-    let place = p.place;
-    if depth == 0 {
-        return onward(p, 2, 5, place, depth);
+    if p.depth == 0 {
+        return Err(Flaw::BrokenForm);
     }
-    let w = opens[depth - 1];
+    let w = opens[p.depth - 1];
     if w % 2 == 1 {
-        return onward(p, 2, 5, place, depth);
+        return Err(Flaw::BrokenForm);
     }
+    judged(s, at, Rank::InOrder)?;
     let jump = w as usize / 2;
-    fill(code, jump, place - jump);
-    put_jump(code, place);
-    opens[depth - 1] = 2 * place as u32 + 1;
-    onward(p, number_of(s, at, 0), 5, place + 1, depth)
+    fill(code, jump, p.place - jump);
+    put_jump(code, p.place);
+    opens[p.depth - 1] = 2 * p.place as u32 + 1;
+    Ok(onward(p, 5, p.place + 1, p.depth))
 }
 
 // `end if`
-pub fn end_if_line(s: &[u8], at: usize, p: Progress, code: &mut [u32], opens: &[u32; 8]) -> Progress
+pub fn end_if_line(
+    s: &[u8],
+    at: usize,
+    p: Progress,
+    code: &mut [u32],
+    opens: &[u32; 8],
+) -> Result<Progress, Flaw>
     requires { (at ≤ length s.now) × (p.place ≤ 4096) × (2 * p.place ≤ length code.old) × Underway p code.old opens.now }
     ensures { (j : Bool) (k : ℕ) (T : List ℕ) (I : List ℤ) → Takes (reads (inside (end_if j)) at) 5 s.now k
-        (held p T I code.old opens.now) (held result T I code.new opens.now) }
+        (held p T I code.old opens.now) (λ q. held q T I code.new opens.now) result }
 {
-    let depth = p.depth;
-    let place = p.place;
-    if depth == 0 {
-        return onward(p, 2, 5, place, depth);
+    if p.depth == 0 {
+        return Err(Flaw::BrokenForm);
     }
-    let jump = opens[depth - 1] as usize / 2;
-    fill(code, jump, place - (jump + 1));
-    onward(p, number_of(s, at, 0), 5, place, depth - 1)
+    judged(s, at, Rank::InOrder)?;
+    let jump = opens[p.depth - 1] as usize / 2;
+    fill(code, jump, p.place - (jump + 1));
+    Ok(onward(p, 5, p.place, p.depth - 1))
 }
 
 // ---- 6. end do, and 7. the closing directive
 
-pub fn end_do_line(s: &[u8], at: usize, p: Progress) -> Progress
+pub fn end_do_line(s: &[u8], at: usize, p: Progress) -> Result<Progress, Flaw>
     requires { at ≤ length s.now }
     ensures { (j : Bool) (k : ℕ) (T : List ℕ) (I : List ℤ) (C O : List ℕ) → Takes (reads (end_do j) at) 6 s.now k
-        (held p T I C O) (held result T I C O) }
+        (held p T I C O) (λ q. held q T I C O) result }
 {
-    let depth = p.depth;
-    let place = p.place;
-    if depth == 0 {
-        return onward(p, number_of(s, at, 0), 6, place, depth);
+    if p.depth != 0 {
+        return Err(Flaw::BrokenForm);
     }
-    onward(p, 2, 6, place, depth)
+    judged(s, at, Rank::InOrder)?;
+    Ok(onward(p, 6, p.place, p.depth))
 }
 
-pub fn close_line(s: &[u8], p: Progress) -> Progress
+pub fn close_line(s: &[u8], p: Progress) -> Result<Progress, Flaw>
     requires { length s.now ≤ 2048 }
     ensures { (k : ℕ) (T : List ℕ) (I : List ℤ) (C O : List ℕ) → Takes (λ _. read_closing peek_in skip_in) 7 s.now k
-        (held p T I C O) (held result T I C O) }
+        (held p T I C O) (λ q. held q T I C O) result }
 {
-    let a = pass(s, 0, b"!$omp");
-    let b = pass(s, a, b"end");
-    let c = pass(s, b, b"parallel");
-    let d = pass(s, c, b"do");
-    let depth = p.depth;
-    let place = p.place;
-    onward(p, number_of(s, d, 0), 7, place, depth)
+    let a = pass(s, 0, b"!$omp").ok_or(Flaw::BrokenForm)?;
+    let b = pass(s, a, b"end").ok_or(Flaw::BrokenForm)?;
+    let c = pass(s, b, b"parallel").ok_or(Flaw::BrokenForm)?;
+    let d = pass(s, c, b"do").ok_or(Flaw::BrokenForm)?;
+    judged(s, d, Rank::InOrder)?;
+    Ok(onward(p, 7, p.place, p.depth))
 }

@@ -6,9 +6,9 @@ ghost use Rattle.std.specs.Prelude.{◌≡◌, length};
 ghost use Rattle.syntax.specs.Text.{read as read_text};
 ghost use Rattle.answers.specs.Answers.{look_of, view_shown, look_workspace};
 
-use answers::Completed;
-use fitting::unfit;
+use answers::Refusal;
 use preparing::prepare;
+use rules::Class;
 
 // The shared value and the marks of each cell after the schedule's bytes.
 pub fn look(
@@ -17,7 +17,7 @@ pub fn look(
     workspace: &mut [u32],
     schedule: &[u8],
     view: &mut [u32],
-) -> Completed
+) -> Result<(), Refusal>
     ensures value { result ≡ look_of (read_text text.now) cells.now (length workspace.old) schedule.now (length view.old) }
     ensures view_after { view.new
         ≡ view_shown (read_text text.now) cells.now (length workspace.old) schedule.now view.old }
@@ -25,33 +25,22 @@ pub fn look(
         ≡ look_workspace (read_text text.now) cells.now workspace.old schedule.now (length view.old) }
 {
     let mut code = [0; code::WORDS];
-    let mut classes = [0; 4096];
-    let r = prepare(text, &mut code, &mut classes);
-    if r.number != 0 {
-        return Completed::Refused {
-            number: r.number,
-            line: r.line,
-        };
-    }
-    let setting = r.setting;
-    let number = unfit(
-        r.cells,
-        setting.processors,
+    let mut classes = [Class::Shared; 4096];
+    let r = prepare(
+        text,
         cells.len(),
         workspace.len(),
         schedule,
-    );
-    if number != 0 {
-        return Completed::Refused { number, line: 0 };
+        &mut code,
+        &mut classes,
+    )?;
+    if view.len() != 2 * cells.len() {
+        return Err(Refusal::of_lent(8));
     }
-    if view.len() != 2 * r.cells as usize {
-        return Completed::Refused { number: 8, line: 0 };
-    }
-    let mut own: [i32; 4096] = [0; 4096];
-    let end = r.end;
+    let mut own = [0; 4096];
     view::show_copied(
-        &code[0..end],
-        setting,
+        &code[..r.end],
+        r.setting,
         &classes,
         schedule,
         cells,
@@ -59,5 +48,5 @@ pub fn look(
         workspace,
         view,
     );
-    Completed::Done
+    Ok(())
 }

@@ -11,17 +11,20 @@ use lib.ListN.{length, replicate, length-replicate}
 use lib.IntN.{ℤ, pos}
 use Rattle.syntax.specs.Bytes.{bytes}
 use Rattle.syntax.specs.Known.{State, cells}
+use Rattle.syntax.specs.declared.Flaw.{Flaw}
+use Rattle.syntax.specs.Flaws.{flaw_number}
 use Rattle.syntax.specs.Text.{refused, good, loaded}
-use Rattle.answers.specs.Answers.{needed, taken, answered, settles, check_of, cells_loaded, run_of, cells_run}
+use Rattle.answers.specs.Answers.{fail, needed, taken, answered, settles, check_of, cells_loaded, run_of, cells_run}
+use Rattle.answers.specs.declared.Failure.{Failure}
 use Rattle.answers.specs.declared.Ran.{Ran}
-use Rattle.answers.specs.declared.Ran.TheVariants.{Refused}
+use Rattle.std.specs.Prelude.{Result}
 use Rattle.printing.specs.Printed.{digits, signed, newline, comment, report}
 use Rattle.lrpd.specs.Output.{lent_words, printed_over, printed}
 
 -- "A refusal prints only `! refused` and its three numbers"
-pub refused_text : (n k : ℕ) → printed (refused n k) ≡ comment (Refused n k)
+pub refused_text : (f : Flaw) (k : ℕ) → printed (refused f k) ≡ comment (fail (flaw_number f) k)
 unfolding printed printed_over run_of report
-refused_text n k = refl
+refused_text f k = refl
 
 module _ (s : State) where
   -- none but m cells are lent
@@ -31,10 +34,10 @@ module _ (s : State) where
       let e = ne_eqb (length m) (cells s.table) n in
       let same : cells_loaded (good s) m ≡ m = ap (λ (b : Bool). taken (cond b 0 5) (loaded s.table) m) e in
       let words = leb (needed (cells s.table) s.processors) lent_words in
-      let answer : run_of (good s) m lent_words [] ≡ Refused 5 0 = ap
-      (λ (b : Bool). let j = cond b (cond words 0 6) 5 in taken j (answered s (settles s m).answer) (Refused j 0)) e in
+      let answer : run_of (good s) m lent_words [] ≡ fail 5 0 = ap
+      (λ (b : Bool). let j = cond b (cond words 0 6) 5 in taken j (answered s (settles s m).answer) (fail j 0)) e in
       ap (λ (l : List ℤ). report (run_of (good s) l lent_words []) s.table (cells_run (good s) l lent_words [])) same
-      ∙ ap (λ (r : Ran). report r s.table (cells_run (good s) m lent_words [])) answer
+      ∙ ap (λ (r : Result Ran Failure). report r s.table (cells_run (good s) m lent_words [])) answer
 
   -- "lends 128 cells"; "5, 0, 0: cells lent not exactly N"
   pub too_many : 128 < cells s.table → printed (good s) ≡ bytes "! refused 5 0 0" ++ newline

@@ -1,16 +1,16 @@
 -- RULES 11 a (document 01, Program): what is printed for a text.
-use Rattle.std.specs.Prelude.{◌≡◌, List, [], ℕ, min, ◌≤◌, length, take, replicate, ℤ, pos}
+use Rattle.std.specs.Prelude.{◌≡◌, List, [], ℕ, min, ◌≤◌, length, take, replicate, ℤ, pos, Result, Ok, Err}
 use Rattle.syntax.specs.Known.{Entry}
 use Rattle.syntax.specs.Text.{Verdict, refused, good}
 use Rattle.answers.specs.Answers.{needed, check_of, cells_loaded, run_of, cells_run}
-use Rattle.answers.specs.declared.Checked.{Checked}
-use Rattle.answers.specs.declared.Checked.TheVariants.{Sizes, Refused}
+use Rattle.answers.specs.declared.Refusal.{Refusal}
+use Rattle.answers.specs.declared.Sizes.{Sizes}
 use Rattle.printing.specs.Printed.{report}
 
 -- "lends 128 cells (the first N if N is less)"
-abbrev pub lent_for : Checked → ℕ
-lent_for (Sizes n p) = min n 128
-lent_for (Refused k l) = 0
+abbrev pub lent_for : Result Sizes Refusal → ℕ
+lent_for (Ok s) = min s.cells 128
+lent_for (Err e) = 0
 
 -- the names in declared order
 abbrev pub names_of : Verdict → List Entry

@@ -7,38 +7,34 @@ ghost use Rattle.std.specs.Io.KnownBytes.{Consumes};
 ghost use Rattle.syntax.specs.Text.{read};
 ghost use Rattle.lrpd.specs.Output.{lent_for, printed_over, printed, Prints};
 
-use answers::Checked;
+use answers::{Refusal, Sizes};
+use preparing::Source;
 use std::io::{Read, Write};
 
 // The words that are lent: as many as 128 cells and 8 processors need.
 const WORKSPACE: usize = 13568;
 
 // How many cells are lent.
-fn lent(answer: Checked) -> usize
+fn lent(answer: Result<Sizes, Refusal>) -> usize
     ensures { result ≡ lent_for answer }
 {
     match answer {
-        Checked::Sizes {
-            cells,
-            processors: _,
-        } => { if cells < 128 { cells as usize } else { 128 } }
-        Checked::Refused { number: _, line: _ } => 0,
+        Ok(s) => s.cells.min(128) as usize,
+        Err(_) => 0,
     }
 }
 
-// Load and Run over the cells as lent, then the report with the names of the text. Where Load refuses, Run refuses alike.
+// Load and Run over the cells as lent, then the report with the names of the text. Where Load or the reader refuses, Run refuses alike.
 fn print_over(text: &[u8], cells: &mut [i32], out: &mut [u8; 2236]) -> usize
     requires { (length out.old ≡ 2236) × (length cells.old ≤ 128) }
     ensures { Prints (printed_over (read text.now) cells.old) out.new result }
 {
-    checking::load(text, cells);
+    let _ = checking::load(text, cells);
     let mut workspace: [u32; WORKSPACE] = [0; WORKSPACE];
     let answer = running::run(text, cells, &mut workspace, b"");
-    let mut table = [0; names::WORDS];
-    let mut initial: [i32; 4096] = [0; 4096];
-    let mut code = [0; code::WORDS];
-    reader::read(text, &mut table, &mut initial, &mut code);
-    printing::report(out, answer, &table, cells)
+    let mut source = Source::new();
+    let _ = source.read(text);
+    printing::report(out, answer, &source.table, cells)
 }
 
 fn print(text: &[u8], out: &mut [u8; 2236]) -> usize

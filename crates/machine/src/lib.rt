@@ -5,10 +5,10 @@
 ghost use Rattle.operands.specs.Pending.{Holding};
 ghost use Rattle.machine.specs.Machine.{Advances};
 
-use operands::{Move, Next};
+use operands::Move;
 
 // Where a processor then stands, and how many values are pending.
-#[derive(Clone, Copy)]
+#[derive(Clone, Copy, Debug, PartialEq, Eq)]
 pub struct Advanced {
     pub place: usize,
     pub depth: usize,
@@ -34,16 +34,12 @@ pub fn advance(
         let r = instructions::perform(code[2 * at], code[2 * at + 1], at + 1, d, pending, v);
         at = r.place;
         d = r.depth;
-        let next = r.next;
-        match next {
-            Next::On => {}
-            Next::Stop(done) => {
-                return Advanced {
-                    place: at,
-                    depth: d,
-                    done: done,
-                };
-            }
+        if let Some(done) = r.next {
+            return Advanced {
+                place: at,
+                depth: d,
+                done,
+            };
         }
     }
     Advanced {

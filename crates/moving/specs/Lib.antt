@@ -1,2 +1,2 @@
--- What the two steps of a rearrangement leave.
+-- What the first of the two steps leaves.
 pub mod Moving

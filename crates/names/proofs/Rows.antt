@@ -9,7 +9,9 @@ use lib.Dec.{eqb}
 use lib.IntN.{ℤ}
 use lib.ListN.{length, get_or, set, length-set, length-map, length-append}
 use lib.Seq.{get_or-set_same, get_or-append_seam}
-use Rattle.rules.specs.Loop.{Class, copied}
+use Rattle.std.proofs.lemmas.Grind.{common_steps}
+use Rattle.rules.specs.declared.Class.{Class}
+use Rattle.rules.specs.declared.Class.TheVariants.{Copied as copied}
 use Rattle.rules.specs.Numbers.{class_number}
 use Rattle.rules.specs.Cells.{listed}
 use Rattle.rules.proofs.CellsLaws.{listed_length, listed_same}
@@ -74,16 +76,16 @@ get_d_map f (x ∷ xs) (suc i) d d' h = get_d_map f xs i d d' (omega arith)
 
 module _ (T : List ℕ) (i facts : ℕ) (b : i < most_names) where
   abbrev with_facts : List ℕ
-  with_facts = set T (i * entry_words + facts_word) facts
+  with_facts = set T (entry_words * i + facts_word) facts
 
   pub others_kept : (j k : ℕ) → k < entry_words → (j ≡ i → ⊥) → word_at with_facts j k ≡ word_at T j k
-  others_kept j k l n = set_elsewhere T (i * entry_words + facts_word) (entry_words * j + k) facts (omega arith)
+  others_kept j k l n = set_elsewhere T (entry_words * i + facts_word) (entry_words * j + k) facts (omega arith)
 
   pub facts_here : table_words ≤ length T → facts_at with_facts i ≡ facts
-  facts_here l = ap (λ (p : ℕ). get_or with_facts p 0) (omega arith) ∙ get_or-set_same T (i * entry_words + facts_word) facts 0 (omega arith)
+  facts_here l = ap (λ (p : ℕ). get_or with_facts p 0) (omega arith) ∙ get_or-set_same T (entry_words * i + facts_word) facts 0 (omega arith)
 
   pub rest_kept : (k : ℕ) → k < facts_word → word_at with_facts i k ≡ word_at T i k
-  rest_kept k l = set_elsewhere T (i * entry_words + facts_word) (entry_words * i + k) facts (omega arith)
+  rest_kept k l = set_elsewhere T (entry_words * i + facts_word) (entry_words * i + k) facts (omega arith)
 
   pub variable_kept : length_at T variable_entry ≤ name_words → name_at with_facts variable_entry ≡ name_at T variable_entry
   variable_kept h = name_kept T with_facts variable_entry h (λ k l. others_kept variable_entry k (omega arith) (λ e. omega arith))
@@ -110,7 +112,7 @@ module _ (T : List ℕ) (i facts : ℕ) (b : i < most_names) where
         let n = length-map t f in
         record {
           long = simp length-set d.long;
-          count = set_elsewhere T (i * entry_words + facts_word) number_word facts (omega arith) ∙ d.count ∙ sym n;
+          count = set_elsewhere T (entry_words * i + facts_word) number_word facts (omega arith) ∙ d.count ∙ sym n;
           few = omega (arith, n, d.few);
           rows = λ j l. simp (at_map j (omega (arith, n))) (row_of j (omega (arith, n)));
           distinct = λ p q l m. ap₂ same (same_name q (omega (arith, n))) (same_name p (omega (arith, n))) ∙ d.distinct p q l (omega (arith, n));
@@ -151,7 +153,7 @@ module _ (T : List ℕ) (i : ℕ) (b : i < most_names) (facts : ℕ) (ef : facts
     | no p ↦ same_comm_false (get_or t j nowhere).name (get_or t i nowhere).name (d.distinct i j (omega arith) l)
   ]
 
-  pub gave : Gave T i (set T (i * entry_words + facts_word) (facts / 2 * 2 + 1))
+  pub gave : Gave T i (set T (entry_words * i + facts_word) (facts / 2 * 2 + 1))
   gave = record {
     variable = variable_kept T i _ b;
     table = λ t vs d h.
@@ -168,7 +170,7 @@ module _ (T : List ℕ) (i : ℕ) (b : i < most_names) (facts : ℕ) (ef : facts
     unclaimed = λ h n u j l. elim (ℕ_discrete j i) [
       | yes q ↦
           let low : facts_at T i < 2 = subst (λ (k : ℕ). facts_at T k < 2) q (u j l) in
-          subst (λ (k : ℕ). facts_at (set T (i * entry_words + facts_word) (facts / 2 * 2 + 1)) k < 2) (sym q)
+          subst (λ (k : ℕ). facts_at (set T (entry_words * i + facts_word) (facts / 2 * 2 + 1)) k < 2) (sym q)
           (omega (arith, facts_here T i (facts / 2 * 2 + 1) b h, ef, low))
       | no m ↦ omega (arith, others_kept T i (facts / 2 * 2 + 1) b j facts_word (omega arith) m, u j l)
     ];
@@ -179,10 +181,9 @@ module _ (T : List ℕ) (i : ℕ) (b : i < most_names) (facts : ℕ) (ef : facts
       kept x vs e false = (refl, refl, refl, refl)
 
   -- facts that differ in the class, and in whether the name stands in a clause
-  class_tabled : (other class : ℕ) → other % 2 ≡ facts % 2 → other / 4 ≡ class
-      → (t : List Entry) (k : Class) → class ≡ class_number k → Tabled T t → i < length t
-      → Tabled (set T (i * entry_words + facts_word) other) (map (class_to (get_or t i nowhere).name k) t)
-  class_tabled other class q0 q1 t k ek d h =
+  class_tabled : (other : ℕ) (k : Class) → other % 2 ≡ facts % 2 → other / 4 ≡ class_number k → (t : List Entry) → Tabled T t → i < length t
+      → Tabled (set T (entry_words * i + facts_word) other) (map (class_to (get_or t i nowhere).name k) t)
+  class_tabled other k q0 q1 t d h =
       let e = get_or t i nowhere in
       let o = d.rows i h in
       let here : named e.name e ≡ true = same_refl e.name in
@@ -191,31 +192,31 @@ module _ (T : List ℕ) (i : ℕ) (b : i < most_names) (facts : ℕ) (ef : facts
       (λ x. kept e.name k x (named e.name x))
       (λ j l n. untouched _ _ (get_or t j nowhere) (other_name t d h j l n))
       (ap (λ (n : ℕ). eqb n 1) (q0 ∙ ap (λ (n : ℕ). n % 2) ef) ∙ o.given ∙ sym (ap (λ (x : Entry). is_given x.given) g))
-      (q1 ∙ ek ∙ sym (ap (λ (x : Entry). class_number x.class) g))
+      (q1 ∙ sym (ap (λ (x : Entry). class_number x.class) g))
     where
       kept : (x : List ℕ) (c : Class) (e : Entry) (y : Bool) → Alike e (cond y (with_class c e) e)
       kept x c e true = (refl, refl, refl, refl)
       kept x c e false = (refl, refl, refl, refl)
 
-  pub classed : (class : ℕ) → Classed T i class (set T (i * entry_words + facts_word) (class * 4 + 2 + facts % 2))
-  classed class = record {
+  pub classed : (k : Class) (n : ℕ) → n ≡ class_number k → Classed T i k (set T (entry_words * i + facts_word) (n * 4 + 2 + facts % 2))
+  classed k n en = record {
     variable = variable_kept T i _ b;
-    here = λ l. ap (λ (n : ℕ). eqb (n / 2 % 2) 1) (facts_here T i (class * 4 + 2 + facts % 2) b l) ∙ ap (λ (n : ℕ). eqb n 1) (claimed_facts class facts).1;
-    others = λ j n. others_kept T i (class * 4 + 2 + facts % 2) b j facts_word (omega arith) n;
-    table = let q = claimed_facts class facts in class_tabled (class * 4 + 2 + facts % 2) class q.0 q.2;
+    here = λ l. ap (λ (m : ℕ). eqb (m / 2 % 2) 1) (facts_here T i (n * 4 + 2 + facts % 2) b l) ∙ ap (λ (m : ℕ). eqb m 1) (claimed_facts n facts).1;
+    others = λ j m. others_kept T i (n * 4 + 2 + facts % 2) b j facts_word (omega arith) m;
+    table = let q = claimed_facts n facts in class_tabled (n * 4 + 2 + facts % 2) k q.0 (q.2 ∙ en);
   }
 
-  pub copied_in : CopiedIn T i (set T (i * entry_words + facts_word) (3 * 4 + facts % 4))
-  copied_in = record {
+  pub copied_in : (n : ℕ) → n ≡ class_number copied → CopiedIn T i (set T (entry_words * i + facts_word) (n * 4 + facts % 4))
+  copied_in n en = record {
     variable = variable_kept T i _ b;
     claimed = λ l j. elim (ℕ_discrete j i) [
       | yes x ↦
-          ap (is_claimed (set T (i * entry_words + facts_word) (3 * 4 + facts % 4))) x
-          ∙ ap (λ (n : ℕ). eqb (n / 2 % 2) 1) (facts_here T i (3 * 4 + facts % 4) b l)
-          ∙ ap (λ (n : ℕ). eqb n 1) ((copied_facts 3 facts).1 ∙ ap (λ (n : ℕ). n / 2 % 2) ef) ∙ ap (is_claimed T) (sym x)
-      | no x ↦ ap (λ (n : ℕ). eqb (n / 2 % 2) 1) (others_kept T i (3 * 4 + facts % 4) b j facts_word (omega arith) x)
+          ap (is_claimed (set T (entry_words * i + facts_word) (n * 4 + facts % 4))) x
+          ∙ ap (λ (m : ℕ). eqb (m / 2 % 2) 1) (facts_here T i (n * 4 + facts % 4) b l)
+          ∙ ap (λ (m : ℕ). eqb m 1) ((copied_facts n facts).1 ∙ ap (λ (m : ℕ). m / 2 % 2) ef) ∙ ap (is_claimed T) (sym x)
+      | no x ↦ ap (λ (m : ℕ). eqb (m / 2 % 2) 1) (others_kept T i (n * 4 + facts % 4) b j facts_word (omega arith) x)
     ];
-    table = λ t d h. let q = copied_facts 3 facts in class_tabled (3 * 4 + facts % 4) 3 q.0 q.2 t copied refl d h;
+    table = λ t d h. let q = copied_facts n facts in class_tabled (n * 4 + facts % 4) copied q.0 (q.2 ∙ en) t d h;
   }
 
 -- ---- a name more
@@ -230,93 +231,58 @@ unknown_at w [] h i l = absurd (omega arith)
 unknown_at w (x ∷ t) h zero l = (neither_holds (same w x.name) (known w t) h).0
 unknown_at w (x ∷ t) h (suc i) l = unknown_at w t (neither_holds (same w x.name) (known w t) h).1 i (omega arith)
 
--- the word of an entry that is written, and another
-word_set : (T : List ℕ) (i k v : ℕ) → i * entry_words + k < length T → word_at (set T (i * entry_words + k) v) i k ≡ v
-word_set T i k v h = ap (λ (p : ℕ). get_or (set T (i * entry_words + k) v) p 0) (omega arith) ∙ get_or-set_same T (i * entry_words + k) v 0 h
-
-word_other : (T : List ℕ) (i k j v : ℕ) → (j ≡ k → ⊥) → word_at (set T (i * entry_words + k) v) i j ≡ word_at T i j
-word_other T i k j v n = set_elsewhere T (i * entry_words + k) (entry_words * i + j) v (λ e. n (omega arith))
-
 module _ (T w : List ℕ) (n first : ℕ) (z : Shape) (T₁ : List ℕ) (p : Put T n w T₁) (en : n ≡ count_in T) (bn : n < most_names) (short : length w ≤ name_words) where
   abbrev T₂ : List ℕ
-  T₂ = set T₁ (n * entry_words + first_word) first
+  T₂ = set T₁ (entry_words * n + first_word) first
 
   abbrev T₃ : List ℕ
-  T₃ = set T₂ (n * entry_words + size_word) z.size
+  T₃ = set T₂ (entry_words * n + size_word) z.size
 
   abbrev T₄ : List ℕ
-  T₄ = set T₃ (n * entry_words + rows_word) z.rows
+  T₄ = set T₃ (entry_words * n + rows_word) z.rows
 
   abbrev T₅ : List ℕ
-  T₅ = set T₄ (n * entry_words + columns_word) z.columns
+  T₅ = set T₄ (entry_words * n + columns_word) z.columns
 
   abbrev T₆ : List ℕ
-  T₆ = set T₅ (n * entry_words + facts_word) 0
+  T₆ = set T₅ (entry_words * n + facts_word) 0
 
   abbrev more_names : List ℕ
   more_names = set T₆ number_word (n + 1)
 
-  long₂ : length T₂ ≡ length T₁
-  long₂ = length-set T₁ (n * entry_words + first_word) first
-
-  long₃ : length T₃ ≡ length T₁
-  long₃ = length-set T₂ (n * entry_words + size_word) z.size ∙ long₂
-
-  long₄ : length T₄ ≡ length T₁
-  long₄ = length-set T₃ (n * entry_words + rows_word) z.rows ∙ long₃
-
-  long₅ : length T₅ ≡ length T₁
-  long₅ = length-set T₄ (n * entry_words + columns_word) z.columns ∙ long₄
-
-  long₆ : length T₆ ≡ length T₁
-  long₆ = length-set T₅ (n * entry_words + facts_word) 0 ∙ long₅
-
   more_long : length more_names ≡ length T₁
-  more_long = length-set T₆ number_word (n + 1) ∙ long₆
+  more_long = simp length-set
 
   -- of the words only these changed
-  elsewhere : (q : ℕ) → (n * entry_words + first_word ≤ q → q < n * entry_words + entry_words → ⊥) → (q ≡ number_word → ⊥) → get_or more_names q 0 ≡ get_or T₁ q 0
+  elsewhere : (q : ℕ) → (entry_words * n + first_word ≤ q → q < entry_words * n + entry_words → ⊥) → (q ≡ number_word → ⊥) → get_or more_names q 0 ≡ get_or T₁ q 0
   elsewhere q a d =
-      let off : (k : ℕ) → first_word ≤ k → k < entry_words → q ≡ n * entry_words + k → ⊥ = λ k h l e. a (omega arith) (omega arith) in
+      let off : (k : ℕ) → first_word ≤ k → k < entry_words → q ≡ entry_words * n + k → ⊥ = λ k h l e. a (omega arith) (omega arith) in
       set_elsewhere T₆ number_word q (n + 1) d
-      ∙ set_elsewhere T₅ (n * entry_words + facts_word) q 0 (off facts_word (omega arith) (omega arith))
-      ∙ set_elsewhere T₄ (n * entry_words + columns_word) q z.columns (off columns_word (omega arith) (omega arith))
-      ∙ set_elsewhere T₃ (n * entry_words + rows_word) q z.rows (off rows_word (omega arith) (omega arith))
-      ∙ set_elsewhere T₂ (n * entry_words + size_word) q z.size (off size_word (omega arith) (omega arith))
-      ∙ set_elsewhere T₁ (n * entry_words + first_word) q first (off first_word (omega arith) (omega arith))
-
-  -- the number of names is written after the entry
-  entry_stays : (k : ℕ) → k < entry_words → word_at more_names n k ≡ word_at T₆ n k
-  entry_stays k h = set_elsewhere T₆ number_word (entry_words * n + k) (n + 1) (omega arith)
+      ∙ set_elsewhere T₅ (entry_words * n + facts_word) q 0 (off facts_word (omega arith) (omega arith))
+      ∙ set_elsewhere T₄ (entry_words * n + columns_word) q z.columns (off columns_word (omega arith) (omega arith))
+      ∙ set_elsewhere T₃ (entry_words * n + rows_word) q z.rows (off rows_word (omega arith) (omega arith))
+      ∙ set_elsewhere T₂ (entry_words * n + size_word) q z.size (off size_word (omega arith) (omega arith))
+      ∙ set_elsewhere T₁ (entry_words * n + first_word) q first (off first_word (omega arith) (omega arith))
 
   -- and these are
   module _ (l : table_words ≤ length T₁) where
     first_here : first_at more_names n ≡ first
-    first_here =
-        entry_stays first_word (omega arith) ∙ word_other T₅ n facts_word first_word 0 (omega arith) ∙ word_other T₄ n columns_word first_word z.columns (omega arith)
-        ∙ word_other T₃ n rows_word first_word z.rows (omega arith) ∙ word_other T₂ n size_word first_word z.size (omega arith)
-        ∙ word_set T₁ n first_word first (omega arith)
+    first_here = grind (arith, common_steps)
 
     size_here : size_at more_names n ≡ z.size
-    size_here =
-        entry_stays size_word (omega arith) ∙ word_other T₅ n facts_word size_word 0 (omega arith) ∙ word_other T₄ n columns_word size_word z.columns (omega arith)
-        ∙ word_other T₃ n rows_word size_word z.rows (omega arith) ∙ word_set T₂ n size_word z.size (omega (arith, long₂))
+    size_here = grind (arith, common_steps)
 
     rows_here : rows_at more_names n ≡ z.rows
-    rows_here =
-        entry_stays rows_word (omega arith) ∙ word_other T₅ n facts_word rows_word 0 (omega arith) ∙ word_other T₄ n columns_word rows_word z.columns (omega arith)
-        ∙ word_set T₃ n rows_word z.rows (omega (arith, long₃))
+    rows_here = grind (arith, common_steps)
 
     columns_here : columns_at more_names n ≡ z.columns
-    columns_here =
-        entry_stays columns_word (omega arith) ∙ word_other T₅ n facts_word columns_word 0 (omega arith)
-        ∙ word_set T₄ n columns_word z.columns (omega (arith, long₄))
+    columns_here = grind (arith, common_steps)
 
     facts_there : facts_at more_names n ≡ 0
-    facts_there = entry_stays facts_word (omega arith) ∙ word_set T₅ n facts_word 0 (omega (arith, long₅))
+    facts_there = grind (arith, common_steps)
 
     count_here : number_in more_names ≡ n + 1
-    count_here = get_or-set_same T₆ number_word (n + 1) 0 (omega (arith, long₆))
+    count_here = grind (arith, common_steps)
 
   module _ (t : List Entry) (d : Tabled T t) (f : length t < most_names) (u : known w t ≡ false) where
     abbrev e : Entry

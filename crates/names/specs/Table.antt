@@ -1,7 +1,8 @@
 -- The name table as the reader holds it: 16 entries for names, one more for the loop's variable, and the number of names.
 use Rattle.std.specs.Prelude.{◌≡◌, Bool, true, false, cond, List, [], ◌∷◌, ◌++◌, map, ℕ, zero, suc, ◌+◌, ◌*◌, ◌/◌, ◌%◌, ◌≤◌, ◌<◌, min, eqb, length, get_or, ℤ}
 use Rattle.std.proofs.Math.Option.{none}
-use Rattle.rules.specs.Loop.{Class, shared, copied}
+use Rattle.rules.specs.declared.Class.{Class}
+use Rattle.rules.specs.declared.Class.TheVariants.{Shared as shared, Copied as copied}
 use Rattle.rules.specs.Numbers.{class_number}
 use Rattle.rules.specs.Cells.{listed}
 use Rattle.syntax.specs.Bytes.{same}
@@ -126,11 +127,15 @@ pub record Tabled (T : List ℕ) (t : List Entry) : Type 0 where
 abbrev pub Unclaimed : List ℕ → ℕ → Type 0
 Unclaimed T n = (i : ℕ) → i < n → facts_at T i < 2
 
--- i is the first entry with the name w, of n entries; n where there is none
+-- none of the first n entries has the name w
+abbrev pub Absent : List ℕ → ℕ → List ℕ → Type 0
+Absent T n w = (k : ℕ) → k < n → same w (name_at T k) ≡ false
+
+-- i is the first entry with the name w, of n entries
 pub record Found (T : List ℕ) (n : ℕ) (w : List ℕ) (i : ℕ) : Type 0 where
-  pub within : i ≤ n
-  pub before : (k : ℕ) → k < i → same w (name_at T k) ≡ false
-  pub there : i < n → same w (name_at T i) ≡ true
+  pub within : i < n
+  pub before : Absent T i w
+  pub there : same w (name_at T i) ≡ true
 
 -- T' is T with the name w in entry i; the room past the name is as it was
 pub record Put (T : List ℕ) (i : ℕ) (w : List ℕ) (T' : List ℕ) : Type 0 where
@@ -162,12 +167,12 @@ pub record Gave (T : List ℕ) (i : ℕ) (T' : List ℕ) : Type 0 where
 abbrev pub class_to : List ℕ → Class → Entry → Entry
 class_to x c e = cond (named x e) (with_class c e) e
 
--- T' is T with entry i in a clause, and with the class of that number
-pub record Classed (T : List ℕ) (i class : ℕ) (T' : List ℕ) : Type 0 where
+-- T' is T with entry i in a clause, and with the class k
+pub record Classed (T : List ℕ) (i : ℕ) (k : Class) (T' : List ℕ) : Type 0 where
   pub variable : length_at T variable_entry ≤ name_words → variable_of T' ≡ variable_of T
   pub here : table_words ≤ length T → is_claimed T' i ≡ true
   pub others : (j : ℕ) → (j ≡ i → ⊥) → facts_at T' j ≡ facts_at T j
-  pub table : (t : List Entry) (k : Class) → class ≡ class_number k → Tabled T t → i < length t → Tabled T' (map (class_to (get_or t i nowhere).name k) t)
+  pub table : (t : List Entry) → Tabled T t → i < length t → Tabled T' (map (class_to (get_or t i nowhere).name k) t)
 
 -- T' is T with entry i copied in; whether names stand in a clause stays
 pub record CopiedIn (T : List ℕ) (i : ℕ) (T' : List ℕ) : Type 0 where
@@ -175,17 +180,22 @@ pub record CopiedIn (T : List ℕ) (i : ℕ) (T' : List ℕ) : Type 0 where
   pub claimed : table_words ≤ length T → (j : ℕ) → is_claimed T' j ≡ is_claimed T j
   pub table : (t : List Entry) → Tabled T t → i < length t → Tabled T' (map (class_to (get_or t i nowhere).name copied) t)
 
--- what is known of the name w
-pub record Knows (t : List Entry) (w : List ℕ) (r : Named) : Type 0 where
-  pub known : r.known ≡ known w t
-  pub first : r.first ≡ (find w t).first
-  pub size : r.size ≡ (find w t).size
-  pub extents : extents_of r.rows r.columns ≡ (find w t).extents
-  pub given : r.given ≡ is_given (find w t).given
-  pub class : r.class ≡ class_number (find w t).class
+-- the name w isn't declared: it has no cells, no extents and no data, and is shared
+pub record Unknown (t : List Entry) (w : List ℕ) : Type 0 where
+  pub known : known w t ≡ false
+  pub nowhere : find w t ≡ nowhere
+
+-- n is what is known of the name w, which is declared
+pub record Knows (t : List Entry) (w : List ℕ) (n : Named) : Type 0 where
+  pub known : known w t ≡ true
+  pub first : n.first ≡ (find w t).first
+  pub size : n.size ≡ (find w t).size
+  pub extents : extents_of n.rows n.columns ≡ (find w t).extents
+  pub given : n.given ≡ is_given (find w t).given
+  pub class : n.class ≡ (find w t).class
 
 -- and where it stands
-pub record Stands (T : List ℕ) (t : List Entry) (w : List ℕ) (r : Named) : Type 0 where
-  pub within : r.index < length t
-  pub name : (get_or t r.index nowhere).name ≡ w
-  pub claimed : r.claimed ≡ is_claimed T r.index
+pub record Stands (T : List ℕ) (t : List Entry) (w : List ℕ) (n : Named) : Type 0 where
+  pub within : n.index < length t
+  pub name : (get_or t n.index nowhere).name ≡ w
+  pub claimed : n.claimed ≡ is_claimed T n.index

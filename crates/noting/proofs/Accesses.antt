@@ -16,15 +16,16 @@ use Rattle.int32.proofs.Laws.{value_word}
 use Rattle.rules.specs.Choose.{pick}
 use Rattle.rules.specs.ChooseLaws.{pick_same, pick_other}
 use Rattle.rules.specs.Operation.{operation}
-use Rattle.rules.specs.Loop.{Class}
+use Rattle.rules.specs.declared.Class.{Class}
+use Rattle.rules.specs.Loop.{operator}
 use Rattle.rules.specs.Log.{reads, writes, updates, access}
-use Rattle.rules.specs.Numbers.{class_number, operator_by}
+use Rattle.rules.specs.Numbers.{class_number, class_by}
 use Rattle.rules.proofs.OperationLaws.{join_fits}
 use Rattle.shadow.specs.Tables.{Own, Tables, note}
-use Rattle.tables.specs.Layout.{row_at, own_at, bit, flags_of, RowHeld, Holds}
+use Rattle.tables.specs.Layout.{row_at, own_at, bit, flags_of, class_held, RowHeld, Holds}
 use Rattle.noting.specs.Changes.{Placed, one_more, read_noted, counted, written, updated}
 use Rattle.noting.proofs.Words.{read_length, read_met, read_highest, read_exposed, read_other, counted_length, counted_other, counted_pairs, counted_cells, counted_touched, counted_placed, written_length, written_met, written_writers, written_flags, written_lowest, written_value, written_wrote, written_other, updated_length, updated_flags, updated_partial, updated_other}
-use Rattle.tables.proofs.Flags.{bit_most, flags_updated, flags_operator, pick_bit}
+use Rattle.tables.proofs.Flags.{bit_most, flags_updated, flags_class, pick_bit}
 use Rattle.tables.proofs.Start.{joins}
 use Rattle.tables.proofs.Held.{rows_apart, outside_other, outside_part, row_changed, holds_changed}
 
@@ -175,7 +176,7 @@ module _ (n p : ℕ) (class : ℕ → Class) (entry : ℕ → ℤ) (W : List ℕ
       let r = held in
       let x = r.own (π (γ i)) a in
       let flags : get_or X (row + 3) 0 ≡ flags_of (class c) (t.rows c).crossed (t.rows c).updated = still (row + 3) (omega arith) (omega arith) ∙ r.flags in
-      let by = ap (λ (f : ℕ). operator_by (f / 4)) flags ∙ flags_operator (class c) (t.rows c).crossed (t.rows c).updated in
+      let by = ap (λ (f : ℕ). class_by (f / 4)) flags ∙ flags_class (class c) (t.rows c).crossed (t.rows c).updated in
       let before : value (get_or X (own + 3) 0) ≡ o.partial = ap value (still (own + 3) (omega arith) (omega arith)) ∙ x.partial in
       let other = updated_other X row own v placed_counted in
       holds_changed W (updated X row own v) n p class entry t h c b (updated_length X row own v placed_counted ∙ counted_length W row own i) _
@@ -191,8 +192,8 @@ module _ (n p : ℕ) (class : ℕ → Class) (entry : ℕ → ℤ) (W : List ℕ
         wrote = other (own + 1) (omega arith) (omega arith) ∙ still (own + 1) (omega arith) (omega arith) ∙ x.wrote;
         exposed = other (own + 2) (omega arith) (omega arith) ∙ still (own + 2) (omega arith) (omega arith) ∙ x.exposed;
         partial =
-            ap value (updated_partial X row own v placed_counted) ∙ value_word _ (join_fits (operator_by (get_or X (row + 3) 0 / 4)) v _)
-            ∙ (λ i. (operation (by i)).join v (before i));
+            ap value (updated_partial X row own v placed_counted) ∙ value_word _ (join_fits (operator (class_held X row)) v _)
+            ∙ (λ i. (operation (operator (by i))).join v (before i));
         touched = other (own + 4) (omega arith) (omega arith) ∙ counted_touched W row own i placed ∙ add-one i;
       })
       (λ j (y : row + 6 ≤ j) s. other j (omega arith) (outside_other (own + 3) s (omega arith) (omega arith))

@@ -8,7 +8,7 @@ use native.Mathlib.Decide.{ℕ_discrete}
 use lib.IntN.{ℤ}
 use Rattle.int32.specs.Integers.{value}
 use Rattle.rules.specs.ChooseLaws.{pick_same, pick_other}
-use Rattle.rules.specs.Loop.{Class}
+use Rattle.rules.specs.declared.Class.{Class}
 use Rattle.shadow.specs.Tables.{Row, own_value}
 use Rattle.tables.specs.Layout.{own_at, RowHeld}
 use Rattle.noting.specs.Changes.{own_seen}

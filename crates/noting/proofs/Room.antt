@@ -4,7 +4,8 @@ use Prim.Native.Nat.{ℕ, ◌≤◌, ◌<◌}
 use native.Mathlib.Nat.{mul-le-mul}
 use native.Mathlib.Omega.{arith}
 use lib.IntN.{ℤ}
-use Rattle.rules.specs.Loop.{Class, Loop, Partition}
+use Rattle.rules.specs.declared.Class.{Class}
+use Rattle.rules.specs.Loop.{Loop, Partition}
 use Rattle.shadow.specs.Tables.{Tables}
 use Rattle.shadow.proofs.Bounds.{Bounded}
 use Rattle.tables.specs.Layout.{row_at, own_at, Holds}

@@ -4,9 +4,9 @@ use Rattle.std.specs.Prelude.{List, ℕ, max, ◌+◌, ◌*◌, ◌/◌, ◌%◌
 use Rattle.int32.specs.Integers.{word, value}
 use Rattle.rules.specs.Choose.{pick}
 use Rattle.rules.specs.Operation.{operation}
-use Rattle.rules.specs.Numbers.{operator_by}
+use Rattle.rules.specs.Loop.{operator}
 use Rattle.shadow.specs.Tables.{lower}
-use Rattle.tables.specs.Layout.{met_at, writers_at, flags_at, lowest_at, highest_at, wrote_at, exposed_at, partial_at, touched_at, pairs_word, cells_word, entry_word, met_word, writers_word, flags_word, lowest_word, highest_word, class_word, private_word, wrote_word, exposed_word, partial_word, touched_word}
+use Rattle.tables.specs.Layout.{met_at, writers_at, flags_at, lowest_at, highest_at, wrote_at, exposed_at, partial_at, touched_at, pairs_word, cells_word, entry_word, met_word, writers_word, flags_word, lowest_word, highest_word, class_held, private_word, wrote_word, exposed_word, partial_word, touched_word}
 
 -- a row and an own part after it lie in the words
 pub record Placed (W : List ℕ) (row own : ℕ) : Type 0 where
@@ -78,7 +78,7 @@ updated W row own v =
     set
     (set W (flags_at row) (flags_word W row / 4 * 4 + 2 + flags_word W row % 2))
     (partial_at own)
-    (word ((operation (operator_by (class_word W row))).join v (value (partial_word W own))))
+    (word ((operation (operator (class_held W row))).join v (value (partial_word W own))))
 
 -- what group g reads that has the cell for itself
 abbrev pub own_seen : List ℕ → ℕ → ℕ → ℕ → ℤ

@@ -1,13 +1,10 @@
 -- What an instruction does is the tree that `perform` (crates/code) gives for it. Nothing here has to be believed: each promise is an equation of such trees.
-use Rattle.std.specs.Prelude.{◌≡◌, List, ◌∷◌, ℕ, ◌+◌, ◌≤◌, length, ℤ}
-use Rattle.int32.specs.declared.Divided.{Divided}
-use Rattle.int32.specs.declared.Divided.TheVariants.{Value, ByZero}
+use Rattle.std.specs.Prelude.{◌≡◌, List, ◌∷◌, ℕ, ◌+◌, ◌≤◌, length, ℤ, FitsSigned, Option, Some, None}
+use Rattle.std.specs.Int.{w32}
 use Rattle.rules.specs.Loop.{Act, read, write, update, fault, done}
 use Rattle.code.specs.Instr.{Instr, perform}
 use Rattle.operands.specs.declared.Move.{Move}
 use Rattle.operands.specs.declared.Move.TheVariants.{Read, Write, Update, Fault, End}
-use Rattle.operands.specs.declared.Next.{Next}
-use Rattle.operands.specs.declared.Next.TheVariants.{On, Stop}
 use Rattle.operands.specs.declared.Performed.{Performed}
 use Rattle.operands.specs.Pending.{pendings}
 
@@ -33,20 +30,20 @@ coming End = 0
 
 -- where the machine stands after an instruction, and what comes then
 abbrev pub onward : ℕ → ℕ → Performed
-onward place d = record { place = place; depth = d; next = On }
+onward place d = record { place = place; depth = d; next = None }
 
 abbrev pub stopped : ℕ → ℕ → Move → Performed
-stopped place d m = record { place = place; depth = d; next = Stop m }
+stopped place d m = record { place = place; depth = d; next = Some m }
 
 -- what is done after an instruction: the next one, or a move
-unfoldable pub then : Next → (List ℤ → Act) → List ℤ → Act
-then On on s = on s
-then (Stop m) on s = left m on s
+unfoldable pub then : Option Move → (List ℤ → Act) → List ℤ → Act
+then None on s = on s
+then (Some m) on s = left m on s
 
 -- and the values that this will bring
-abbrev pub coming_next : Next → ℕ
-coming_next On = 0
-coming_next (Stop m) = coming m
+abbrev pub coming_next : Option Move → ℕ
+coming_next None = 0
+coming_next (Some m) = coming m
 
 -- what an instruction does that ends before `place`; `go p t` is what is done from place p with t pending
 abbrev pub does : Instr → ℕ → ℕ → List ℤ → ℤ → (ℕ → List ℤ → Act) → Act
@@ -59,7 +56,11 @@ pub record Performs (tree : (ℕ → List ℤ → Act) → Act) (place : ℕ) (b
   pub room : r.depth + coming_next r.next ≤ 32
   pub forward : place ≤ r.place
 
+-- an operation of two cells comes to f, by what its call gives
+abbrev pub Is : {R : Type 0} → (ℤ → ℤ → R → Type 0) → (ℤ → ℤ → R) → Type 0
+Is gives f = (x y : ℤ) → FitsSigned w32 x → FitsSigned w32 y → (r : _) → gives x y r → r ≡ f x y
+
 -- with a quotient, or the fault of a zero divisor
-unfoldable pub with_quotient : Divided → ℕ → (ℤ → Act) → Act
-with_quotient (Value z) line k = k z
-with_quotient ByZero line k = fault 10 line
+unfoldable pub with_quotient : Option ℤ → ℕ → (ℤ → Act) → Act
+with_quotient (Some z) line k = k z
+with_quotient None line k = fault 10 line

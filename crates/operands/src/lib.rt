@@ -1,16 +1,16 @@
-// The values that are pending while the code of a loop body is run, and the instructions that work on them alone, one function for each: it is given the place after
+// The values that are pending while the code of a loop body is run, and the instructions that work on them alone. A function is given the place after
 // its instruction, the pending values and how many they are. An instruction that finds too few values, or no room for one more, ends the iteration.
 #![tactic(auto)]
 
 ghost use Rattle.std.specs.Prelude.{◌≡◌, ◌∷◌, ◌<◌, length, ℤ};
-ghost use Rattle.code.specs.Instr.{Instr, room};
+ghost use Rattle.int32.specs.Integers.{divided};
+ghost use Rattle.syntax.specs.Meaning.{divides};
+ghost use Rattle.code.specs.Instr.{Instr, room, with2};
 ghost use Rattle.operands.specs.Pending.{pendings, Holding, Pushed};
-ghost use Rattle.operands.specs.Performing.{onward, stopped, does, Performs, with_quotient};
-
-use int32::Divided;
+ghost use Rattle.operands.specs.Performing.{onward, stopped, does, Performs, with_quotient, Is};
 
 // What a processor does where it stops. A read's value is then pushed.
-#[derive(Clone, Copy)]
+#[derive(Clone, Copy, Debug, PartialEq, Eq)]
 pub enum Move {
     Read { cell: usize },
     Write { cell: usize, value: i32 },
@@ -19,19 +19,14 @@ pub enum Move {
     End,
 }
 
-// What comes after an instruction: the next one, or a move.
-#[derive(Clone, Copy)]
-pub enum Next {
-    On,
-    Stop(Move),
-}
-
-// Where the machine stands after an instruction, how many values are pending, and what comes then.
-#[derive(Clone, Copy)]
+// Where the machine stands after an instruction, how many values are pending, and the move that it makes, or none where the next instruction comes.
+// Place, depth and the lent array stay three parameters: a struct that holds the array needs, at each function, the promise that it still holds the same
+// reference, as many clauses as `Holding` stands in now (the new form is no plainer).
+#[derive(Clone, Copy, Debug, PartialEq, Eq)]
 pub struct Performed {
     pub place: usize,
     pub depth: usize,
-    pub next: Next,
+    pub next: Option<Move>,
 }
 
 // ---- what comes then
@@ -41,9 +36,9 @@ pub fn go_on(place: usize, depth: usize) -> Performed
     ensures { result ≡ onward place depth }
 {
     Performed {
-        place: place,
-        depth: depth,
-        next: Next::On,
+        place,
+        depth,
+        next: None,
     }
 }
 
@@ -52,9 +47,9 @@ pub fn stop(place: usize, depth: usize, done: Move) -> Performed
     ensures { result ≡ stopped place depth done }
 {
     Performed {
-        place: place,
-        depth: depth,
-        next: Next::Stop(done),
+        place,
+        depth,
+        next: Some(done),
     }
 }
 
@@ -62,11 +57,7 @@ pub fn stop(place: usize, depth: usize, done: Move) -> Performed
 pub fn fault(place: usize, depth: usize, number: u32, line: u32) -> Performed
     ensures { result ≡ stopped place depth (Move.Fault number line) }
 {
-    let done = Move::Fault {
-        number: number,
-        line: line,
-    };
-    stop(place, depth, done)
+    stop(place, depth, Move::Fault { number, line })
 }
 
 // ---- values
@@ -88,68 +79,26 @@ pub fn push(place: usize, depth: usize, pending: &mut [i32; 32], x: i32) -> Perf
     if 32 <= depth {
         return stop(place, depth, Move::End);
     }
-    let d = put(pending, depth, x);
-    go_on(place, d)
+    go_on(place, put(pending, depth, x))
 }
 
-// The sum of two values.
-pub fn add(place: usize, depth: usize, pending: &mut [i32; 32]) -> Performed
-    requires { Holding pending.old depth }
-    ensures { (v : ℤ) → Performs (does Instr.add place depth pending.old v) place pending.new result }
+// Two values replaced by what an operation makes of them.
+pub fn compute<F: Fn(i32, i32) -> i32>(
+    place: usize,
+    depth: usize,
+    pending: &mut [i32; 32],
+    operation: F,
+) -> Performed
+    requires holding { Holding pending.old depth }
+    requires callable { F.IsAlwaysCallable operation }
+    ensures { (f : ℤ → ℤ → ℤ) → Is (F.post operation) f → Performs (λ go. with2 (pendings pending.old depth) (λ x y t. go place (f x y ∷ t))) place pending.new result }
 {
     if depth < 2 {
         return stop(place, depth, Move::End);
     }
     let d = depth - 2;
-    let x = pending[d];
-    let y = pending[d + 1];
-    let n = put(pending, d, int32::add(x, y));
-    go_on(place, n)
-}
-
-// The difference of two values.
-pub fn subtract(place: usize, depth: usize, pending: &mut [i32; 32]) -> Performed
-    requires { Holding pending.old depth }
-    ensures { (v : ℤ) → Performs (does Instr.subtract place depth pending.old v) place pending.new result }
-{
-    if depth < 2 {
-        return stop(place, depth, Move::End);
-    }
-    let d = depth - 2;
-    let x = pending[d];
-    let y = pending[d + 1];
-    let n = put(pending, d, int32::subtract(x, y));
-    go_on(place, n)
-}
-
-// The product of two values.
-pub fn multiply(place: usize, depth: usize, pending: &mut [i32; 32]) -> Performed
-    requires { Holding pending.old depth }
-    ensures { (v : ℤ) → Performs (does Instr.multiply place depth pending.old v) place pending.new result }
-{
-    if depth < 2 {
-        return stop(place, depth, Move::End);
-    }
-    let d = depth - 2;
-    let x = pending[d];
-    let y = pending[d + 1];
-    let n = put(pending, d, int32::multiply(x, y));
-    go_on(place, n)
-}
-
-// The larger of two values.
-pub fn maximum(place: usize, depth: usize, pending: &mut [i32; 32]) -> Performed
-    requires { Holding pending.old depth }
-    ensures { (v : ℤ) → Performs (does Instr.maximum place depth pending.old v) place pending.new result }
-{
-    if depth < 2 {
-        return stop(place, depth, Move::End);
-    }
-    let d = depth - 2;
-    let x = pending[d];
-    let y = pending[d + 1];
-    let n = put(pending, d, int32::maximum(x, y));
-    go_on(place, n)
+    let z = operation(pending[d], pending[d + 1]);
+    go_on(place, put(pending, d, z))
 }
 
 // The negation of a value.
@@ -161,9 +110,8 @@ pub fn negate(place: usize, depth: usize, pending: &mut [i32; 32]) -> Performed
         return stop(place, depth, Move::End);
     }
     let d = depth - 1;
-    let x = pending[d];
-    let n = put(pending, d, int32::negate(x));
-    go_on(place, n)
+    let z = int32::negate(pending[d]);
+    go_on(place, put(pending, d, z))
 }
 
 // A quotient in place of the two values from d on, or the fault of a zero divisor.
@@ -171,45 +119,34 @@ pub fn settle(
     place: usize,
     d: usize,
     pending: &mut [i32; 32],
-    quotient: Divided,
+    quotient: Option<i32>,
     line: u32,
 ) -> Performed
     requires { (length pending.old ≡ 32) × (d < 32) }
     ensures { Performs (λ go. with_quotient quotient line (λ z. go place (z ∷ pendings pending.old d))) place pending.new result }
 {
     match quotient {
-        Divided::Value(z) => {
-            let n = put(pending, d, z);
-            go_on(place, n)
-        }
-        Divided::ByZero => fault(place, d, 10, line),
+        Some(z) => go_on(place, put(pending, d, z)),
+        None => fault(place, d, 10, line),
     }
 }
 
-// The quotient of two values.
-pub fn divide(place: usize, depth: usize, pending: &mut [i32; 32], line: u32) -> Performed
-    requires { Holding pending.old depth }
-    ensures { (v : ℤ) → Performs (does (Instr.divide line) place depth pending.old v) place pending.new result }
+// Two values replaced by their quotient, as a division makes it.
+pub fn divide<F: Fn(i32, i32) -> Option<i32>>(
+    place: usize,
+    depth: usize,
+    pending: &mut [i32; 32],
+    division: F,
+    line: u32,
+) -> Performed
+    requires holding { Holding pending.old depth }
+    requires callable { F.IsAlwaysCallable division }
+    ensures { (f : ℤ → ℤ → ℤ) → Is (F.post division) (divided f) → Performs (λ go. with2 (pendings pending.old depth) (λ x y t. divides line f x y (λ z. go place (z ∷ t)))) place pending.new result }
 {
     if depth < 2 {
         return stop(place, depth, Move::End);
     }
     let d = depth - 2;
-    let x = pending[d];
-    let y = pending[d + 1];
-    settle(place, d, pending, int32::divide(x, y), line)
-}
-
-// The rounded quotient of two values.
-pub fn round(place: usize, depth: usize, pending: &mut [i32; 32], line: u32) -> Performed
-    requires { Holding pending.old depth }
-    ensures { (v : ℤ) → Performs (does (Instr.round line) place depth pending.old v) place pending.new result }
-{
-    if depth < 2 {
-        return stop(place, depth, Move::End);
-    }
-    let d = depth - 2;
-    let x = pending[d];
-    let y = pending[d + 1];
-    settle(place, d, pending, int32::round_divide(x, y), line)
+    let quotient = division(pending[d], pending[d + 1]);
+    settle(place, d, pending, quotient, line)
 }

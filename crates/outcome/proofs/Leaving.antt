@@ -20,6 +20,8 @@ use Rattle.trial.specs.declared.Worker.{Worker}
 use Rattle.trial.specs.declared.Setting.{Setting}
 use Rattle.trial.specs.Running.{dealt, nobody, Run, AllOver}
 use Rattle.outcome.specs.Leaves.{Leaves}
+use Rattle.std.specs.Prelude.{IsSome}
+use Rattle.stepping.proofs.Opened.{stop_of}
 use Rattle.trial.proofs.Turns.{run_turn, turn_end, turn_fault}
 use Rattle.outcome.proofs.ReadingOff.{standing_record, is_fault}
 
@@ -31,21 +33,21 @@ module _ (code : List ℕ) (g : Setting) (l : Loop) (M : List ℤ) (W : List ℕ
   shows = let h = r.running.standing in tables_right l δ h.suits.proper s.log h.orderly.inside h.orderly.ascending
 
   -- which processors met a fault
-  stops : (q : ℕ) → q < g.processors → Stopped δ s q ↔ (0 < (get_or ws q nobody).fault)
+  stops : (q : ℕ) → q < g.processors → Stopped δ s q ↔ IsSome (get_or ws q nobody).point.fault
   stops q b = (to, from)
     where
-      to : Stopped δ s q → 0 < (get_or ws q nobody).fault
+      to : Stopped δ s q → IsSome (get_or ws q nobody).point.fault
       to (lt, _) =
           let t = run_turn code g l M W ws s q r b in
           elim (o q b) [ inl y ↦ y | inr y ↦ absurd (omega (arith, turn_end code g l M W s q (get_or ws q nobody) t, t.held.at)) ]
 
-      from : 0 < (get_or ws q nobody).fault → Stopped δ s q
+      from : IsSome (get_or ws q nobody).point.fault → Stopped δ s q
       from y =
           let t = run_turn code g l M W ws s q r b in
-          let lt = r.halted q b y in (
+          let lt = r.halted q b y in
+          let (h, e) = stop_of _ y in (
             lt,
-            is_fault (s.places q).act (get_or ws q nobody).fault (get_or ws q nobody).line
-                (turn_fault code g l M W s q (get_or ws q nobody) t (omega arith) lt),
+            is_fault (s.places q).act h.number h.line (turn_fault code g l M W s q (get_or ws q nobody) t h e lt),
           )
 
   pub run_leaves : Leaves code g l s M W ws

@@ -23,6 +23,7 @@ use Rattle.tables.specs.Layout.{row_at, entry_word, lowest_word, highest_word}
 use Rattle.findings.specs.Findings.{blocked_of}
 use Rattle.tables.proofs.Held.{rows_apart}
 use Rattle.findings.proofs.Logged.{logged_record, logged_obstacle, logged_merged, logged_entry}
+use Rattle.stepping.proofs.Opened.{stop_of}
 use Rattle.trial.specs.declared.Worker.{Worker}
 use Rattle.trial.specs.declared.Setting.{Setting}
 use Rattle.trial.specs.Standing.{Standing, Kept}
@@ -131,7 +132,7 @@ fails_right code g l M W ws s u o r f = (to r refl, from)
         let t = run_turn code g l M W ws s q u b in
         let z = f.none e q b in
         absurd (elim (o q b) [
-          | inl y ↦ omega arith
+          | inl y ↦ (let e : ◌≡◌ {A = ℕ} 0 1 = cc in omega arith)
           | inr y ↦ omega (arith, turn_end code g l M W s q (get_or ws q nobody) t, t.held.at)
         ])
 
@@ -139,12 +140,12 @@ fails_right code g l M W ws s u o r f = (to r refl, from)
     from e =
         let (q, b, y) = f.some e in
         let t = run_turn code g l M W ws s q u b in
-        let lt = u.halted q b y in (
+        let lt = u.halted q b y in
+        let (h, e) = stop_of _ y in (
           q,
           omega (arith, b, u.running.standing.suits.processors),
           (
             lt,
-            is_fault (s.places q).act (get_or ws q nobody).fault (get_or ws q nobody).line
-                (turn_fault code g l M W s q (get_or ws q nobody) t (omega arith) lt),
+            is_fault (s.places q).act h.number h.line (turn_fault code g l M W s q (get_or ws q nobody) t h e lt),
           ),
         )

@@ -1,18 +1,19 @@
 -- What Run answers after the serial run.
-use Rattle.std.specs.Prelude.{◌≡◌, List, ℕ, length, replicate, ℤ}
-use Rattle.answers.specs.declared.Served.{Served}
-use Rattle.answers.specs.declared.Served.TheVariants.{Finished, Faulted, Refused}
+use Rattle.std.specs.Prelude.{◌≡◌, List, ℕ, length, replicate, ℤ, Result, Ok, Err}
+use Rattle.answers.specs.declared.Counts.{Counts}
+use Rattle.answers.specs.declared.Failure.{Failure}
+use Rattle.answers.specs.declared.Failure.TheVariants.{Faulted, Refused}
 use Rattle.answers.specs.declared.Ran.{Ran}
-use Rattle.answers.specs.declared.Ran.TheVariants.{Rerun, Faulted as Failed, Refused as Unfit}
+use Rattle.answers.specs.declared.Ran.TheVariants.{Rerun}
 use Rattle.outcome.specs.ReadOff.{CanRestore, Restores}
 
 -- "if that faults, they return to entry again"
-unfoldable pub CanConclude : Served → List ℤ → List ℕ → Type 0
-CanConclude (Finished a b) M W = Unit {0}
-CanConclude (Faulted n t v) M W = CanRestore 1 M W
-CanConclude (Refused n k) M W = Unit {0}
+unfoldable pub CanConclude : Result Counts Failure → List ℤ → List ℕ → Type 0
+CanConclude (Ok c) M W = Unit {0}
+CanConclude (Err (Faulted f)) M W = CanRestore 1 M W
+CanConclude (Err (Refused e)) M W = Unit {0}
 
-unfoldable pub ConcludesBy : Served → List ℤ → List ℕ → Ran → List ℤ → List ℕ → Type 0
-ConcludesBy (Finished a b) M W r M' W' = (r ≡ Rerun a b) × (M' ≡ M) × (W' ≡ replicate (length W) 0)
-ConcludesBy (Faulted n t v) M W r M' W' = (r ≡ Failed n t v) × Restores 1 M W M' × (W' ≡ replicate (length W) 0)
-ConcludesBy (Refused n k) M W r M' W' = (r ≡ Unfit n k) × (M' ≡ M) × (W' ≡ W)
+unfoldable pub ConcludesBy : Result Counts Failure → List ℤ → List ℕ → Result Ran Failure → List ℤ → List ℕ → Type 0
+ConcludesBy (Ok c) M W r M' W' = (r ≡ Ok (Rerun c)) × (M' ≡ M) × (W' ≡ replicate (length W) 0)
+ConcludesBy (Err (Faulted f)) M W r M' W' = (r ≡ Err (Faulted f)) × Restores 1 M W M' × (W' ≡ replicate (length W) 0)
+ConcludesBy (Err (Refused e)) M W r M' W' = (r ≡ Err (Refused e)) × (M' ≡ M) × (W' ≡ W)

@@ -1,6 +1,6 @@
 -- RULES 9.7 a: what a run leaves, word by word (document 01, Contracts and examples: "the shared cells, private values, partial results, marks and records
 -- it leaves, both write counts of its own accesses, which processors met a fault, and which cells have an obstacle").
-use Rattle.std.specs.Prelude.{◌≡◌, ◌↔◌, true, List, ℕ, ◌<◌, get_or, ℤ}
+use Rattle.std.specs.Prelude.{◌≡◌, ◌↔◌, true, List, ℕ, ◌<◌, get_or, ℤ, IsSome}
 use Rattle.int32.specs.Integers.{value}
 use Rattle.rules.specs.Cells.{listed}
 use Rattle.rules.specs.Loop.{Loop, joining}
@@ -32,6 +32,6 @@ pub record Leaves (code : List ℕ) (g : Setting) (l : Loop) (s : State) (M : Li
   pub records : (q : ℕ) → q < g.processors → Held code g l (get_or ws q nobody) (s.places q)
   pub pair_count : pairs_word W ≡ pairs l s.log
   pub cell_count : cells_word W ≡ written_cells l s.log
-  pub faults : (q : ℕ) → q < g.processors → Stopped (dealt g) s q ↔ (0 < (get_or ws q nobody).fault)
+  pub faults : (q : ℕ) → q < g.processors → Stopped (dealt g) s q ↔ IsSome (get_or ws q nobody).point.fault
   pub obstacles : (c : ℕ) → c < l.size
       → ObstacleAt (l.class c) (λ i. only (dealt g).group i s.log) c ↔ (blocked_of W (row_at g.processors c) ≡ true)

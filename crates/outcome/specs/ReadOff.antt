@@ -1,5 +1,5 @@
 -- What is read off cells, words and records after a run.
-use Rattle.std.specs.Prelude.{◌≡◌, ◌↔◌, Bool, true, false, List, ℕ, ◌<◌, get_or, ℤ}
+use Rattle.std.specs.Prelude.{◌≡◌, ◌↔◌, Bool, true, false, List, ℕ, ◌<◌, get_or, ℤ, IsSome, IsNone}
 use Rattle.rules.specs.Cells.{listed}
 use Rattle.rules.specs.Loop.{Loop, Partition}
 use Rattle.rules.specs.Obstacles.{Obstructed}
@@ -11,8 +11,8 @@ use Rattle.trial.specs.Running.{nobody}
 
 -- whether one of k records has a fault
 pub record Fails (k : ℕ) (ws : List Worker) (r : Bool) : Type 0 where
-  pub some : r ≡ true → (q : ℕ) × (q < k) × (0 < (get_or ws q nobody).fault)
-  pub none : r ≡ false → (q : ℕ) → q < k → (get_or ws q nobody).fault ≡ 0
+  pub some : r ≡ true → (q : ℕ) × (q < k) × IsSome (get_or ws q nobody).point.fault
+  pub none : r ≡ false → (q : ℕ) → q < k → IsNone (get_or ws q nobody).point.fault
 
 -- whether some cell has an obstacle
 abbrev pub Judges : ℕ → List ℤ → List ℕ → Bool → Type 0

@@ -7,8 +7,7 @@ ghost use Rattle.trial.specs.Standing.{Stands};
 ghost use Rattle.outcome.specs.ReadOff.{Fails, Judges, Merges, CanRestore, Restores};
 ghost use Rattle.outcome.specs.Concluding.{CanConclude, ConcludesBy};
 
-use answers::{Ran, Served};
-use rules::Processor;
+use answers::{Counts, Failure, Ran};
 use trial::Worker;
 
 // Whether a fault stopped some processor.
@@ -16,18 +15,9 @@ pub fn is_faulty(processors: u32, workers: [Worker; 8]) -> bool
     requires { processors ≤ 8 }
     ensures { Fails processors workers result }
 {
-    let ws = workers;
-    let mut q: u32 = 0;
-    while q < processors {
-        let p = Processor(q);
-        let k = rules::index_of(p);
-        let x = ws[k];
-        if x.fault != 0 {
-            return true;
-        }
-        q += 1;
-    }
-    false
+    workers[..processors as usize]
+        .iter()
+        .any(|worker| worker.point.fault.is_some())
 }
 
 // Whether some cell has an obstacle.
@@ -35,13 +25,10 @@ pub fn is_obstructed(processors: u32, cells: &[i32], w: &[u32]) -> bool
     requires { Stands processors cells.now w.now }
     ensures { Judges processors cells.now w.now result }
 {
-    let mut c = 0;
-    while c < cells.len() {
-        let row = tables::row_of(c, processors);
-        if findings::is_blocked(w, row) {
+    for c in 0..cells.len() {
+        if findings::is_blocked(w, tables::row_of(c, processors)) {
             return true;
         }
-        c += 1;
     }
     false
 }
@@ -51,11 +38,9 @@ pub fn merge(processors: u32, cells: &mut [i32], w: &[u32])
     requires { Stands processors cells.old w.now }
     ensures { Merges processors cells.old w.now cells.new }
 {
-    let mut c = 0;
-    while c < cells.len() {
+    for (c, cell) in cells.iter_mut().enumerate() {
         let row = tables::row_of(c, processors);
-        cells[c] = findings::merged_value(w, row, cells[c], processors);
-        c += 1;
+        *cell = findings::merged_value(w, row, *cell, processors);
     }
 }
 
@@ -64,11 +49,8 @@ pub fn restore(processors: u32, cells: &mut [i32], w: &[u32])
     requires { CanRestore processors cells.old w.now }
     ensures { Restores processors cells.old w.now cells.new }
 {
-    let mut c = 0;
-    while c < cells.len() {
-        let row = tables::row_of(c, processors);
-        cells[c] = findings::entry_value(w, row);
-        c += 1;
+    for (c, cell) in cells.iter_mut().enumerate() {
+        *cell = findings::entry_value(w, tables::row_of(c, processors));
     }
 }
 
@@ -76,24 +58,30 @@ pub fn restore(processors: u32, cells: &mut [i32], w: &[u32])
 pub fn is_rejected(faulty: bool, obstructed: bool) -> bool
     ensures { result ≡ faulty || obstructed }
 {
-    if faulty { true } else { obstructed }
+    faulty || obstructed
 }
 
 // What Run answers after the serial run: a fault brings the cells back to entry. The workspace is left all zero.
-pub fn conclude(s: Served, cells: &mut [i32], workspace: &mut [u32]) -> Ran
-    requires { CanConclude s cells.old workspace.old }
-    ensures { ConcludesBy s cells.old workspace.old result cells.new workspace.new }
+pub fn conclude(
+    served: Result<Counts, Failure>,
+    cells: &mut [i32],
+    workspace: &mut [u32],
+) -> Result<Ran, Failure>
+    requires { CanConclude served cells.old workspace.old }
+    ensures { ConcludesBy served cells.old workspace.old result cells.new workspace.new }
 {
-    match s {
-        Served::Finished { pairs: a, cells: b } => {
+    match served {
+        Ok(counts) => {
             tables::clear(workspace);
-            Ran::Rerun { pairs: a, cells: b }
+            Ok(Ran::Rerun(counts))
         }
-        Served::Faulted { number, line, v } => {
-            restore(1, cells, workspace);
-            tables::clear(workspace);
-            Ran::Faulted { number, line, v }
-        }
-        Served::Refused { number, line } => Ran::Refused { number, line },
+        Err(failure) => match failure {
+            Failure::Faulted(_) => {
+                restore(1, cells, workspace);
+                tables::clear(workspace);
+                Err(failure)
+            }
+            Failure::Refused(_) => Err(failure),
+        },
     }
 }

@@ -1,24 +1,24 @@
 -- What readers answer one after another: instructions and ranks since the first began, the places between them, and fuel.
 use mathlib.Core.Path.{◌≡◌, refl, sym, ◌∙◌, ap, subst}
-use mathlib.Core.Bool.{cond}
+use mathlib.Core.Bool.{cond, false}
 use mathlib.Core.List.{List, [], ◌∷◌, ◌++◌}
 use Prim.Native.Nat.{ℕ, zero, suc, ◌+◌, ◌-◌, ◌*◌, ◌≤◌, ◌<◌, max}
-use native.Mathlib.Nat.{add-zero}
 use native.Mathlib.Omega.{arith}
 use lib.ListN.{length, drop, length-append, length-drop}
 use lib.Seq.{sets}
+use Rattle.std.specs.Prelude.{Option, Some, None}
 use Rattle.syntax.specs.Known.{Entry}
 use Rattle.syntax.specs.Conditions.{Mention}
+use Rattle.syntax.specs.Ranks.{level}
 use Rattle.syntax.specs.Reader.{Parsed, broken, done, next, skip_in}
 use Rattle.code.specs.Instr.{Instr, words}
 use Rattle.code.specs.Compile.{code_lead}
 use Rattle.parts.specs.Answer.{worst, Reads}
-use Rattle.parts.specs.Parts.{stands, lead_by, Sealed, unread, other, closes, Emits}
+use Rattle.parts.specs.Parts.{stands, lead_by, Closes, Emits}
 use Rattle.parts.specs.declared.Joint.{Joint}
 use Rattle.code.proofs.Words.{words_append, words_length}
 use Rattle.lexer.proofs.Laws.{sets_append}
 use Rattle.parts.specs.declared.Got.{Got}
-use Rattle.parts.specs.declared.Got.TheVariants.{Broken, Done}
 
 -- ---- ranks
 
@@ -57,97 +57,133 @@ module _ {place most : ℕ} {b : List ℕ} {is : List Instr} {k p q : ℕ} {m : 
         e ∙ (λ h. sets (so.code_is h) (i h) (words js)) ∙ sets_append b (2 * place) (words is) (words js) ∙ ap (sets b (2 * place)) (sym (words_append is js));
   }
 
+  -- the same, where the place and the rank are called otherwise
+  pub since_at : {p' q' : ℕ} → p' ≡ p → q' ≡ q → Since place most b is k p' q' m
+  since_at ep eq = record { place_is = ep ∙ so.place_is; rank_is = eq ∙ so.rank_is; code_is = so.code_is }
+
+-- what was read, and then emitted
+pub since_emits : {place most : ℕ} {b : List ℕ} {is : List Instr} {k : ℕ} {m a : List ℕ} (js : List Instr) {g r : Got}
+    → Since place most b is k g.place (level g.rank) m → Emits (length js) (words js) g m a r → Since place most b (is ++ js) k r.place (level r.rank) a
+since_emits js so em = since_at (since_emit so js em.written) em.place (ap level em.rank)
+
 -- ---- one reader after another
 
-module _ {C : Type 0} (c : C → List Instr) (k : C → ℕ) (s : List ℕ) (place most : ℕ) (b a : List ℕ) (r : Got) where
-  -- what is read, and the place after it
-  pub reads_done : {n p q : ℕ} {is : List Instr} {j : ℕ} (z : C) → n ≤ length s → Since place most b is j p q a → c z ≡ is → k z ≡ j → r ≡ Done n p q
-      → Reads c k s (done z (drop n s)) place most b a r
+module _ {C : Type 0} (c : C → List Instr) (k : C → ℕ) (s : List ℕ) (place most : ℕ) (b a : List ℕ) where
+  -- what is read, and where it ends
+  pub reads_done : {is : List Instr} {j : ℕ} (z : C) (g : Got) → g.at ≤ length s → Since place most b is j g.place (level g.rank) a → c z ≡ is → k z ≡ j
+      → Reads c k s (done z (drop g.at s)) place most b a (Some g)
   unfolding Reads
-  reads_done {n} z h so ec ek er =
-      let e : length s - length (drop n s) ≡ n = omega (arith, length-drop n s) in (
+  reads_done {is} z g h so ec ek =
+      let e : length s - length (drop g.at s) ≡ g.at = omega (arith, length-drop g.at s) in (
         ap (λ (i : ℕ). drop i s) (sym e),
-        er ∙ (λ i. Done (sym e i) ((so.place_is ∙ ap (λ (l : List Instr). place + length l) (sym ec)) i) ((so.rank_is ∙ ap (max most) (sym ek)) i)),
+        record {
+          got = g;
+          is = refl;
+          at = sym e;
+          place = so.place_is ∙ ap (λ (l : List Instr). place + length l) (sym ec);
+          rank = so.rank_is ∙ ap (max most) (sym ek);
+        },
         so.code_is ∙ ap (λ (l : List Instr). sets b (2 * place) (words l)) (sym ec),
       )
 
-  -- a reader, and what comes after it: where the reader stopped, its instructions and its rank are added to those before it
-  pub reads_next : {B : Type 0} (c₁ : B → List Instr) (k₁ : B → ℕ) (P : Parsed (List ℕ) B) (K : B → List ℕ → Parsed (List ℕ) C) {is : List Instr}
-      {j p q : ℕ} {m : List ℕ} (m' : List ℕ) (g : Got)
-      → Since place most b is j p q m → Reads c₁ k₁ s P p q m m' g
-      → ((y : B) (n p' q' : ℕ) → n ≤ length s → g ≡ Done n p' q' → Since place most b (is ++ c₁ y) (max j (k₁ y)) p' q' m'
-      → Reads c k s (K y (drop n s)) place most b a r)
-      → (g ≡ Broken → r ≡ Broken) → Reads c k s (next P K) place most b a r
-  unfolding Reads
-  reads_next c₁ k₁ broken K m' g so h go stop = stop h
-  reads_next c₁ k₁ (done y u) K m' g so h go stop =
-      subst (λ (w : List ℕ). Reads c k s (K y w) place most b a r) (sym h.0)
-      (go y (length s - length u) _ _ (omega arith) h.1 (since_rank (since_emit so (c₁ y) h.2) (k₁ y) refl))
+  module _ {B : Type 0} (c₁ : B → List Instr) (k₁ : B → ℕ) (P : Parsed (List ℕ) B) {is : List Instr} {j p q : ℕ} {m : List ℕ}
+      (so : Since place most b is j p q m) where
+    -- a reader, and what comes after it: where the reader stopped, its instructions and its rank are added to those before it
+    pub reads_next : (K : B → List ℕ → Parsed (List ℕ) C) (m' : List ℕ) (g : Got) (r : Option Got) → Reads c₁ k₁ s P p q m m' (Some g)
+        → ((y : B) → g.at ≤ length s → Since place most b (is ++ c₁ y) (max j (k₁ y)) g.place (level g.rank) m'
+        → Reads c k s (K y (drop g.at s)) place most b a r)
+        → Reads c k s (next P K) place most b a r
+    unfolding Reads
+    reads_next K m' g r h go = by_case P h
+      where
+        by_case : (P : Parsed (List ℕ) B) → Reads c₁ k₁ s P p q m m' (Some g) → Reads c k s (next P K) place most b a r
+        by_case broken h = absurd (let z : ◌≡◌ {A = ℕ} 0 1 = cc in omega arith)
+        by_case (done y u) h =
+            let e : h.1.got ≡ g = cc h.1.is in
+            let ea : g.at ≡ length s - length u = cc (h.1.at, e) in
+            let ep : g.place ≡ p + length (c₁ y) = cc (h.1.place, e) in
+            let eq : level g.rank ≡ max q (k₁ y) = cc (h.1.rank, e) in
+            subst (λ (w : List ℕ). Reads c k s (K y w) place most b a r) (ap (λ (i : ℕ). drop i s) ea ∙ sym h.0)
+            (go y (omega arith) (since_at (since_rank (since_emit so (c₁ y) h.2) (k₁ y) refl) ep eq))
+
+    -- and nothing where it read nothing
+    pub reads_none : (K : B → List ℕ → Parsed (List ℕ) C) (m' : List ℕ) → Reads c₁ k₁ s P p q m m' None → Reads c k s (next P K) place most b a None
+    unfolding Reads
+    reads_none K m' h = by_case P h
+      where
+        by_case : (P : Parsed (List ℕ) B) → Reads c₁ k₁ s P p q m m' None → Reads c k s (next P K) place most b a None
+        by_case broken h = refl
+        by_case (done y u) h = absurd (let z : ◌≡◌ {A = ℕ} 0 1 = cc h.1.is in omega arith)
+
+    -- the last reader, with what is made of it
+    pub reads_last : (mk : B → C) (r : Option Got) → ((y : B) → c (mk y) ≡ is ++ c₁ y) → ((y : B) → k (mk y) ≡ max j (k₁ y)) → Reads c₁ k₁ s P p q m a r
+        → Reads c k s (next P (λ y v. done (mk y) v)) place most b a r
+    unfolding Reads
+    reads_last mk r ec ek h = by_case P h
+      where
+        by_case : (P : Parsed (List ℕ) B) → Reads c₁ k₁ s P p q m a r → Reads c k s (next P (λ y v. done (mk y) v)) place most b a r
+        by_case broken h = h
+        by_case (done y u) h =
+            let w = since_rank (since_emit so (c₁ y) h.2) (k₁ y) refl in (
+              h.0,
+              record {
+                got = h.1.got;
+                is = h.1.is;
+                at = h.1.at;
+                place = h.1.place ∙ w.place_is ∙ ap (λ (l : List Instr). place + length l) (sym (ec y));
+                rank = h.1.rank ∙ w.rank_is ∙ ap (max most) (sym (ek y));
+              },
+              w.code_is ∙ ap (λ (l : List Instr). sets b (2 * place) (words l)) (sym (ec y)),
+            )
 
   -- a sign, and what comes after it
-  pub reads_sign : {ch n p q : ℕ} {g : Got} (K : List ℕ → Parsed (List ℕ) C) → Sealed ch s (Done n p q) g
-      → ((n' : ℕ) → n' ≤ length s → g ≡ Done n' p q → Reads c k s (K (drop n' s)) place most b a r)
-      → (g ≡ Broken → r ≡ Broken) → Reads c k s (next (cond (stands ch (drop n s)) (done (tt {0}) (skip_in (drop n s))) broken) (λ _. K)) place most b a r
-  unfolding Reads
-  reads_sign K (other e) go stop = rw e (stop refl)
-  reads_sign K (closes {n' = n'} e h) go stop = rw (e, ← h.left) (go n' h.within refl)
+  pub reads_sign : {ch : ℕ} {g h : Got} (K : List ℕ → Parsed (List ℕ) C) (r : Option Got) → Closes ch s g h → Reads c k s (K (drop h.at s)) place most b a r
+      → Reads c k s (next (cond (stands ch (drop g.at s)) (done (tt {0}) (skip_in (drop g.at s))) broken) (λ _. K)) place most b a r
+  reads_sign K r se h = rw (se.stood, ← se.passed.left) h
 
-pub sealed_broken : {ch : ℕ} {s : List ℕ} {g r : Got} → Sealed ch s g r → g ≡ Broken → r ≡ Broken
-sealed_broken unread e = refl
-sealed_broken (other h) e = refl
-sealed_broken (closes h k) e = absurd (let z : ◌≡◌ {A = ℕ} 0 1 = cc in omega arith)
+  pub reads_no_sign : (ch : ℕ) (g : Got) (K : List ℕ → Parsed (List ℕ) C) → stands ch (drop g.at s) ≡ false
+      → Reads c k s (next (cond (stands ch (drop g.at s)) (done (tt {0}) (skip_in (drop g.at s))) broken) (λ _. K)) place most b a None
+  unfolding Reads
+  reads_no_sign ch g K e = rw e
 
 -- what an answer tells of what was read
-module _ {A : Type 0} (c : A → List Instr) (k : A → ℕ) (s : List ℕ) (place most : ℕ) (b a : List ℕ) (r : Got) where
-  pub read_done : (P : Parsed (List ℕ) A) (n p q : ℕ) → Reads c k s P place most b a r → r ≡ Done n p q
-      → (x : A) × (P ≡ done x (drop n s)) × Since place most b (c x) (k x) p q a
+module _ {A : Type 0} (c : A → List Instr) (k : A → ℕ) (s : List ℕ) (place most : ℕ) (b a : List ℕ) where
+  pub read_done : (P : Parsed (List ℕ) A) (g : Got) → Reads c k s P place most b a (Some g)
+      → (x : A) × (P ≡ done x (drop g.at s)) × Since place most b (c x) (k x) g.place (level g.rank) a
   unfolding Reads
-  read_done broken n p q h e = absurd (let z : ◌≡◌ {A = ℕ} 0 1 = cc in omega arith)
-  read_done (done x u) n p q h e =
-      let en : length s - length u ≡ n = cc h.1 in
-      let ep : p ≡ place + length (c x) = cc h.1 in
-      let eq : q ≡ max most (k x) = cc h.1 in
-      (x, ap (done x) (h.0 ∙ ap (λ (i : ℕ). drop i s) en), record { place_is = ep; rank_is = eq; code_is = h.2 })
+  read_done broken g h = absurd (let z : ◌≡◌ {A = ℕ} 0 1 = cc in omega arith)
+  read_done (done x u) g h =
+      let e : h.1.got ≡ g = cc h.1.is in
+      let ea : length s - length u ≡ g.at = cc (h.1.at, e) in
+      let ep : g.place ≡ place + length (c x) = cc (h.1.place, e) in
+      let eq : level g.rank ≡ max most (k x) = cc (h.1.rank, e) in
+      (x, ap (done x) (h.0 ∙ ap (λ (i : ℕ). drop i s) ea), record { place_is = ep; rank_is = eq; code_is = h.2 })
 
-  pub read_broken : (P : Parsed (List ℕ) A) → Reads c k s P place most b a r → r ≡ Broken → P ≡ broken
+  pub read_none : (P : Parsed (List ℕ) A) → Reads c k s P place most b a None → P ≡ broken
   unfolding Reads
-  read_broken broken h e = refl
-  read_broken (done x u) h e = absurd (let z : ◌≡◌ {A = ℕ} 0 1 = cc h.1 in omega arith)
+  read_none broken h = refl
+  read_none (done x u) h = absurd (let z : ◌≡◌ {A = ℕ} 0 1 = cc h.1.is in omega arith)
 
 -- a reader and a sign, and what comes after them
-pub reads_sealed : {B C : Type 0} (c : C → List Instr) (k : C → ℕ) (s : List ℕ) (place most : ℕ) (b a : List ℕ) (r : Got) (c₁ : B → List Instr)
-    (k₁ : B → ℕ) (P : Parsed (List ℕ) B) (K : B → List ℕ → Parsed (List ℕ) C)
-    {is : List Instr} {j p q : ℕ} {m : List ℕ} (m' : List ℕ) (g : Got) {g' : Got} {ch : ℕ} → Since place most b is j p q m
-    → Reads c₁ k₁ s P p q m m' g → Sealed ch s g g'
-    → ((y : B) (n p' q' : ℕ) → n ≤ length s → g' ≡ Done n p' q' → Since place most b (is ++ c₁ y) (max j (k₁ y)) p' q' m'
-    → Reads c k s (K y (drop n s)) place most b a r)
-    → (g' ≡ Broken → r ≡ Broken) → Reads c k s (next P (λ y u. next (cond (stands ch u) (done (tt {0}) (skip_in u)) broken) (λ _. K y))) place most b a r
-reads_sealed c k s place most b a r c₁ k₁ P K m' g {g'} {ch} so h se go stop =
-    reads_next c k s place most b a r c₁ k₁ P (λ y u. next (cond (stands ch u) (done (tt {0}) (skip_in u)) broken) (λ _. K y)) m' g so h
-    (λ y n p' q' le e so'. reads_sign c k s place most b a r (K y) (subst (λ (i : Got). Sealed ch s i g') e se) (λ n' le' e'. go y n' p' q' le' e' so') stop)
-    (λ e. stop (sealed_broken se e))
+module _ {B C : Type 0} (c : C → List Instr) (k : C → ℕ) (s : List ℕ) (place most : ℕ) (b a : List ℕ) (c₁ : B → List Instr) (k₁ : B → ℕ)
+    (P : Parsed (List ℕ) B) (K : B → List ℕ → Parsed (List ℕ) C) {is : List Instr} {j p q : ℕ} {m : List ℕ} (m' : List ℕ) (g : Got)
+    (so : Since place most b is j p q m) (h : Reads c₁ k₁ s P p q m m' (Some g)) where
+  pub reads_closed : {ch : ℕ} {g' : Got} (r : Option Got) → Closes ch s g g'
+      → ((y : B) → g'.at ≤ length s → Since place most b (is ++ c₁ y) (max j (k₁ y)) g'.place (level g'.rank) m'
+      → Reads c k s (K y (drop g'.at s)) place most b a r)
+      → Reads c k s (next P (λ y u. next (cond (stands ch u) (done (tt {0}) (skip_in u)) broken) (λ _. K y))) place most b a r
+  reads_closed {ch} r se go =
+      reads_next c k s place most b a c₁ k₁ P so (λ y u. next (cond (stands ch u) (done (tt {0}) (skip_in u)) broken) (λ _. K y)) m' g r h
+      (λ y le so'. reads_sign c k s place most b a (K y) r se (go y se.passed.within (since_at so' se.place (ap level se.rank))))
 
-pub emits_broken : (k : ℕ) (ws : List ℕ) (g : Got) (m a : List ℕ) (r : Got) → Emits k ws g m a r → g ≡ Broken → r ≡ Broken
-unfolding Emits
-emits_broken k ws g m a r h e = subst (λ (x : Got). Emits k ws x m a r) e h
-
-pub emits_unread : (k : ℕ) (ws : List ℕ) (g : Got) (m a : List ℕ) → g ≡ Broken → Emits k ws g m a Broken
-unfolding Emits
-emits_unread k ws g m a e = subst (λ (x : Got). Emits k ws x m a Broken) (sym e) refl
-
-pub emits_done : (k : ℕ) (ws : List ℕ) (g : Got) (m a : List ℕ) (n p d : ℕ) → g ≡ Done n p d → a ≡ sets m (2 * p) ws → Emits k ws g m a (Done n (p + k) d)
-unfolding Emits
-emits_done k ws g m a n p d e h = subst (λ (x : Got). Emits k ws x m a (Done n (p + k) d)) (sym e) (refl, h)
-
-pub done_emits : (k : ℕ) (ws : List ℕ) (g : Got) (m a : List ℕ) (r : Got) (n p d : ℕ) → Emits k ws g m a r → g ≡ Done n p d
-    → (r ≡ Done n (p + k) d) × (a ≡ sets m (2 * p) ws)
-unfolding Emits
-done_emits k ws g m a r n p d h e = subst (λ (x : Got). Emits k ws x m a r) e h
+  pub reads_unclosed : (ch : ℕ) → stands ch (drop g.at s) ≡ false
+      → Reads c k s (next P (λ y u. next (cond (stands ch u) (done (tt {0}) (skip_in u)) broken) (λ _. K y))) place most b a None
+  reads_unclosed ch e =
+      reads_next c k s place most b a c₁ k₁ P so (λ y u. next (cond (stands ch u) (done (tt {0}) (skip_in u)) broken) (λ _. K y)) m' g None h
+      (λ y le so'. reads_no_sign c k s place most b a ch g (K y) e)
 
 pub emits_none : (g : Got) (m : List ℕ) → Emits 0 [] g m m g
-unfolding Emits
-emits_none Broken m = refl
-emits_none (Done n p q) m = (ap (λ (i : ℕ). Done n i q) (sym (add-zero p)), refl)
+emits_none g m = record { at = refl; place = omega arith; rank = refl; written = refl }
 
 -- the instruction of a lead, or none, by which lead it is
 pub emits_lead : {j k : Joint} (g : Got) (m a : List ℕ) (r : Got) → j ≡ k → Emits (length (code_lead (lead_by k))) (words (code_lead (lead_by k))) g m a r
@@ -156,12 +192,18 @@ emits_lead g m a r e = subst (λ (i : Joint). Emits (length (code_lead (lead_by 
 
 -- the same under another name
 pub reads_as : {A B : Type 0} (c : A → List Instr) (k : A → ℕ) (c' : B → List Instr) (k' : B → ℕ) (s : List ℕ) (place most : ℕ) (b a : List ℕ)
-    (r : Got) (x : A) (y : B) (u : List ℕ)
+    (r : Option Got) (x : A) (y : B) (u : List ℕ)
     → c' y ≡ c x → k' y ≡ k x → Reads c k s (done x u) place most b a r → Reads c' k' s (done y u) place most b a r
 unfolding Reads
 reads_as c k c' k' s place most b a r x y u ec ek h = (
   h.0,
-  h.1 ∙ (λ i. Done (length s - length u) (place + length (sym ec i)) (max most (sym ek i))),
+  record {
+    got = h.1.got;
+    is = h.1.is;
+    at = h.1.at;
+    place = h.1.place ∙ ap (λ (l : List Instr). place + length l) (sym ec);
+    rank = h.1.rank ∙ ap (max most) (sym ek);
+  },
   h.2 ∙ ap (λ (l : List Instr). sets b (2 * place) (words l)) (sym ec),
 )
 
@@ -169,15 +211,11 @@ reads_as c k c' k' s place most b a r x y u ec ek h = (
 module _ {A B C : Type 0} (c₁ : A → List Instr) (k₁ : A → ℕ) (c₂ : B → List Instr) (k₂ : B → ℕ) (c : C → List Instr) (k : C → ℕ) (mk : A → B → C)
     (js : List Instr)
     (hc : (x : A) (y : B) → c (mk x y) ≡ (c₁ x ++ js) ++ c₂ y) (hk : (x : A) (y : B) → k (mk x y) ≡ max (k₁ x) (k₂ y)) where
-  pub in_turn : (s : List ℕ) (place most : ℕ) (b m m' a : List ℕ) (g g' r : Got) (P : Parsed (List ℕ) A) (Q : List ℕ → Parsed (List ℕ) B)
-      → Reads c₁ k₁ s P place most b m g → Emits (length js) (words js) g m m' g'
-      → ((n p q : ℕ) → g' ≡ Done n p q → Reads c₂ k₂ s (Q (drop n s)) p q m' a r) → (g' ≡ Broken → r ≡ Broken)
+  pub in_turn : (s : List ℕ) (place most : ℕ) (b m m' a : List ℕ) (g g' : Got) (r : Option Got) (P : Parsed (List ℕ) A) (Q : List ℕ → Parsed (List ℕ) B)
+      → Reads c₁ k₁ s P place most b m (Some g) → Emits (length js) (words js) g m m' g' → Reads c₂ k₂ s (Q (drop g'.at s)) g'.place (level g'.rank) m' a r
       → Reads c k s (next P (λ x u. next (Q u) (λ y v. done (mk x y) v))) place most b a r
-  in_turn s place most b m m' a g g' r P Q h em go stop =
-      reads_next c k s place most b a r c₁ k₁ P (λ x u. next (Q u) (λ y v. done (mk x y) v)) m g (since_none place most b) h
-      (λ x n p q le e so.
-      let w = done_emits (length js) (words js) g m m' g' n p q em e in
-      reads_next c k s place most b a r c₂ k₂ (Q (drop n s)) (λ y v. done (mk x y) v) a r (since_emit so js w.1) (go n (p + length js) q w.0)
-      (λ y n' p' q' le' e' so'. reads_done c k s place most b a r (mk x y) le' so' (hc x y) (omega (arith, hk x y)) e')
-      (λ z. z))
-      (λ e. stop (emits_broken (length js) (words js) g m m' g' em e))
+  in_turn s place most b m m' a g g' r P Q h em go =
+      reads_next c k s place most b a c₁ k₁ P (since_none place most b) (λ x u. next (Q u) (λ y v. done (mk x y) v)) m g r h
+      (λ x le so.
+      reads_last c k s place most b a c₂ k₂ (Q (drop g.at s)) (since_emits js so em) (mk x) r (hc x) (λ y. omega (arith, hk x y))
+      (subst (λ (i : ℕ). Reads c₂ k₂ s (Q (drop i s)) g'.place (level g'.rank) m' a r) em.at go))

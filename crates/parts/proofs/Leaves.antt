@@ -16,13 +16,15 @@ use Rattle.code.specs.Instr.{Instr, push, words}
 use Rattle.lexer.specs.declared.Tok.{Tok}
 use Rattle.lexer.specs.Lex.{kind_number, part, Lexed}
 use Rattle.names.specs.Table.{variable_of, Tabled}
-use Rattle.parts.specs.Answer.{rank_of, Reads, Within}
+use Rattle.std.specs.Prelude.{Some}
+use Rattle.syntax.specs.declared.Rank.{Rank}
+use Rattle.syntax.specs.Ranks.{level}
+use Rattle.parts.specs.Answer.{rank_of, Reads, Lies}
 use Rattle.parts.specs.Parts.{text_at, Emits, Ranked, reads_of, Fetches, pushes, literal_rank, Pushes, Loads}
 use Rattle.parts.specs.declared.Fetch.{Fetch}
 use Rattle.parts.specs.declared.Fetch.TheVariants.{Cell}
 use Rattle.parts.specs.declared.Got.{Got}
-use Rattle.parts.specs.declared.Got.TheVariants.{Done}
-use Rattle.parts.proofs.Laws.{Since, since_none, since_rank, since_emit, reads_done}
+use Rattle.parts.proofs.Laws.{Since, since_none, since_rank, since_emits, reads_done}
 
 -- the words of a read are those of its instruction
 pub fetches_emits : (T s : List ℕ) (at line : ℕ) (b : Fetch) (g : Got) (m a : List ℕ) (r : Got) → Fetches T s at line b g m a r → (t : List Entry) → Tabled T t
@@ -38,42 +40,43 @@ limited m n e = elim (dec_le m 2147483647) [
 ]
 
 module _ {s : List ℕ} {at : ℕ} {t : Tok} (l : Lexed s at t) where
-  token_within : (kind_number t.kind ≡ 0 → ⊥) → (place q : ℕ) (r : Got) → r ≡ Done t.stop (place + 1) q → Within s at place (suc at) r
-  unfolding Within
-  token_within n place q r e =
+  token_lies : (kind_number t.kind ≡ 0 → ⊥) → (place : ℕ) (r : Got) → r.at ≡ t.stop → r.place ≡ place + 1 → Lies s at place (suc at) r
+  token_lies n place r e ep =
       let lt = l.some (λ z. n (ap kind_number z)) in
-      subst (Within s at place (suc at)) (sym e) (omega (arith, l.from), l.within, omega (arith, l.from))
+      record { from = omega (arith, l.from); inside = omega (arith, l.within); room = omega (arith, l.from) }
 
   -- what is read is one token
-  reads_token : {A : Type 0} (c : A → List Instr) (k : A → ℕ) (place most : ℕ) (b a : List ℕ) (r : Got) {is : List Instr} {j p q : ℕ} (z : A)
-      → Since place most b is j p q a → c z ≡ is → k z ≡ j → r ≡ Done t.stop p q → Reads c k s (done z (skip_in (drop at s))) place most b a r
-  reads_token c k place most b a r z so ec ek er =
-      subst (λ (u : List ℕ). Reads c k s (done z u) place most b a r) (sym l.next) (reads_done c k s place most b a r z l.within so ec ek er)
+  reads_token : {A : Type 0} (c : A → List Instr) (k : A → ℕ) (place most : ℕ) (b a : List ℕ) (r : Got) {is : List Instr} {j : ℕ} (z : A) → r.at ≡ t.stop
+      → Since place most b is j r.place (level r.rank) a → c z ≡ is → k z ≡ j → Reads c k s (done z (skip_in (drop at s))) place most b a (Some r)
+  reads_token c k place most b a r z er so ec ek =
+      subst (λ (u : List ℕ). Reads c k s (done z u) place most b a (Some r)) (ap (λ (i : ℕ). drop i s) er ∙ sym l.next)
+      (reads_done c k s place most b a z r (omega (arith, l.within)) so ec ek)
 
-  pub literal_pushes : (kind_number t.kind ≡ 0 → ⊥) → (place most n q : ℕ) (b a : List ℕ) (r : Got)
-      → n ≡ min (number (part s t.start t.stop)) 2147483648 → q ≡ max most (cond (leb n 2147483647) 0 1)
-      → Emits 1 (0 ∷ n ∷ []) (Done t.stop place q) b a r → Pushes s at place most b a r
-  unfolding words Emits
-  literal_pushes nz place most n q b a r en eq em =
+  pub literal_pushes : (kind_number t.kind ≡ 0 → ⊥) → (place n : ℕ) (most q : Rank) (b a : List ℕ) (r : Got)
+      → n ≡ min (number (part s t.start t.stop)) 2147483648 → level q ≡ max (level most) (cond (leb n 2147483647) 0 1)
+      → Emits 1 (0 ∷ n ∷ []) (record { at = t.stop; place = place; rank = q }) b a r → Pushes s at place (level most) b a r
+  unfolding words
+  literal_pushes nz place n most q b a r en eq em =
       let e : n ≡ min (number (text_at s at)) 2147483648 = en ∙ ap (λ (d : List ℕ). min (number d) 2147483648) (sym l.bytes) in
       record {
         reads =
-            reads_token pushes literal_rank place most b a r (text_at s at) (since_rank (since_emit (since_none place most b) (push n ∷ []) em.1) _ eq)
-            (ap (λ (m : ℕ). push m ∷ []) (sym e)) (limited (number (text_at s at)) n e ∙ omega arith) em.0;
-        within = token_within nz place q r em.0;
+            reads_token pushes literal_rank place (level most) b a r (text_at s at) em.at
+            (since_emits (push n ∷ []) (since_rank (since_none place (level most) b) _ eq) em)
+            (ap (λ (m : ℕ). push m ∷ []) (sym e)) (limited (number (text_at s at)) n e ∙ omega arith);
+        within = token_lies nz place r em.at em.place;
       }
 
-  pub name_loads : (kind_number t.kind ≡ 0 → ⊥) → (T : List ℕ) (place most line q : ℕ) (b a : List ℕ) (r : Got)
-      → Fetches T s at line Cell (Done t.stop place q) b a r → Ranked T (text_at s at) 0 most q → Loads T s at line place most b a r
-  unfolding Emits
-  name_loads nz T place most line q b a r h ra = record {
+  pub name_loads : (kind_number t.kind ≡ 0 → ⊥) → (T : List ℕ) (place line : ℕ) (most q : Rank) (b a : List ℕ) (r : Got)
+      → Fetches T s at line Cell (record { at = t.stop; place = place; rank = q }) b a r → Ranked T (text_at s at) 0 most q
+      → Loads T s at line place (level most) b a r
+  name_loads nz T place line most q b a r h ra = record {
     reads = λ e d.
         let v = variable_of T in
         let x = text_at s at in
-        let em = fetches_emits T s at line Cell (Done t.stop place q) b a r h e d in
+        let em = fetches_emits T s at line Cell (record { at = t.stop; place = place; rank = q }) b a r h e d in
         reads_token (λ y. reads_of e v line y Cell ∷ [])
-        (λ y. rank_of e v (refers y 0)) place most b a r x
-        (since_rank (since_emit (since_none place most b) (reads_of e v line x Cell ∷ []) em.1) _ (ra e d))
-        refl (omega arith) em.0;
-    within = token_within nz place q r h.emits.0;
+        (λ y. rank_of e v (refers y 0)) place (level most) b a r x em.at
+        (since_emits (reads_of e v line x Cell ∷ []) (since_rank (since_none place (level most) b) _ (ra e d)) em)
+        refl (omega arith);
+    within = token_lies nz place r h.emits.at h.emits.place;
   }

@@ -1,23 +1,24 @@
 -- What the functions below the readers answer: tokens passed over, signs, how a factor begins, and instructions emitted after what was read.
-use Rattle.std.specs.Prelude.{◌≡◌, Bool, true, false, cond, ◌&&◌, not, List, [], ◌∷◌, ℕ, zero, suc, ◌+◌, ◌*◌, ◌≤◌, min, max, leb, eqb, length, drop}
+use Rattle.std.specs.Prelude.{◌≡◌, Bool, true, cond, ◌&&◌, not, List, [], ◌∷◌, ℕ, zero, suc, ◌+◌, ◌*◌, ◌≤◌, min, max, leb, eqb, length, drop, Option, Some, None, MatchOption}
 use Rattle.std.proofs.lemmas.List.Edits.{sets}
 use Rattle.syntax.specs.declared.Function.{Function}
 use Rattle.syntax.specs.declared.Function.TheVariants.{Rdiv, Max}
 use Rattle.syntax.specs.Bytes.{letter, digit, same, sign}
 use Rattle.syntax.specs.Grammar.{number, Lead, bare, plus, minus}
 use Rattle.syntax.specs.Known.{Entry, rows, columns, find}
-use Rattle.syntax.specs.Conditions.{refers, digits, small}
+use Rattle.syntax.specs.Conditions.{refers, digits, rightly, small}
 use Rattle.syntax.specs.Reader.{done, is, kind, text, sees, says, is_digits, peek_in, skip_in}
 use Rattle.code.specs.Instr.{Instr, push, push_v, load, load_at, flatten, operation, argument}
 use Rattle.names.specs.Table.{variable_of, Tabled}
-use Rattle.parts.specs.Answer.{rank_of, Reads, Within}
+use Rattle.syntax.specs.declared.Rank.{Rank}
+use Rattle.syntax.specs.Ranks.{level}
+use Rattle.parts.specs.Answer.{rank_of, Reads, Lies}
 use Rattle.parts.specs.declared.Got.{Got}
-use Rattle.parts.specs.declared.Got.TheVariants.{Broken, Done}
 use Rattle.parts.specs.declared.Joint.{Joint}
 use Rattle.parts.specs.declared.Joint.TheVariants.{Neither, First, Second}
 use Rattle.parts.specs.declared.Joined.{Joined}
 use Rattle.parts.specs.declared.Beginning.{Beginning}
-use Rattle.parts.specs.declared.Beginning.TheVariants.{Nothing, Literal, Bracket, Call, Name, Element}
+use Rattle.parts.specs.declared.Beginning.TheVariants.{Literal, Bracket, Call, Name, Element}
 use Rattle.parts.specs.declared.Begun.{Begun}
 use Rattle.parts.specs.declared.Fetch.{Fetch}
 use Rattle.parts.specs.declared.Fetch.TheVariants.{Cell, Indexed, Place}
@@ -78,52 +79,51 @@ pub record Joins (a b : ℕ) (s : List ℕ) (at : ℕ) (r : Joined) : Type 0 whe
   pub joint : r.joint ≡ either (stands a (drop at s)) (stands b (drop at s))
   pub next : Passes (joined r.joint) s at r.next
 
--- how a factor begins
-abbrev pub begins : List ℕ → Beginning
+-- how a factor begins, where one does
+abbrev pub begins : List ℕ → Option Beginning
 begins u =
-    cond (is_digits peek_in skip_in u) Literal
-    (cond (sees peek_in skip_in "(" u) Bracket
-    (cond (says peek_in skip_in "rdiv" u) (cond (sees peek_in skip_in "(" (skip_in u)) (Call Rdiv) Nothing)
-    (cond (says peek_in skip_in "max" u) (cond (sees peek_in skip_in "(" (skip_in u)) (Call Max) Nothing)
-    (cond (eqb (kind (peek_in u)) 1) (cond (sees peek_in skip_in "(" (skip_in u)) Element Name) Nothing))))
+    cond (is_digits peek_in skip_in u) (Some Literal)
+    (cond (sees peek_in skip_in "(" u) (Some Bracket)
+    (cond (says peek_in skip_in "rdiv" u) (cond (sees peek_in skip_in "(" (skip_in u)) (Some (Call Rdiv)) None)
+    (cond (says peek_in skip_in "max" u) (cond (sees peek_in skip_in "(" (skip_in u)) (Some (Call Max)) None)
+    (cond (eqb (kind (peek_in u)) 1) (cond (sees peek_in skip_in "(" (skip_in u)) (Some Element) (Some Name)) None))))
 
 -- with how many tokens
 abbrev pub begun : Beginning → ℕ
-begun Nothing = 0
 begun Literal = 1
 begun Bracket = 1
 begun (Call f) = 2
 begun Name = 1
 begun Element = 2
 
--- a function at a place, with its bracket, which ends at `past`, or without
-abbrev pub called_at : Function → Bool → ℕ → ℕ → Begun
-called_at f b past at = cond b (record { beginning = Call f; next = past }) (record { beginning = Nothing; next = at })
+-- a function with its bracket, which ends at `past`, or without
+abbrev pub called_at : Function → Bool → ℕ → Option Begun
+called_at f b past = cond b (Some (record { beginning = Call f; next = past })) None
 
-pub record Begins (s : List ℕ) (at : ℕ) (r : Begun) : Type 0 where
-  pub beginning : r.beginning ≡ begins (drop at s)
-  pub next : Passes (begun r.beginning) s at r.next
+-- a factor begins so at a place
+pub record Opens (s : List ℕ) (at : ℕ) (b : Begun) : Type 0 where
+  pub beginning : begins (drop at s) ≡ Some b.beginning
+  pub next : Passes (begun b.beginning) s at b.next
 
--- the place after what was read lies in the line
-unfoldable pub Inside : List ℕ → Got → Type 0
-Inside s Broken = Unit {0}
-Inside s (Done n p d) = n ≤ length s
+abbrev pub Begins : List ℕ → ℕ → Option Begun → Type 0
+Begins s at r = MatchOption r (begins (drop at s) ≡ None) (Opens s at)
 
--- the sign c after what was read
-pub data Sealed (c : ℕ) (s : List ℕ) : Got → Got → Type 0 where
-  unread : Sealed c s Broken Broken
-  other : {n p d : ℕ} → stands c (drop n s) ≡ false → Sealed c s (Done n p d) Broken
-  closes : {n n' p d : ℕ} → stands c (drop n s) ≡ true → Passes 1 s n n' → Sealed c s (Done n p d) (Done n' p d)
+-- the sign c, after what g had read, is read by h too
+pub record Closes (c : ℕ) (s : List ℕ) (g h : Got) : Type 0 where
+  pub stood : stands c (drop g.at s) ≡ true
+  pub passed : Passes 1 s g.at h.at
+  pub place : h.place ≡ g.place
+  pub rank : h.rank ≡ g.rank
 
 -- ---- names
 
--- r is the rank of a name with k subscripts
-abbrev pub Ranks : List ℕ → List ℕ → ℕ → ℕ → Type 0
-Ranks T w k r = (t : List Entry) → Tabled T t → r ≡ rank_of t (variable_of T) (refers w k)
+-- whether a name may have k subscripts
+abbrev pub Fits : List ℕ → List ℕ → ℕ → Bool → Type 0
+Fits T w k r = (t : List Entry) → Tabled T t → r ≡ rightly t (variable_of T) (refers w k)
 
--- r is the highest rank with it
-abbrev pub Ranked : List ℕ → List ℕ → ℕ → ℕ → ℕ → Type 0
-Ranked T w k most r = (t : List Entry) → Tabled T t → r ≡ max most (rank_of t (variable_of T) (refers w k))
+-- r is the worst rank with it
+abbrev pub Ranked : List ℕ → List ℕ → ℕ → Rank → Rank → Type 0
+Ranked T w k most r = (t : List Entry) → Tabled T t → level r ≡ max (level most) (rank_of t (variable_of T) (refers w k))
 
 -- the instruction of a name: the read of its cell, that of an element, the place of a grid's two subscripts
 abbrev pub reads_of : List Entry → List ℕ → ℕ → List ℕ → Fetch → Instr
@@ -147,15 +147,12 @@ extents_argument m n = cond (leb m 4096 && leb n 4096) (m + 8192 * n) 0
 
 -- ---- instructions after what was read
 
--- there is room for k instructions after what was read
-unfoldable pub Room : ℕ → Got → List ℕ → Type 0
-Room k Broken code = Unit {0}
-Room k (Done n p d) code = 2 * (p + k) ≤ length code
-
 -- k instructions with these words after what was read
-unfoldable pub Emits : ℕ → List ℕ → Got → List ℕ → List ℕ → Got → Type 0
-Emits k ws Broken before after r = r ≡ Broken
-Emits k ws (Done n p d) before after r = (r ≡ Done n (p + k) d) × (after ≡ sets before (2 * p) ws)
+pub record Emits (k : ℕ) (ws : List ℕ) (g : Got) (before after : List ℕ) (r : Got) : Type 0 where
+  pub at : r.at ≡ g.at
+  pub place : r.place ≡ g.place + k
+  pub rank : r.rank ≡ g.rank
+  pub written : after ≡ sets before (2 * g.place) ws
 
 -- the instruction of the name at a place, after what was read
 pub record Fetches (T s : List ℕ) (at line : ℕ) (b : Fetch) (g : Got) (before after : List ℕ) (r : Got) : Type 0 where
@@ -174,12 +171,12 @@ literal_rank d = cond (small (digits d)) 0 1
 
 -- a literal at a place
 pub record Pushes (s : List ℕ) (at place most : ℕ) (before after : List ℕ) (r : Got) : Type 0 where
-  pub reads : Reads pushes literal_rank s (done (text_at s at) (skip_in (drop at s))) place most before after r
-  pub within : Within s at place (suc at) r
+  pub reads : Reads pushes literal_rank s (done (text_at s at) (skip_in (drop at s))) place most before after (Some r)
+  pub within : Lies s at place (suc at) r
 
 -- a name without a subscript at a place
 pub record Loads (T s : List ℕ) (at line place most : ℕ) (before after : List ℕ) (r : Got) : Type 0 where
   pub reads : (t : List Entry) → Tabled T t
       → Reads (λ x. reads_of t (variable_of T) line x Cell ∷ []) (λ x. rank_of t (variable_of T) (refers x 0)) s
-      (done (text_at s at) (skip_in (drop at s))) place most before after r
-  pub within : Within s at place (suc at) r
+      (done (text_at s at) (skip_in (drop at s))) place most before after (Some r)
+  pub within : Lies s at place (suc at) r

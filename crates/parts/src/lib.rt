@@ -1,31 +1,31 @@
 // The steps of the readers of expressions that call no reader: ranks, signs, the instructions that are emitted, and factors of one token.
 #![tactic(auto)]
 
-ghost use Rattle.std.specs.Prelude.{◌≡◌, [], ◌∷◌, cond, suc, ◌≤◌, ◌+◌, ◌*◌, max, leb, length, set};
-ghost use Rattle.syntax.specs.Bytes.{same};
+ghost use Rattle.std.specs.Prelude.{◌≡◌, [], ◌∷◌, cond, suc, ◌≤◌, ◌+◌, ◌*◌, max, leb, length, drop, set, false, MatchOption};
+ghost use Rattle.syntax.specs.Ranks.{level};
 ghost use Rattle.code.specs.Instr.{add, subtract, multiply, divide, operation as operation_of, words};
 ghost use Rattle.code.specs.Compile.{code_lead, calls};
-ghost use Rattle.lexer.specs.Lex.{part};
-ghost use Rattle.parts.specs.Parts.{kind_at, text_at, Sign, lead_by, chosen, Joins, called_at, Begins, Inside, Sealed, Ranks, Ranked, Worded, span_of, extents_argument, Room, Emits, Fetches, Pushes, Loads};
+ghost use Rattle.parts.specs.Parts.{kind_at, text_at, Sign, stands, lead_by, chosen, Joins, called_at, Begins, Closes, Fits, Ranked, Worded, span_of, extents_argument, Emits, Fetches, Pushes, Loads};
 ghost use Rattle.names.specs.Table.{name_words};
 
 use code::{
     ADD, DIVIDE, FLATTEN, LINE, LOAD, LOAD_AT, MAXIMUM, MULTIPLY, NEGATE, PUSH, PUSH_V, ROUND,
     SUBTRACT,
 };
-use lexer::{Kind, Tok, literal, reads, same_kind, token};
+use lexer::{Kind, literal, reads, token};
 use names::{Table, VARIABLE, find, is_named, subscripts_of};
-use syntax::Function;
+use syntax::{Function, Rank};
 
-// What a reader answers: the next place of the line and of the code, and the highest rank so far (0 in order, 1 over a limit, 2 a wrong name).
-#[derive(Clone, Copy)]
-pub enum Got {
-    Broken,
-    Done { at: usize, place: usize, rank: u32 },
+// Where a reader stopped: the next place of the line and of the code, and the worst rank so far.
+#[derive(Clone, Copy, Debug, PartialEq, Eq)]
+pub struct Got {
+    pub at: usize,
+    pub place: usize,
+    pub rank: Rank,
 }
 
-// Which of two signs stands at a place.
-#[derive(Clone, Copy)]
+// Which of two signs stands at a place. No Option of a sign: a lead is one of the three, and `next` of `Joined` goes with each, so it is no plainer.
+#[derive(Clone, Copy, Debug, PartialEq, Eq)]
 pub enum Joint {
     Neither,
     First,
@@ -33,16 +33,15 @@ pub enum Joint {
 }
 
 // A sign or none, and the place after it.
-#[derive(Clone, Copy)]
+#[derive(Clone, Copy, Debug, PartialEq, Eq)]
 pub struct Joined {
     pub joint: Joint,
     pub next: usize,
 }
 
-// How a factor begins: with a literal, a bracket, a function and a bracket, a name, a name and a bracket, or none of these.
-#[derive(Clone, Copy)]
+// How a factor begins: with a literal, a bracket, a function and a bracket, a name, or a name and a bracket.
+#[derive(Clone, Copy, Debug, PartialEq, Eq)]
 pub enum Beginning {
-    Nothing,
     Literal,
     Bracket,
     Call { function: Function },
@@ -51,14 +50,14 @@ pub enum Beginning {
 }
 
 // A beginning, and the place after it.
-#[derive(Clone, Copy)]
+#[derive(Clone, Copy, Debug, PartialEq, Eq)]
 pub struct Begun {
     pub beginning: Beginning,
     pub next: usize,
 }
 
 // What is emitted for a name: the read of its cell; that of an element, whose subscript is pending; the place of a grid's two subscripts, which are pending.
-#[derive(Clone, Copy)]
+#[derive(Clone, Copy, Debug, PartialEq, Eq)]
 pub enum Fetch {
     Cell,
     Indexed,
@@ -66,7 +65,7 @@ pub enum Fetch {
 }
 
 // The two words of an instruction.
-#[derive(Clone, Copy)]
+#[derive(Clone, Copy, Debug, PartialEq, Eq)]
 struct Words {
     operation: u32,
     argument: u32,
@@ -74,70 +73,56 @@ struct Words {
 
 // ---- ranks
 
-fn larger(a: u32, b: u32) -> u32
-    ensures { result ≡ max a b }
+// The worst rank, once as many brackets are open together.
+pub fn opened(rank: Rank, depth: usize) -> Rank
+    ensures { level result ≡ max (level rank) (cond (leb depth 8) 0 1) }
 {
-    if a < b { b } else { a }
-}
-
-// The highest rank, once as many brackets are open together.
-pub fn opened(rank: u32, depth: usize) -> u32
-    ensures { result ≡ max rank (cond (leb depth 8) 0 1) }
-{
-    if depth <= 8 { rank } else { larger(rank, 1) }
+    if depth <= 8 {
+        rank
+    } else {
+        rank.worse(Rank::OverLimit)
+    }
 }
 
 // The rank of a literal.
-fn literal_rank(n: u32) -> u32
-    ensures { result ≡ cond (leb n 2147483647) 0 1 }
+fn literal_rank(n: u32) -> Rank
+    ensures { level result ≡ cond (leb n 2147483647) 0 1 }
 {
-    if n <= 2147483647 { 0 } else { 1 }
+    if n <= 2147483647 {
+        Rank::InOrder
+    } else {
+        Rank::OverLimit
+    }
 }
 
-// The rank of a name with so many subscripts.
-fn name_rank(table: &Table, w: &[u8], subscripts: u32) -> u32
+// Whether a name may have so many subscripts: the loop's variable none, a declared one as many as it has extents.
+fn fits(table: &Table, w: &[u8], subscripts: u32) -> bool
     requires { length w.now ≤ name_words }
-    ensures { Ranks table.now w.now subscripts result }
+    ensures { Fits table.now w.now subscripts result }
 {
     if is_named(table, VARIABLE, w) {
-        return if subscripts == 0 { 0 } else { 2 };
+        return subscripts == 0;
     }
-    let n = find(table, w);
-    if !n.known {
-        return 2;
-    }
-    if subscripts == subscripts_of(n.rows, n.columns) {
-        0
-    } else {
-        2
+    match find(table, w) {
+        Some(n) => subscripts == subscripts_of(n.rows, n.columns),
+        None => false,
     }
 }
 
-// The highest rank, with that of the name at a place.
-pub fn named(s: &[u8], at: usize, rank: u32, table: &Table, subscripts: u32) -> u32
+// The worst rank, with that of the name at a place.
+pub fn named(s: &[u8], at: usize, rank: Rank, table: &Table, subscripts: u32) -> Rank
     requires { (at ≤ length s.now) × (kind_at s.now at ≡ 1) }
     ensures { Ranked table.now (text_at s.now at) subscripts rank result }
 {
     let t = token(s, at);
-    let a = t.start;
-    let e = t.stop;
-    larger(rank, name_rank(table, &s[a..e], subscripts))
+    if fits(table, &s[t.start..t.stop], subscripts) {
+        rank
+    } else {
+        Rank::WrongName
+    }
 }
 
 // ---- signs
-
-// Whether a token is this sign, of one byte.
-fn is_sign(s: &[u8], t: Tok, c: u8) -> bool
-    requires { (t.start ≤ t.stop) × (t.stop ≤ length s.now) }
-    ensures { result ≡ same (c ∷ []) (part s.now t.start t.stop) }
-{
-    let a = t.start;
-    let e = t.stop;
-    if e - a != 1 {
-        return false;
-    }
-    c == s[a]
-}
 
 // Which of two signs stands at a place.
 pub fn join(s: &[u8], at: usize, a: u8, b: u8) -> Joined
@@ -145,108 +130,90 @@ pub fn join(s: &[u8], at: usize, a: u8, b: u8) -> Joined
     ensures { Joins a b s.now at result }
 {
     let t = token(s, at);
-    let stop = t.stop;
-    if is_sign(s, t, a) {
-        return Joined {
+    if reads(s, t, &[a]) {
+        Joined {
             joint: Joint::First,
-            next: stop,
-        };
-    }
-    if is_sign(s, t, b) {
-        return Joined {
+            next: t.stop,
+        }
+    } else if reads(s, t, &[b]) {
+        Joined {
             joint: Joint::Second,
-            next: stop,
-        };
-    }
-    Joined {
-        joint: Joint::Neither,
-        next: at,
+            next: t.stop,
+        }
+    } else {
+        Joined {
+            joint: Joint::Neither,
+            next: at,
+        }
     }
 }
 
-// A function with its bracket, or without.
-fn called(function: Function, bracketed: bool, past: usize, at: usize) -> Begun
-    ensures { result ≡ called_at function bracketed past at }
+// A function with its bracket; without, it begins no factor.
+fn called(function: Function, bracketed: bool, past: usize) -> Option<Begun>
+    ensures { result ≡ called_at function bracketed past }
 {
     if bracketed {
-        return Begun {
+        Some(Begun {
             beginning: Beginning::Call { function },
             next: past,
-        };
-    }
-    Begun {
-        beginning: Beginning::Nothing,
-        next: at,
+        })
+    } else {
+        None
     }
 }
 
-// How the factor at a place begins.
-pub fn begin(s: &[u8], at: usize) -> Begun
+// How the factor at a place begins, where one does.
+pub fn begin(s: &[u8], at: usize) -> Option<Begun>
     requires { at ≤ length s.now }
     ensures { Begins s.now at result }
 {
     let t = token(s, at);
-    let k = t.kind;
-    let stop = t.stop;
-    if same_kind(k, Kind::Digits) {
-        return Begun {
+    if t.kind == Kind::Digits {
+        return Some(Begun {
             beginning: Beginning::Literal,
-            next: stop,
-        };
+            next: t.stop,
+        });
     }
-    if is_sign(s, t, b'(') {
-        return Begun {
+    if reads(s, t, b"(") {
+        return Some(Begun {
             beginning: Beginning::Bracket,
-            next: stop,
-        };
+            next: t.stop,
+        });
     }
-    let u = token(s, stop);
-    let past = u.stop;
-    let open = is_sign(s, u, b'(');
+    let u = token(s, t.stop);
+    let open = reads(s, u, b"(");
     if reads(s, t, b"rdiv") {
-        return called(Function::Rdiv, open, past, at);
+        return called(Function::Rdiv, open, u.stop);
     }
     if reads(s, t, b"max") {
-        return called(Function::Max, open, past, at);
+        return called(Function::Max, open, u.stop);
     }
-    if same_kind(k, Kind::Name) {
-        if open {
-            return Begun {
-                beginning: Beginning::Element,
-                next: past,
-            };
-        }
-        return Begun {
+    if t.kind != Kind::Name {
+        return None;
+    }
+    if open {
+        Some(Begun {
+            beginning: Beginning::Element,
+            next: u.stop,
+        })
+    } else {
+        Some(Begun {
             beginning: Beginning::Name,
-            next: stop,
-        };
-    }
-    Begun {
-        beginning: Beginning::Nothing,
-        next: at,
+            next: t.stop,
+        })
     }
 }
 
 // Reads a sign after what was read.
-pub fn expect(s: &[u8], g: Got, c: u8) -> Got
-    requires { Inside s.now g × Sign c }
-    ensures { Sealed c s.now g result }
+pub fn expect(s: &[u8], g: Got, c: u8) -> Option<Got>
+    requires { (g.at ≤ length s.now) × Sign c }
+    ensures { MatchOption result (stands c (drop g.at s.now) ≡ false) (Closes c s.now g) }
 {
-    match g {
-        Got::Done { at, place, rank } => {
-            let t = token(s, at);
-            let stop = t.stop;
-            if is_sign(s, t, c) {
-                Got::Done {
-                    at: stop,
-                    place,
-                    rank,
-                }
-            } else {
-                Got::Broken
-            }
-        }
-        Got::Broken => Got::Broken,
+    let t = token(s, g.at);
+    if reads(s, t, &[c]) {
+        Some(Got { at: t.stop, ..g })
+    } else {
+        None
     }
 }
 
@@ -264,30 +231,23 @@ pub fn emit(code: &mut [u32], place: usize, operation: u32, argument: u32)
 
 // Writes an instruction after what was read.
 pub fn then_emit(g: Got, code: &mut [u32], operation: u32, argument: u32) -> Got
-    requires { Room 1 g code.old }
+    requires { 2 * (g.place + 1) ≤ length code.old }
     ensures { Emits 1 (operation ∷ argument ∷ []) g code.old code.new result }
 {
-    match g {
-        Got::Done { at, place, rank } => {
-            emit(code, place, operation, argument);
-            Got::Done {
-                at,
-                place: place + 1,
-                rank,
-            }
-        }
-        Got::Broken => Got::Broken,
+    emit(code, g.place, operation, argument);
+    Got {
+        place: g.place + 1,
+        ..g
     }
 }
 
 // Writes the instruction of a leading minus, the second of the two signs, after what was read.
 pub fn then_negate(g: Got, code: &mut [u32], lead: Joint) -> Got
-    requires { Room (length (code_lead (lead_by lead))) g code.old }
+    requires { 2 * (g.place + length (code_lead (lead_by lead))) ≤ length code.old }
     ensures { Emits (length (code_lead (lead_by lead))) (words (code_lead (lead_by lead))) g code.old code.new result }
 {
     match lead {
-        Joint::Neither => g,
-        Joint::First => g,
+        Joint::Neither | Joint::First => g,
         Joint::Second => then_emit(g, code, NEGATE, 0),
     }
 }
@@ -298,8 +258,7 @@ pub fn term_operation(sign: Joint) -> u32
 {
     match sign {
         Joint::First => ADD,
-        Joint::Second => SUBTRACT,
-        Joint::Neither => SUBTRACT,
+        Joint::Second | Joint::Neither => SUBTRACT,
     }
 }
 
@@ -308,11 +267,9 @@ pub fn factor_operation(sign: Joint, line: u32) -> u32
     requires { line ≤ 2049 }
     ensures { result ≡ operation_of (chosen sign multiply (divide line)) }
 {
-    let over = DIVIDE + LINE * line;
     match sign {
         Joint::First => MULTIPLY,
-        Joint::Second => over,
-        Joint::Neither => over,
+        Joint::Second | Joint::Neither => DIVIDE + LINE * line,
     }
 }
 
@@ -331,26 +288,22 @@ pub fn call_operation(function: Function, line: u32) -> u32
 pub fn span(first: u32, size: u32) -> u32
     ensures { result ≡ span_of first size }
 {
-    if code::ELEMENT < first {
-        return 0;
+    if first <= code::ELEMENT && size <= code::ELEMENT {
+        first + code::ELEMENT * size
+    } else {
+        0
     }
-    if code::ELEMENT < size {
-        return 0;
-    }
-    first + code::ELEMENT * size
 }
 
 // Two extents in one argument. A table of names within the limits has no others.
 fn extents(rows: u32, columns: u32) -> u32
     ensures { result ≡ extents_argument rows columns }
 {
-    if 4096 < rows {
-        return 0;
+    if rows <= 4096 && columns <= 4096 {
+        rows + code::EXTENT * columns
+    } else {
+        0
     }
-    if 4096 < columns {
-        return 0;
-    }
-    rows + code::EXTENT * columns
 }
 
 // The instruction of a name.
@@ -359,32 +312,23 @@ fn read_of(table: &Table, w: &[u8], line: u32, fetch: Fetch) -> Words
     ensures { Worded table.now line w.now fetch result }
 {
     let n = find(table, w);
-    let first = n.first;
-    let size = n.size;
     match fetch {
-        Fetch::Indexed => {
-            return Words {
-                operation: LOAD_AT + LINE * line,
-                argument: span(first, size),
-            };
-        }
-        Fetch::Place => {
-            return Words {
-                operation: FLATTEN + LINE * line,
-                argument: extents(n.rows, n.columns),
-            };
-        }
-        Fetch::Cell => {}
-    }
-    if is_named(table, VARIABLE, w) {
-        return Words {
+        Fetch::Indexed => Words {
+            operation: LOAD_AT + LINE * line,
+            argument: n.map_or(0, |n| span(n.first, n.size)),
+        },
+        Fetch::Place => Words {
+            operation: FLATTEN + LINE * line,
+            argument: n.map_or(0, |n| extents(n.rows, n.columns)),
+        },
+        Fetch::Cell if is_named(table, VARIABLE, w) => Words {
             operation: PUSH_V,
             argument: 0,
-        };
-    }
-    Words {
-        operation: LOAD,
-        argument: first,
+        },
+        Fetch::Cell => Words {
+            operation: LOAD,
+            argument: n.map_or(0, |n| n.first),
+        },
     }
 }
 
@@ -398,68 +342,41 @@ pub fn then_read(
     g: Got,
     fetch: Fetch,
 ) -> Got
-    requires { (at ≤ length s.now) × (kind_at s.now at ≡ 1) × (line ≤ 2049) × Room 1 g code.old }
+    requires { (at ≤ length s.now) × (kind_at s.now at ≡ 1) × (line ≤ 2049) × (2 * (g.place + 1) ≤ length code.old) }
     ensures { Fetches table.now s.now at line fetch g code.old code.new result }
 {
     let t = token(s, at);
-    let a = t.start;
-    let e = t.stop;
-    let i = read_of(table, &s[a..e], line, fetch);
-    let operation = i.operation;
-    let argument = i.argument;
-    then_emit(g, code, operation, argument)
+    let i = read_of(table, &s[t.start..t.stop], line, fetch);
+    then_emit(g, code, i.operation, i.argument)
 }
 
 // ---- factors of one token
 
 // A literal.
-pub fn constant(s: &[u8], at: usize, rank: u32, code: &mut [u32], place: usize) -> Got
-    requires { (at ≤ length s.now) × (kind_at s.now at ≡ 3) × (2 * (place + 1) ≤ length code.old) }
-    ensures { Pushes s.now at place rank code.old code.new result }
+pub fn constant(s: &[u8], from: Got, code: &mut [u32]) -> Got
+    requires { (from.at ≤ length s.now) × (kind_at s.now from.at ≡ 3) × (2 * (from.place + 1) ≤ length code.old) }
+    ensures { Pushes s.now from.at from.place (level from.rank) code.old code.new result }
 {
-    let t = token(s, at);
-    let stop = t.stop;
+    let t = token(s, from.at);
     let n = literal(s, t);
-    let worse = larger(rank, literal_rank(n));
-    then_emit(
-        Got::Done {
-            at: stop,
-            place,
-            rank: worse,
-        },
-        code,
-        PUSH,
-        n,
-    )
+    let g = Got {
+        at: t.stop,
+        rank: from.rank.worse(literal_rank(n)),
+        ..from
+    };
+    then_emit(g, code, PUSH, n)
 }
 
 // A name without a subscript.
-pub fn variable(
-    s: &[u8],
-    at: usize,
-    rank: u32,
-    line: u32,
-    table: &Table,
-    code: &mut [u32],
-    place: usize,
-) -> Got
-    requires { (at ≤ length s.now) × (kind_at s.now at ≡ 1) × (line ≤ 2049) × (2 * (place + 1) ≤ length code.old) }
-    ensures { Loads table.now s.now at line place rank code.old code.new result }
+pub fn variable(s: &[u8], from: Got, line: u32, table: &Table, code: &mut [u32]) -> Got
+    requires { (from.at ≤ length s.now) × (kind_at s.now from.at ≡ 1) × (line ≤ 2049) × (2 * (from.place + 1) ≤ length code.old) }
+    ensures { Loads table.now s.now from.at line from.place (level from.rank) code.old code.new result }
 {
-    let t = token(s, at);
-    let stop = t.stop;
-    let worse = named(s, at, rank, table, 0);
-    then_read(
-        s,
-        at,
-        line,
-        table,
-        code,
-        Got::Done {
-            at: stop,
-            place,
-            rank: worse,
-        },
-        Fetch::Cell,
-    )
+    let t = token(s, from.at);
+    let g = Got {
+        at: t.stop,
+        rank: named(s, from.at, from.rank, table, 0),
+        ..from
+    };
+    then_read(s, from.at, line, table, code, g, Fetch::Cell)
 }

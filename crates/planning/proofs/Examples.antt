@@ -23,9 +23,10 @@ use Rattle.syntax.specs.Reader.{read_expr, read_terms, read_term, read_factors, 
 use Rattle.syntax.specs.Text.{judged, judge_line, judge, read}
 use Rattle.syntax.specs.Meaning.{no_zeros, alike, summand, multiplicand, alone, rival, is_update, remainder, located, divides, called, eval, eval_terms, eval_term, eval_factors, eval_factor, place, assigned, exec, class_of, loop_of}
 use Rattle.syntax.proofs.Quoted.{text}
-use Rattle.answers.specs.declared.Planned.{Planned}
-use Rattle.answers.specs.declared.Planned.TheVariants.{Staged, Faulted, Refused}
-use Rattle.answers.specs.Answers.{plan_of, list_planned, plan_workspace}
+use Rattle.std.specs.Prelude.{Result, Ok, Err}
+use Rattle.answers.specs.declared.Failure.{Failure}
+use Rattle.answers.specs.declared.Failure.TheVariants.{Faulted}
+use Rattle.answers.specs.Answers.{fault_at, fail, plan_of, list_planned, plan_workspace}
 use Rattle.int32.specs.Integers as integers
 use Rattle.syntax.specs.Bytes as bytes'
 
@@ -36,7 +37,7 @@ loop names clauses bounds body =
 
 -- the answer, the list, and the first word of the workspace
 pub record Shown : Type 0 where
-  pub answer : Planned
+  pub answer : Result ℕ Failure
   pub list : List ℕ
   pub word : ℕ
 
@@ -47,7 +48,7 @@ pub record Row : Type 0 where
 abbrev row : Shown → Shown → Row
 row a b = record { got = a; want = b }
 
-abbrev shown : Planned → List ℕ → ℕ → Shown
+abbrev shown : Result ℕ Failure → List ℕ → ℕ → Shown
 shown a l w = record { answer = a; list = l; word = w }
 
 -- over the cells m, with w words of 7 and a list of n nines
@@ -61,7 +62,7 @@ planned t m n = lent t m 4560 n
 
 -- what is answered when the stages are these, which are n
 abbrev stages_are : ℕ → List ℕ → Shown
-stages_are n l = shown (Staged n) l 0
+stages_are n l = shown (Ok n) l 0
 
 -- the same iterations over two cells x and y, z and t
 abbrev by_cases : List String → List ℕ
@@ -109,15 +110,15 @@ rows =
     -- no iterations
     ∷ row (planned (loop "integer a" "" "do i = 1, 0" ("a = i" ∷ [])) (pos 5 ∷ []) 0) (stages_are 0 [])
     -- "Faults are answered as in Run, and workspace ends as there"; "a refusal leaves the list as found"
-    ∷ row (planned failing zeros 4) (shown (Faulted 10 4 (pos 3)) (9 ∷ 9 ∷ 9 ∷ 9 ∷ []) 0)
-    ∷ row (planned (loop "integer a(4)" "" "do i = 4, 5" ("a(i) = i" ∷ [])) zeros 2) (shown (Faulted 9 4 (pos 5)) (9 ∷ 9 ∷ []) 0)
+    ∷ row (planned failing zeros 4) (shown (Err (Faulted (fault_at 10 4 (pos 3)))) (9 ∷ 9 ∷ 9 ∷ 9 ∷ []) 0)
+    ∷ row (planned (loop "integer a(4)" "" "do i = 4, 5" ("a(i) = i" ∷ [])) zeros 2) (shown (Err (Faulted (fault_at 9 4 (pos 5)))) (9 ∷ 9 ∷ []) 0)
     -- "11, list length not n, after 6, workspace as found"
-    ∷ row (planned rising zeros 2) (shown (Refused 11 0) (9 ∷ 9 ∷ []) 7)
-    ∷ row (planned rising zeros 4) (shown (Refused 11 0) (9 ∷ 9 ∷ 9 ∷ 9 ∷ []) 7)
-    ∷ row (planned failing zeros 0) (shown (Refused 11 0) [] 7)
-    ∷ row (lent rising zeros 4559 2) (shown (Refused 6 0) (9 ∷ 9 ∷ []) 7)
-    ∷ row (planned rising (pos 0 ∷ []) 2) (shown (Refused 5 0) (9 ∷ 9 ∷ []) 7)
-    ∷ row (planned [] zeros 2) (shown (Refused 2 1) (9 ∷ 9 ∷ []) 7)
+    ∷ row (planned rising zeros 2) (shown (fail 11 0) (9 ∷ 9 ∷ []) 7)
+    ∷ row (planned rising zeros 4) (shown (fail 11 0) (9 ∷ 9 ∷ 9 ∷ 9 ∷ []) 7)
+    ∷ row (planned failing zeros 0) (shown (fail 11 0) [] 7)
+    ∷ row (lent rising zeros 4559 2) (shown (fail 6 0) (9 ∷ 9 ∷ []) 7)
+    ∷ row (planned rising (pos 0 ∷ []) 2) (shown (fail 5 0) (9 ∷ 9 ∷ []) 7)
+    ∷ row (planned [] zeros 2) (shown (fail 2 1) (9 ∷ 9 ∷ []) 7)
     ∷ []
 
 -- every row gives what the document says

@@ -15,8 +15,8 @@ use Rattle.reorder.proofs.Theorem as any_loop
 use Rattle.syntax.specs.Known.{State}
 use Rattle.syntax.specs.Text.{Verdict, good, read}
 use Rattle.syntax.specs.Meaning.{loop_of}
-use Rattle.answers.specs.declared.Planned.TheVariants.{Refused, Staged as Answered}
-use Rattle.answers.specs.Answers.{plan_number, taken, staged, plan_of}
+use Rattle.std.specs.Prelude.{Ok}
+use Rattle.answers.specs.Answers.{fail, plan_number, taken, staged, plan_of}
 use Rattle.planning.specs.Listed.{stage_of}
 use Rattle.planning.proofs.Listing.{staged_same, stage_is}
 
@@ -27,11 +27,11 @@ module _ (text : List ℕ) (s : State) (e : read text ≡ good s) (m : List ℤ)
   l = loop_of s m
 
   -- Plan answers how many there are
-  pub answers_stages : plan_of (read text) m w (length q) ≡ Answered (stage_count (serial l).log l.iterations)
+  pub answers_stages : plan_of (read text) m w (length q) ≡ Ok (stage_count (serial l).log l.iterations)
   unfolding plan_of
   answers_stages =
       ap (λ (v : Verdict). plan_of v m w (length q)) e
-      ∙ ap (λ (n : ℕ). taken n (staged l s.from (serial l).outcome) (Refused n 0)) z ∙ ap (staged l s.from) f
+      ∙ ap (λ (n : ℕ). taken n (staged l s.from (serial l).outcome) (fail n 0)) z ∙ ap (staged l s.from) f
 
   -- "Running the stages in turn, the iterations of a stage in any order, must give the serial cells": every such order ends without a fault, in the serial
   -- cells, each iteration with the accesses that it has in the serial run.

@@ -11,9 +11,9 @@ ghost use Rattle.serial.specs.Serving.{CanSerial};
 ghost use Rattle.sweeping.specs.Sweep.{Zeros, CanSweep, Sweeps};
 ghost use Rattle.planning.specs.Plan.{Ends, CanPlan, Plans};
 
-use answers::Planned;
-use fitting::{copy_front, unfit};
+use answers::{Failure, Fault, Refusal};
 use preparing::prepare;
+use rules::Class;
 use stepping::Point;
 use trial::Setting;
 
@@ -21,7 +21,7 @@ use trial::Setting;
 fn run_copied(
     code: &[u32],
     setting: Setting,
-    classes: &[u32],
+    classes: &[Class],
     cells: &[i32],
     own: &mut [i32],
     w: &mut [u32],
@@ -30,9 +30,9 @@ fn run_copied(
     ensures ends { Ends code.now setting cells.now classes.now (length w.old) result }
     ensures w_after { w.new ≡ replicate (length w.old) 0 }
 {
-    let n = cells.len();
-    copy_front(own, cells);
-    let t = serial::run(code, setting, classes, &mut own[0..n], w);
+    let own = &mut own[..cells.len()];
+    own.copy_from_slice(cells);
+    let t = serial::run(code, setting, classes, own, w);
     tables::clear(w);
     t
 }
@@ -41,7 +41,7 @@ fn run_copied(
 fn sweep_copied(
     code: &[u32],
     setting: Setting,
-    classes: &[u32],
+    classes: &[Class],
     cells: &[i32],
     own: &mut [i32],
     w: &mut [u32],
@@ -52,9 +52,9 @@ fn sweep_copied(
     ensures sweeps { Sweeps code.now setting cells.now classes.now (length w.old) list.new result }
     ensures w_after { w.new ≡ replicate (length w.old) 0 }
 {
-    let n = cells.len();
-    copy_front(own, cells);
-    let stages = sweeping::sweep(code, setting, classes, &mut own[0..n], w, rows, list);
+    let own = &mut own[..cells.len()];
+    own.copy_from_slice(cells);
+    let stages = sweeping::sweep(code, setting, classes, own, w, rows, list);
     tables::clear(w);
     stages
 }
@@ -63,71 +63,60 @@ fn sweep_copied(
 fn stages_of(
     code: &[u32],
     setting: Setting,
-    classes: &[u32],
+    classes: &[Class],
     cells: &[i32],
     own: &mut [i32],
     w: &mut [u32],
     rows: &mut [u32],
     list: &mut [u16],
-) -> Planned
+) -> Result<u32, Failure>
     requires { CanPlan code.now setting cells.now classes.now (length w.old) (length list.old) × (length cells.now ≤ length own.old)
         × Zeros cells.now rows.old }
     ensures plans { Plans code.now setting cells.now classes.now (length w.old) list.old result list.new }
     ensures w_after { w.new ≡ replicate (length w.old) 0 }
 {
     let t = run_copied(code, setting, classes, cells, own, w);
-    if t.fault != 0 {
-        let i = t.iteration;
-        return Planned::Faulted {
-            number: t.fault,
-            line: t.line,
-            v: stepping::value_at(setting.from, i),
-        };
+    match t.fault {
+        Some(fault) => Err(Failure::Faulted(Fault {
+            number: fault.number,
+            line: fault.line,
+            v: stepping::value_at(setting.from, t.iteration),
+        })),
+        None => Ok(sweep_copied(code, setting, classes, cells, own, w, rows, list)),
     }
-    let stages = sweep_copied(code, setting, classes, cells, own, w, rows, list);
-    Planned::Staged { stages }
 }
 
 // The stage of each iteration, and how many stages there are: running them in turn, the iterations of a stage in any order, gives the cells of the serial run, and
 // no plan has fewer (`stages_in_turn` and `fewest_stages`, proofs/Theorem.antt).
-pub fn plan(text: &[u8], cells: &[i32], workspace: &mut [u32], list: &mut [u16]) -> Planned
+pub fn plan(
+    text: &[u8],
+    cells: &[i32],
+    workspace: &mut [u32],
+    list: &mut [u16],
+) -> Result<u32, Failure>
     ensures value { result ≡ plan_of (read_text text.now) cells.now (length workspace.old) (length list.old) }
     ensures list_after { list.new ≡ list_planned (read_text text.now) cells.now (length workspace.old) list.old }
     ensures workspace_after { workspace.new
         ≡ plan_workspace (read_text text.now) cells.now workspace.old (length list.old) }
 {
     let mut code = [0; code::WORDS];
-    let mut classes = [0; 4096];
-    let r = prepare(text, &mut code, &mut classes);
-    if r.number != 0 {
-        return Planned::Refused {
-            number: r.number,
-            line: r.line,
-        };
-    }
-    let setting = r.setting;
-    let number = unfit(
-        r.cells,
-        setting.processors,
+    let mut classes = [Class::Shared; 4096];
+    let r = prepare(
+        text,
         cells.len(),
         workspace.len(),
         b"",
-    );
-    if number != 0 {
-        return Planned::Refused { number, line: 0 };
+        &mut code,
+        &mut classes,
+    )?;
+    if list.len() != r.setting.iterations as usize {
+        return Err(Failure::Refused(Refusal::of_lent(11)));
     }
-    if list.len() != setting.iterations as usize {
-        return Planned::Refused {
-            number: 11,
-            line: 0,
-        };
-    }
-    let mut own: [i32; 4096] = [0; 4096];
+    let mut own = [0; 4096];
     let mut rows = [0; staging::WORDS];
-    let end = r.end;
     stages_of(
-        &code[0..end],
-        setting,
+        &code[..r.end],
+        r.setting,
         &classes,
         cells,
         &mut own,

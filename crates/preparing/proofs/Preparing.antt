@@ -1,65 +1,75 @@
 -- What is made ready for a run.
-use mathlib.Core.Path.{◌≡◌, sym, ◌∙◌, ap, subst}
+use mathlib.Core.Path.{◌≡◌, refl, sym, ◌∙◌, ap, subst}
 use mathlib.Core.List.{List}
-use Prim.Native.Nat.{ℕ, ◌*◌, ◌≤◌}
+use Prim.Native.Nat.{ℕ, zero, suc, ◌*◌, ◌≤◌, ◌<◌}
 use native.Mathlib.Omega.{arith}
 use borrow.Author.Tests.{leb-true}
 use lib.ListN.{length, take}
 use lib.IntN.{ℤ}
+use Rattle.std.specs.Prelude.{Result, Ok, Err}
+use Rattle.rules.specs.declared.Class.{Class}
 use Rattle.syntax.specs.Known.{State}
-use Rattle.syntax.specs.Text.{Verdict, read}
+use Rattle.syntax.specs.Text.{Verdict, refused, good, read}
 use Rattle.syntax.specs.Sane.{Sane}
 use Rattle.syntax.proofs.Sane.{accepted_sane, accepted_finished}
-use Rattle.reader.specs.declared.Reading.{Reading}
-use Rattle.reader.specs.Judged.{Reads}
+use Rattle.lines.specs.declared.Progress.{Progress}
 use Rattle.code.proofs.CodeLength.{text_length}
 use Rattle.setup.specs.Classes.{Classifies}
+use Rattle.fitting.proofs.Fits.{fits_done, fits_not}
+use Rattle.answers.specs.declared.Refusal.{Refusal}
+use Rattle.answers.specs.Answers.{completed, fit_number, run_number}
 use Rattle.preparing.specs.declared.Ready.{Ready}
-use Rattle.preparing.specs.Prepared.{Prepared}
-use Rattle.preparing.proofs.Verdicts.{Fine, is_bad, is_fine}
+use Rattle.preparing.proofs.Verdicts.{flaw_some, refusal_is}
+use Rattle.preparing.specs.Prepared.{Accepts, Refuses, Prepares, Readies, RefusesRun}
 
-module _ (text : List ℕ) (d : Reading) (T : List ℕ) (I : List ℤ) (K : List ℕ) (h : Reads (read text) d T I K) where
-  pub prepared_bad : (d.progress.number ≡ 0 → ⊥) → (r : Ready) (C : List ℕ) → r.number ≡ d.progress.number → r.line ≡ d.line → Prepared (read text) r K C
-  unfolding Prepared
-  prepared_bad nz r C en el = subst (λ (v : Verdict). Prepared v r K C) (sym (is_bad text d T I K h nz).verdict) (en, el, omega (arith, nz))
+-- a text that is refused
+pub run_refused : (v : Verdict) (m w : ℕ) (ps : List ℕ) (e : Refusal) → Refuses v e → RefusesRun v m w ps e
+run_refused v m w ps e r = subst (λ (u : Verdict). RefusesRun u m w ps e) (sym r.verdict) (refusal_is r, flaw_some r.flaw)
 
-  module _ (z : d.progress.number ≡ 0) where
-    abbrev f : Fine text d T I K h
-    f = is_fine text d T I K h z
+module _ (text : List ℕ) (p : Progress) (T : List ℕ) (I : List ℤ) (K : List ℕ) (a : Accepts (read text) p T I K) where
+  abbrev s : State
+  s = a.state
 
-    abbrev s : State
-    s = f.state
+  sane : Sane s
+  sane = accepted_sane text s a.verdict
 
-    sane : Sane s
-    sane = accepted_sane text s f.verdict
+  late : 6 ≤ s.stage
+  late = leb-true 6 s.stage (accepted_finished text s a.verdict)
 
-    late : 6 ≤ s.stage
-    late = leb-true 6 s.stage (accepted_finished text s f.verdict)
+  pub few_cells : p.cells ≤ 4096
+  few_cells = omega (arith, a.represents.cells_so_far, sane.table.few_cells)
 
-    pub few_cells : d.progress.cells ≤ 4096
-    few_cells = omega (arith, f.represents.cells_so_far, sane.table.few_cells)
+  pub few_processors : p.processors ≤ 8
+  few_processors = omega (arith, a.represents.processors, sane.few_processors (omega (arith, late)))
 
-    pub few_iterations : d.progress.count ≤ 65535
-    few_iterations = f.represents.few
+  pub few_places : p.place ≤ 2048
+  few_places = omega (arith, a.represents.place, text_length text s a.verdict)
 
-    pub few_places : d.progress.place ≤ 2048
-    few_places = omega (arith, f.represents.place, text_length text s f.verdict)
+  -- the number by what the reader found, and by the text
+  number_as : (m w : ℕ) (ps : List ℕ) → fit_number p.cells p.processors m w ps ≡ run_number s m w ps
+  number_as m w ps = λ i. fit_number (a.represents.cells_so_far i) (a.represents.processors i) m w ps
 
-    pub prepared_fine : (r : Ready) (C₀ C : List ℕ) → length C₀ ≡ 4096 → Classifies T d.progress.cells C₀ C → r.number ≡ 0
-        → r.cells ≡ d.progress.cells → r.setting.processors ≡ d.progress.processors
-        → r.setting.grouping ≡ d.progress.grouping
-        → r.setting.iterations ≡ d.progress.count → r.setting.from ≡ d.progress.from → r.end ≡ 2 * d.progress.place → Prepared (read text) r K C
-    unfolding Prepared
-    prepared_fine r C₀ C long cl en ec ep eg ei ef ee = subst (λ (v : Verdict). Prepared v r K C) (sym f.verdict) (record {
-      number = en;
-      cells_are = ec ∙ f.represents.cells_so_far;
-      processors = ep ∙ f.represents.processors;
-      grouping = eg ∙ f.represents.grouping;
-      iterations = ei ∙ f.represents.count;
-      from = ef ∙ f.represents.from;
+  pub run_unfit : (m w : ℕ) (ps : List ℕ) (e : Refusal) → Err e ≡ completed (fit_number p.cells p.processors m w ps) → RefusesRun (read text) m w ps e
+  run_unfit m w ps e h =
+      let q = fits_not (run_number s m w ps) e (h ∙ ap completed (number_as m w ps)) in
+      subst (λ (u : Verdict). RefusesRun u m w ps e) (sym a.verdict) q
+
+  pub readies : (m w : ℕ) (ps : List ℕ) → Ok tt ≡ completed (fit_number p.cells p.processors m w ps) → (r : Ready) (C₀ C : List Class) → length C₀ ≡ 4096
+      → Classifies T p.cells C₀ C → r.setting.processors ≡ p.processors → r.setting.grouping ≡ p.grouping
+      → r.setting.iterations ≡ p.count → r.setting.from ≡ p.from → r.end ≡ 2 * p.place → Readies (read text) m w ps r K C
+  readies m w ps fit r C₀ C long cl ep eg ei ef ee = record {
+    state = s;
+    verdict = a.verdict;
+    fits = fits_done (run_number s m w ps) (fit ∙ ap completed (number_as m w ps));
+    prepares = record {
+      processors = ep ∙ a.represents.processors;
+      grouping = eg ∙ a.represents.grouping;
+      iterations = ei ∙ a.represents.count;
+      from = ef ∙ a.represents.from;
       short = omega (arith, ee, few_places);
-      code = ap (λ (n : ℕ). take n K) ee ∙ f.represents.code;
+      code = ap (λ (n : ℕ). take n K) ee ∙ a.represents.code;
       few_cells = omega (arith, cl.size, long, sane.table.few_cells);
       few_processors = sane.few_processors (omega (arith, late));
-      classes = λ c b. cl.numbers s.table f.represents.table c (omega (arith, b, f.represents.cells_so_far));
-    })
+      classes = λ c b. cl.classes s.table a.represents.table c (omega (arith, b, a.represents.cells_so_far));
+    };
+  }

@@ -1,39 +1,48 @@
 -- What the reader found, by the verdict on the text.
-use mathlib.Core.Path.{◌≡◌, refl, sym, ◌∙◌}
+use mathlib.Core.Path.{◌≡◌, refl, sym, ◌∙◌, ap}
 use mathlib.Core.List.{List}
-use Prim.Native.Nat.{ℕ}
+use Prim.Native.Nat.{ℕ, ◌<◌}
 use native.Mathlib.Omega.{arith}
 use lib.IntN.{ℤ}
-use Rattle.syntax.specs.Known.{State}
+use Rattle.std.specs.Prelude.{Ok, Err}
+use Rattle.syntax.specs.declared.Flaw.{Flaw}
+use Rattle.syntax.specs.declared.Flaw.TheVariants.{TooLong, BrokenForm, WrongName, OverLimit}
+use Rattle.syntax.specs.Flaws.{flaw_number}
 use Rattle.syntax.specs.Text.{Verdict, refused, good, read}
-use Rattle.lines.specs.Progress.{held, Represents}
-use Rattle.reader.specs.declared.Reading.{Reading}
+use Rattle.lines.specs.declared.Progress.{Progress}
+use Rattle.reader.specs.declared.BadLine.{BadLine}
 use Rattle.reader.specs.Judged.{Reads}
+use Rattle.answers.specs.declared.Refusal.{Refusal}
+use Rattle.answers.specs.Answers.{refusal_at}
+use Rattle.preparing.specs.Prepared.{Accepts, Refuses}
 
-module _ (text : List ℕ) (r : Reading) (T : List ℕ) (I : List ℤ) (C : List ℕ) (h : Reads (read text) r T I C) where
-  -- the text is refused
-  pub record Bad : Type 0 where
-    pub verdict : read text ≡ refused r.progress.number r.line
+-- a refusal by its flaw, and what it answers
+pub flaw_some : (f : Flaw) → 0 < flaw_number f
+flaw_some TooLong = omega arith
+flaw_some BrokenForm = omega arith
+flaw_some WrongName = omega arith
+flaw_some OverLimit = omega arith
 
-  -- or accepted
-  pub record Fine : Type 0 where
-    pub state : State
-    pub verdict : read text ≡ good state
-    pub opens : List ℕ
-    pub represents : Represents (held r.progress T I C opens) state
+pub refusal_is : {v : Verdict} {e : Refusal} → (r : Refuses v e) → e ≡ refusal_at (flaw_number r.flaw) e.line
+refusal_is {v} {e} r = λ i. record { number = r.number i; line = e.line }
 
-  pub is_bad : (r.progress.number ≡ 0 → ⊥) → Bad
+module _ (text : List ℕ) (T : List ℕ) (I : List ℤ) (C : List ℕ) where
+  pub refuses : (b : BadLine) (n : ℕ) → Reads (read text) (Err b) T I C → n ≡ flaw_number b.flaw → Refuses (read text) (refusal_at n b.line)
   unfolding Reads
-  is_bad nz = go (read text) refl h
+  refuses b n h en = go (read text) refl h
     where
-      go : (v : Verdict) → read text ≡ v → Reads v r T I C → Bad
-      go (refused n k) e q = record { verdict = e ∙ (λ i. refused (sym q.0 i) (sym q.1 i)) }
-      go (good s) e q = absurd (nz q.0)
+      go : (v : Verdict) → read text ≡ v → Reads v (Err b) T I C → Refuses (read text) (refusal_at n b.line)
+      go (refused f k) e q = record {
+        flaw = f;
+        verdict = e ∙ ap (λ (x : BadLine). refused f x.line) (sym q);
+        number = en ∙ ap (λ (x : BadLine). flaw_number x.flaw) q;
+      }
+      go (good s) e q = absurd q
 
-  pub is_fine : r.progress.number ≡ 0 → Fine
+  pub accepts : (p : Progress) → Reads (read text) (Ok p) T I C → Accepts (read text) p T I C
   unfolding Reads
-  is_fine z = go (read text) refl h
+  accepts p h = go (read text) refl h
     where
-      go : (v : Verdict) → read text ≡ v → Reads v r T I C → Fine
-      go (refused n k) e q = absurd (omega (arith, q.0, q.2, z))
-      go (good s) e q = record { state = s; verdict = e; opens = q.1.0; represents = q.1.1 }
+      go : (v : Verdict) → read text ≡ v → Reads v (Ok p) T I C → Accepts (read text) p T I C
+      go (refused f k) e q = absurd q
+      go (good s) e q = record { state = s; verdict = e; opens = q.0; represents = q.1 }

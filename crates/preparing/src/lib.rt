@@ -1,59 +1,106 @@
-// A text made ready for a run: what the reader found, its code, and the classes of its cells.
+// A text that was read, and a text made ready for a run: what the reader found, its code, and the classes of its cells.
 #![tactic(auto)]
 
-ghost use Rattle.std.specs.Prelude.{◌≡◌, length};
+ghost use Rattle.std.specs.Prelude.{◌≡◌, length, IfOk, IfErr};
 ghost use Rattle.syntax.specs.Text.{read as read_text};
 ghost use Rattle.code.specs.Compile.{code_words};
-ghost use Rattle.preparing.specs.Prepared.{Prepared};
+ghost use Rattle.reader.specs.Judged.{Fresh};
+ghost use Rattle.preparing.specs.Prepared.{Accepts, Refuses, Readies, RefusesRun};
 
-use rules::Grouping;
+use answers::Refusal;
+use fitting::check_lent;
+use lines::Progress;
+use names::Table;
+use rules::Class;
 use trial::Setting;
 
-// What is made ready for a run: a refusal's number (0: none) and line, N, the setting, and where the code ends.
+// ---- a text that was read
+
+// What the reader found of a whole text, or its first bad line. All zero before.
+fn read(
+    text: &[u8],
+    table: &mut Table,
+    initial: &mut [i32],
+    code: &mut [u32],
+) -> Result<Progress, Refusal>
+    requires { Fresh table.old initial.old code.old }
+    ensures accepted { IfOk result (λ p. Accepts (read_text text.now) p table.new initial.new code.new) }
+    ensures refused { IfErr result (Refuses (read_text text.now)) }
+{
+    match reader::read(text, table, initial, code) {
+        Ok(p) => Ok(p),
+        Err(bad) => Err(Refusal {
+            number: bad.flaw.number(),
+            line: bad.line,
+        }),
+    }
+}
+
+// The names of a text, the cells from its data, and its code.
+#[derive(Drop)]
+pub struct Source {
+    pub table: Table,
+    pub initial: [i32; 4096],
+    pub code: [u32; code::WORDS],
+}
+
+impl Source {
+    // Of no text yet.
+    pub fn new() -> Source
+        ensures { Fresh result.table result.initial result.code }
+    {
+        Source {
+            table: [0; names::WORDS],
+            initial: [0; 4096],
+            code: [0; code::WORDS],
+        }
+    }
+
+    // What the reader found of this text, or its first bad line. Free: after a refusal all of it; else the table's words that stand for no name, and the code
+    // past its end.
+    pub fn read(&mut self, text: &[u8]) -> Result<Progress, Refusal>
+        requires { Fresh self.old.table self.old.initial self.old.code }
+        ensures accepted { IfOk result (λ p. Accepts (read_text text.now) p self.new.table self.new.initial self.new.code) }
+        ensures refused { IfErr result (Refuses (read_text text.now)) }
+    {
+        read(text, &mut self.table, &mut self.initial, &mut self.code)
+    }
+}
+
+// ---- a text made ready for a run
+
+// What is ready: the setting, and where the code ends.
 #[derive(Clone, Copy)]
 pub struct Ready {
-    pub number: u32,
-    pub line: u32,
-    pub cells: u32,
     pub setting: Setting,
     pub end: usize,
 }
 
-// Reads a text, and makes its code and the classes of its cells ready.
-pub fn prepare(text: &[u8], code: &mut [u32], classes: &mut [u32]) -> Ready
+// Reads a text, looks at what is lent for its run, and makes its code and the classes of its cells ready.
+pub fn prepare(
+    text: &[u8],
+    cells: usize,
+    words: usize,
+    schedule: &[u8],
+    code: &mut [u32],
+    classes: &mut [Class],
+) -> Result<Ready, Refusal>
     requires { (length code.old ≡ code_words) × (length classes.old ≡ 4096) }
-    ensures { Prepared (read_text text.now) result code.new classes.new }
+    ensures ready { IfOk result (λ r. Readies (read_text text.now) cells words schedule.now r code.new classes.new) }
+    ensures refused { IfErr result (RefusesRun (read_text text.now) cells words schedule.now) }
 {
     let mut table = [0; names::WORDS];
-    let mut initial: [i32; 4096] = [0; 4096];
-    let r = reader::read(text, &mut table, &mut initial, code);
-    let p = r.progress;
-    if p.number != 0 {
-        return Ready {
-            number: p.number,
-            line: r.line,
-            cells: 0,
-            setting: Setting {
-                processors: 0,
-                grouping: Grouping::Iterations,
-                iterations: 0,
-                from: 0,
-            },
-            end: 0,
-        };
-    }
-    let grouping = p.grouping;
+    let mut initial = [0; 4096];
+    let p = read(text, &mut table, &mut initial, code)?;
+    check_lent(p.cells, p.processors, cells, words, schedule)?;
     setup::classes(&table, p.cells as usize, classes);
-    Ready {
-        number: 0,
-        line: 0,
-        cells: p.cells,
+    Ok(Ready {
         setting: Setting {
             processors: p.processors,
-            grouping: grouping,
+            grouping: p.grouping,
             iterations: p.count as u32,
             from: p.from,
         },
         end: 2 * p.place,
-    }
+    })
 }

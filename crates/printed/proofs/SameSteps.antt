@@ -7,7 +7,9 @@ use Prim.Native.Nat.{ℕ, suc}
 use lib.Dec.{eqb, ltb}
 use lib.IntN.{ℤ}
 use Rattle.rules.specs.Choose.{pick, below, put}
-use Rattle.rules.specs.Loop.{Act, Class, shared, lastprivate, copied, reduction, Loop, Partition, bound}
+use Rattle.rules.specs.declared.Class.{Class}
+use Rattle.rules.specs.declared.Class.TheVariants.{Shared as shared, Lastprivate as lastprivate, Copied as copied, Reduction as reduction}
+use Rattle.rules.specs.Loop.{Act, Loop, Partition, bound}
 use Rattle.rules.specs.Log.{reads, writes, updates, Access, access, only, written}
 use Rattle.rules.specs.Marks.{marks}
 use Rattle.rules.specs.Steps.{Place, State, opening, stored, moved, given, go_on, step, steps, start}

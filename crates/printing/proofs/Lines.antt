@@ -12,8 +12,9 @@ use Rattle.rules.proofs.CellsLaws.{listed_at}
 use Rattle.names.specs.Table.{word_at, name_at, Tabled, count_in, first_at, length_at, size_at, name_words}
 use Rattle.syntax.specs.Bytes.{bytes}
 use Rattle.syntax.specs.Known.{Entry, nowhere, cells}
+use Rattle.std.specs.Prelude.{Result, Ok, Err}
+use Rattle.answers.specs.declared.Failure.{Failure}
 use Rattle.answers.specs.declared.Ran.{Ran}
-use Rattle.answers.specs.declared.Ran.TheVariants.{Passed, Rerun, Faulted, Refused}
 use Rattle.names.proofs.Rows.{name_length}
 use Rattle.printing.specs.Printed.{newline, comment, values, data_line, data_lines, report}
 use Rattle.writing.specs.Written.{Writes}
@@ -195,21 +196,17 @@ front b xs a r l h u =
       ap (drop r) e ∙ drop_at xs (drop (0 + length xs) b) r p ∙ ap (λ (k : ℕ). drop k b) q,
     )
 
-report_complete : (answer : Ran) (t : List Entry) (m : List ℤ) → Completes answer → comment answer ++ data_lines t m ≡ report answer t m
+report_complete : (answer : Result Ran Failure) (t : List Entry) (m : List ℤ) → Completes answer → comment answer ++ data_lines t m ≡ report answer t m
 unfolding report
-report_complete (Passed a b) t m c = refl
-report_complete (Rerun a b) t m c = refl
-report_complete (Faulted n k v) t m c = absurd c
-report_complete (Refused n k) t m c = absurd c
+report_complete (Ok r) t m c = refl
+report_complete (Err e) t m c = absurd c
 
-report_refused : (answer : Ran) (t : List Entry) (m : List ℤ) → (Completes answer → ⊥) → comment answer ≡ report answer t m
+report_refused : (answer : Result Ran Failure) (t : List Entry) (m : List ℤ) → (Completes answer → ⊥) → comment answer ≡ report answer t m
 unfolding report
-report_refused (Passed a b) t m c = absurd (c tt)
-report_refused (Rerun a b) t m c = absurd (c tt)
-report_refused (Faulted n k v) t m c = refl
-report_refused (Refused n k) t m c = refl
+report_refused (Ok r) t m c = absurd (c tt)
+report_refused (Err e) t m c = refl
 
-module _ (answer : Ran) (T : List ℕ) (m : List ℤ) (b : List ℕ) (l : length b ≡ 2236) where
+module _ (answer : Result Ran Failure) (T : List ℕ) (m : List ℤ) (b : List ℕ) (l : length b ≡ 2236) where
   pub reports_lines : {d a : List ℕ} {at r : ℕ} → Completes answer → (t : List Entry) → Holds T m t → Writes b 0 (comment answer) d at
       → ((t : List Entry) → Tabled T t → Writes d at (data_lines t m) a r) → Reports answer T m b a r
   reports_lines {d} {a} {at} {r} c t k u v =

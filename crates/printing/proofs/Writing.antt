@@ -6,20 +6,23 @@ use Prim.Native.Nat.{ℕ, zero, suc, ◌+◌, ◌-◌, ◌*◌, ◌/◌, ◌%◌
 use native.Mathlib.Numerals.{add-one}
 use native.Mathlib.Omega.{arith}
 use lib.Dec.{ltb}
-use lib.ListN.{length, get_or, set, take, length-append}
-use borrow.Author.Tests.{lt-ltb, le-ltb}
-use lib.Seq.{take-suc, take_all, length-take-le}
-use lib.IntN.{ℤ, pos, negsuc}
+use lib.ListN.{length, get_or, take, length-append}
+use borrow.Author.Tests.{lt-ltb, le-ltb, leb-false}
+use lib.Signed.{le_z}
+use lib.Seq.{take-suc, length-take-le}
+use lib.IntN.{ℤ, pos, negsuc, nat_abs}
 use mir.Syntax.{w32}
 use mir.Val.{SFits, to_z, of_z}
 use mir.ValLaws.{to_z-of_z}
-use Rattle.int32.specs.Integers.{word}
 use Rattle.syntax.specs.Bytes.{bytes}
+use Rattle.std.specs.Prelude.{Result, Ok, Err}
+use Rattle.answers.specs.declared.Failure.{Failure}
+use Rattle.answers.specs.declared.Failure.TheVariants.{Refused, Faulted}
 use Rattle.answers.specs.declared.Ran.{Ran}
-use Rattle.answers.specs.declared.Ran.TheVariants.{Passed, Rerun, Faulted, Refused}
+use Rattle.answers.specs.declared.Ran.TheVariants.{Passed, Rerun}
 use Rattle.printing.specs.Printed.{digits, decimal, signed, counted, refusal, comment, values, later}
 use Rattle.writing.specs.Written.{Writes}
-use Rattle.writing.proofs.Writing.{writes_none, writes_one, writes_then, writes_as, writes_up_to}
+use Rattle.writing.proofs.Writing.{writes_none, writes_then, writes_as}
 use Rattle.printing.specs.Written.{value_at}
 
 -- ---- numbers
@@ -38,31 +41,17 @@ unfolding signed
 signed_few (pos n) = omega (arith, digits_few 10 n)
 signed_few (negsuc n) = omega (arith, digits_few 10 (suc n))
 
--- by the word of a number
-pub signed_word : (v : ℤ) → SFits w32 v → word v < 2147483648 → digits 10 (word v) ≡ signed v
-unfolding signed word
-signed_word (pos n) f h = ap (digits 10) (omega (arith, f.sfits))
-signed_word (negsuc n) f h = absurd (omega (arith, f.sfits))
+-- by its sign
+pub signed_plain : {b a : List ℕ} {at r n : ℕ} (v : ℤ) → le_z (pos 0) v ≡ true → n ≡ nat_abs v → Writes b at (digits 10 n) a r → Writes b at (signed v) a r
+unfolding signed
+signed_plain (pos m) h e u = writes_as (ap (digits 10) e) u
+signed_plain (negsuc m) h e u = cc
 
-pub signed_minus : (v : ℤ) → SFits w32 v → 2147483648 ≤ word v → 45 ∷ digits 10 (4294967295 - word v + 1) ≡ signed v
-unfolding signed word
-signed_minus (pos n) f h = absurd (omega (arith, f.sfits))
-signed_minus (negsuc n) f h = ap (λ (k : ℕ). 45 ∷ digits 10 k) (omega (arith, f.sfits))
-
--- ---- bytes of a list, one after the other
-
-pub bytes_none : (b : List ℕ) (at : ℕ) → Writes b at [] b (at + 0)
-bytes_none b at = record { place = omega arith; bytes = refl }
-
-pub bytes_more : (b s m : List ℕ) (at k x : ℕ) → k < length s → x ≡ get_or s k 0 → Writes b at (take k s) m (at + k)
-    → Writes b at (take (k + 1) s) (set m (at + k) x) (at + (k + 1))
-bytes_more b s m at k x h e u =
-    let w = writes_as (ap (λ (y : ℕ). take k s ++ (y ∷ [])) e ∙ sym (take-suc s k 0 h) ∙ ap (λ (n : ℕ). take n s) (sym (add-one k)))
-    (writes_then u (writes_one m (at + k) x)) in
-    writes_up_to (omega arith) w
-
-pub bytes_all : (b s a : List ℕ) (at k : ℕ) {r : ℕ} → length s ≤ k → Writes b at (take k s) a r → Writes b at s a r
-bytes_all b s a at k h u = writes_as (take_all k s h) u
+pub signed_negative : {b m a : List ℕ} {at p r n : ℕ} (v : ℤ) → le_z (pos 0) v ≡ false → n ≡ nat_abs v → Writes b at (45 ∷ []) m p
+    → Writes m p (digits 10 n) a r → Writes b at (signed v) a r
+unfolding signed
+signed_negative (pos n) h e u t = absurd (omega (arith, leb-false 0 n h))
+signed_negative (negsuc n) h e u t = writes_as (ap (λ (k : ℕ). 45 ∷ digits 10 k) e) (writes_then u t)
 
 -- ---- digits
 
@@ -95,14 +84,6 @@ pub digits_more : {b m a : List ℕ} {at p r : ℕ} (k n : ℕ) → (k ≡ 0 →
 digits_more k n z h u v = writes_as (digits_two k n z h) (writes_then u v)
 
 -- ---- signed numbers
-
-module _ (v : ℤ) (w : ℕ) (f : SFits w32 v) (e : w ≡ word v) where
-  pub signed_plain : {b a : List ℕ} {at r : ℕ} → w < 2147483648 → Writes b at (digits 10 w) a r → Writes b at (signed v) a r
-  signed_plain h u = writes_as (ap (digits 10) e ∙ signed_word v f (omega arith)) u
-
-  pub signed_negative : {b m a : List ℕ} {at p r : ℕ} → 2147483648 ≤ w → Writes b at (45 ∷ []) m p → Writes m p (digits 10 (4294967295 - w + 1)) a r
-      → Writes b at (signed v) a r
-  signed_negative h u t = writes_as (ap (λ (k : ℕ). 45 ∷ digits 10 (4294967295 - k + 1)) e ∙ signed_minus v f (omega arith)) (writes_then u t)
 
 -- a number that was passed on
 pub signed_seen : {b a : List ℕ} {at r : ℕ} (v : ℤ) → SFits w32 v → Writes b at (signed (to_z w32 (of_z w32 v))) a r → Writes b at (signed v) a r
@@ -156,9 +137,6 @@ values_more vs k v h e u t =
     ∙ ap (λ (n : ℕ). values (take n vs)) (sym (add-one k)))
     (writes_then u t)
 
-pub values_all : {b a : List ℕ} {at r : ℕ} (vs : List ℤ) (k : ℕ) → length vs ≤ k → Writes b at (values (take k vs)) a r → Writes b at (values vs) a r
-values_all vs k h u = writes_as (ap values (take_all k vs h)) u
-
 -- how far the first k values reach
 pub values_reach : {b a : List ℕ} {at r : ℕ} (vs : List ℤ) (k : ℕ) → k ≤ length vs → Writes b at (values (take k vs)) a r → r ≤ at + 12 * k
 values_reach vs k h u = omega (arith, u.place, values_few (take k vs), length-take-le k vs h)
@@ -188,9 +166,9 @@ comment_few_refused n k v =
       length-append (signed v) (10 ∷ []),
     )
 
-pub comment_few : (r : Ran) → length (comment r) ≤ 44
+pub comment_few : (r : Result Ran Failure) → length (comment r) ≤ 44
 unfolding comment
-comment_few (Passed a b) = comment_few_counted (bytes "! passed ") a b (omega arith)
-comment_few (Rerun a b) = comment_few_counted (bytes "! rerun ") a b (omega arith)
-comment_few (Faulted n k v) = comment_few_refused n k v
-comment_few (Refused n k) = comment_few_refused n k (pos 0)
+comment_few (Ok (Passed c)) = comment_few_counted (bytes "! passed ") c.pairs c.cells (omega arith)
+comment_few (Ok (Rerun c)) = comment_few_counted (bytes "! rerun ") c.pairs c.cells (omega arith)
+comment_few (Err (Faulted f)) = comment_few_refused f.number f.line f.v
+comment_few (Err (Refused e)) = comment_few_refused e.number e.line (pos 0)

@@ -1,9 +1,11 @@
 -- RULES 11 b to d (document 01, Program): what is printed for an answer of Run, the names and the cells, as bytes.
-use Rattle.std.specs.Prelude.{cond, List, [], ◌∷◌, ◌++◌, ℕ, zero, suc, ◌+◌, ◌/◌, ◌%◌, ltb, take, drop, ℤ, pos, negsuc}
+use Rattle.std.specs.Prelude.{cond, List, [], ◌∷◌, ◌++◌, ℕ, zero, suc, ◌+◌, ◌/◌, ◌%◌, ltb, take, drop, ℤ, pos, negsuc, Result, Ok, Err}
 use Rattle.syntax.specs.Bytes.{bytes}
 use Rattle.syntax.specs.Known.{Entry}
+use Rattle.answers.specs.declared.Failure.{Failure}
+use Rattle.answers.specs.declared.Failure.TheVariants.{Refused, Faulted}
 use Rattle.answers.specs.declared.Ran.{Ran}
-use Rattle.answers.specs.declared.Ran.TheVariants.{Passed, Rerun, Faulted, Refused}
+use Rattle.answers.specs.declared.Ran.TheVariants.{Passed, Rerun}
 
 -- ---- numbers
 
@@ -35,11 +37,11 @@ abbrev pub refusal : ℕ → ℕ → ℤ → List ℕ
 refusal number line v = bytes "! refused " ++ (decimal number ++ (bytes " " ++ (decimal line ++ (bytes " " ++ (signed v ++ newline)))))
 
 -- the comment line; a fault is a refusal with its v, any other refusal has v 0
-unfoldable pub comment : Ran → List ℕ
-comment (Passed a b) = counted (bytes "! passed ") a b
-comment (Rerun a b) = counted (bytes "! rerun ") a b
-comment (Faulted n k v) = refusal n k v
-comment (Refused n k) = refusal n k (pos 0)
+unfoldable pub comment : Result Ran Failure → List ℕ
+comment (Ok (Passed c)) = counted (bytes "! passed ") c.pairs c.cells
+comment (Ok (Rerun c)) = counted (bytes "! rerun ") c.pairs c.cells
+comment (Err (Faulted f)) = refusal f.number f.line f.v
+comment (Err (Refused e)) = refusal e.number e.line (pos 0)
 
 -- values parted by commas
 unfoldable pub later : List ℤ → List ℕ
@@ -59,8 +61,6 @@ data_lines [] m = []
 data_lines (e ∷ es) m = data_line e.name (take e.size (drop e.first m)) ++ data_lines es m
 
 -- "a comment line, then a data line per name"; "a refusal prints only ..."
-unfoldable pub report : Ran → List Entry → List ℤ → List ℕ
-report (Passed a b) t m = comment (Passed a b) ++ data_lines t m
-report (Rerun a b) t m = comment (Rerun a b) ++ data_lines t m
-report (Faulted n k v) t m = comment (Faulted n k v)
-report (Refused n k) t m = comment (Refused n k)
+unfoldable pub report : Result Ran Failure → List Entry → List ℤ → List ℕ
+report (Ok r) t m = comment (Ok r) ++ data_lines t m
+report (Err e) t m = comment (Err e)

@@ -1,9 +1,9 @@
 -- What the functions leave in the buffer, and what they ask of the table of names and the cells.
-use Rattle.std.specs.Prelude.{◌≡◌, List, ◌++◌, ℕ, zero, suc, ◌+◌, ◌≤◌, ◌<◌, length, get_or, take, drop, ℤ}
+use Rattle.std.specs.Prelude.{◌≡◌, List, ◌++◌, ℕ, zero, suc, ◌+◌, ◌≤◌, ◌<◌, length, get_or, take, drop, ℤ, Result, Ok, Err}
 use Rattle.syntax.specs.Known.{Entry, nowhere, cells}
 use Rattle.names.specs.Table.{word_at, name_at, Tabled, first_at, length_at, size_at, name_words, most_names}
+use Rattle.answers.specs.declared.Failure.{Failure}
 use Rattle.answers.specs.declared.Ran.{Ran}
-use Rattle.answers.specs.declared.Ran.TheVariants.{Passed, Rerun, Faulted, Refused}
 use Rattle.syntax.specs.Bytes.{bytes}
 use Rattle.printing.specs.Printed.{signed, data_line, report}
 
@@ -30,14 +30,12 @@ unfoldable pub line_at : List ℕ → List ℤ → ℕ → List ℕ
 line_at T m i = data_line (name_at T i) (take (size_at T i) (drop (first_at T i) m))
 
 -- an answer with cells to print
-abbrev pub Completes : Ran → Type 0
-Completes (Passed a b) = Unit {0}
-Completes (Rerun a b) = Unit {0}
-Completes (Faulted n k v) = ⊥
-Completes (Refused n k) = ⊥
+abbrev pub Completes : Result Ran Failure → Type 0
+Completes (Ok r) = Unit {0}
+Completes (Err e) = ⊥
 
 -- the first r bytes of the buffer are the report, and the others are as they were
-pub record Reports (answer : Ran) (T : List ℕ) (m : List ℤ) (before after : List ℕ) (r : ℕ) : Type 0 where
+pub record Reports (answer : Result Ran Failure) (T : List ℕ) (m : List ℤ) (before after : List ℕ) (r : ℕ) : Type 0 where
   pub within : r ≤ length after
   pub counted : r ≡ length (take r after)
   pub bytes : (t : List Entry) → (Completes answer → Tabled T t) → take r after ≡ report answer t m

@@ -9,30 +9,11 @@ ghost use Rattle.printing.specs.Printed.{digits, signed, counted, refusal, comme
 ghost use Rattle.writing.specs.Written.{Writes};
 ghost use Rattle.printing.specs.Written.{Named, Holds, value_at, line_at, Completes, Reports};
 
-use answers::Ran;
+use answers::{Failure, Ran};
 use names::Table;
+use writing::{put, put_bytes};
 
-// ---- bytes and numbers
-
-fn put(out: &mut [u8; 2236], at: usize, b: u8) -> usize
-    requires { at < 2236 }
-    ensures { Writes out.old at (b ∷ []) out.new result }
-{
-    out[at] = b;
-    at + 1
-}
-
-fn put_bytes(out: &mut [u8; 2236], at: usize, s: &[u8]) -> usize
-    requires { at + length s.now ≤ 2236 }
-    ensures { Writes out.old at s.now out.new result }
-{
-    let mut k = 0;
-    while k < s.len() {
-        out[at + k] = s[k];
-        k += 1;
-    }
-    at + k
-}
+// ---- numbers
 
 // The last k digits of n.
 fn put_digits(out: &mut [u8; 2236], at: usize, n: u32, k: usize) -> usize
@@ -43,27 +24,27 @@ fn put_digits(out: &mut [u8; 2236], at: usize, n: u32, k: usize) -> usize
         return at;
     }
     if n < 10 {
-        return put(out, at, 48 + n as u8);
+        return put(out, at, b'0' + n as u8);
     }
     let p = put_digits(out, at, n / 10, k - 1);
-    put(out, p, 48 + (n % 10) as u8)
+    put(out, p, b'0' + (n % 10) as u8)
 }
 
 fn put_signed(out: &mut [u8; 2236], at: usize, v: i32) -> usize
     requires { at + 11 ≤ 2236 }
     ensures { Writes out.old at (signed v) out.new result }
 {
-    let w = int32::to_word(v);
-    if w < 2147483648 {
-        return put_digits(out, at, w, 10);
+    if 0 <= v {
+        return put_digits(out, at, v.unsigned_abs(), 10);
     }
     let p = put(out, at, b'-');
-    put_digits(out, p, 4294967295 - w + 1, 10)
+    put_digits(out, p, v.unsigned_abs(), 10)
 }
 
 // ---- the comment line
 
 // A word and both write counts.
+#[tactic(auto, using(crate::proofs::Writing::digits_few))]
 fn put_counts(out: &mut [u8; 2236], word: &[u8], pairs: u32, cells: u32) -> usize
     requires { length word.now ≤ 9 }
     ensures { Writes out.old 0 (counted word.now pairs cells) out.new result }
@@ -75,6 +56,7 @@ fn put_counts(out: &mut [u8; 2236], word: &[u8], pairs: u32, cells: u32) -> usiz
     put(out, d, b'\n')
 }
 
+#[tactic(auto, using(crate::proofs::Writing::digits_few, crate::proofs::Writing::signed_few))]
 fn put_refusal(out: &mut [u8; 2236], number: u32, line: u32, v: i32) -> usize
     ensures { Writes out.old 0 (refusal number line v) out.new result }
 {
@@ -87,14 +69,18 @@ fn put_refusal(out: &mut [u8; 2236], number: u32, line: u32, v: i32) -> usize
     put(out, f, b'\n')
 }
 
-fn put_comment(out: &mut [u8; 2236], answer: Ran) -> usize
+fn put_comment(out: &mut [u8; 2236], answer: Result<Ran, Failure>) -> usize
     ensures { Writes out.old 0 (comment answer) out.new result }
 {
     match answer {
-        Ran::Passed { pairs, cells } => put_counts(out, b"! passed ", pairs, cells),
-        Ran::Rerun { pairs, cells } => put_counts(out, b"! rerun ", pairs, cells),
-        Ran::Faulted { number, line, v } => put_refusal(out, number, line, v),
-        Ran::Refused { number, line } => put_refusal(out, number, line, 0),
+        Ok(ran) => match ran {
+            Ran::Passed(c) => put_counts(out, b"! passed ", c.pairs, c.cells),
+            Ran::Rerun(c) => put_counts(out, b"! rerun ", c.pairs, c.cells),
+        },
+        Err(failure) => match failure {
+            Failure::Faulted(f) => put_refusal(out, f.number, f.line, f.v),
+            Failure::Refused(r) => put_refusal(out, r.number, r.line, 0),
+        },
     }
 }
 
@@ -106,12 +92,10 @@ fn put_name(out: &mut [u8; 2236], at: usize, table: &Table, i: usize) -> usize
     ensures { Writes out.old at (name_at table.now i) out.new result }
 {
     let n = names::length_of(table, i);
-    let mut k = 0;
-    while k < n {
+    for k in 0..n {
         out[at + k] = names::byte_of(table, i, k);
-        k += 1;
     }
-    at + k
+    at + n
 }
 
 // The value of a number in its line, with a comma before it unless it is the first.
@@ -131,10 +115,8 @@ fn put_values(out: &mut [u8; 2236], at: usize, vs: &[i32]) -> usize
     ensures { Writes out.old at (values vs.now) out.new result }
 {
     let mut p = at;
-    let mut k = 0;
-    while k < vs.len() {
-        p = put_value(out, p, k, vs[k]);
-        k += 1;
+    for (k, v) in vs.iter().enumerate() {
+        p = put_value(out, p, k, *v);
     }
     p
 }
@@ -159,10 +141,8 @@ fn put_data_lines(out: &mut [u8; 2236], at: usize, table: &Table, cells: &[i32])
 {
     let n = names::count(table);
     let mut p = at;
-    let mut i = 0;
-    while i < n {
+    for i in 0..n {
         p = put_data(out, p, table, i, cells);
-        i += 1;
     }
     p
 }
@@ -170,19 +150,18 @@ fn put_data_lines(out: &mut [u8; 2236], at: usize, table: &Table, cells: &[i32])
 // ---- all of it
 
 // The report of an answer over the names and the cells; how many bytes it has.
-pub fn report(out: &mut [u8; 2236], answer: Ran, table: &Table, cells: &[i32]) -> usize
+pub fn report(
+    out: &mut [u8; 2236],
+    answer: Result<Ran, Failure>,
+    table: &Table,
+    cells: &[i32],
+) -> usize
     requires { (length out.old ≡ 2236) × (Completes answer → (t : List Entry) × Holds table.now cells.now t) }
     ensures { Reports answer table.now cells.now out.old out.new result }
 {
     let at = put_comment(out, answer);
     match answer {
-        Ran::Passed { pairs: _, cells: _ } => put_data_lines(out, at, table, cells),
-        Ran::Rerun { pairs: _, cells: _ } => put_data_lines(out, at, table, cells),
-        Ran::Faulted {
-            number: _,
-            line: _,
-            v: _,
-        } => at,
-        Ran::Refused { number: _, line: _ } => at,
+        Ok(_) => put_data_lines(out, at, table, cells),
+        Err(_) => at,
     }
 }

@@ -1,9 +1,13 @@
 -- A line as its kind is read.
-use mathlib.Core.Path.{◌≡◌, sym, subst}
+use mathlib.Core.Path.{◌≡◌, refl, sym, subst}
 use mathlib.Core.Bool.{Bool}
 use mathlib.Core.List.{List}
 use Prim.Native.Nat.{ℕ, ◌≤◌}
 use lib.ListN.{length}
+use Rattle.std.specs.Prelude.{Result, Err}
+use Rattle.syntax.specs.declared.Flaw.{Flaw}
+use Rattle.syntax.specs.declared.Flaw.TheVariants.{BrokenForm}
+use Rattle.lines.specs.declared.Progress.{Progress}
 use Rattle.lines.specs.Progress.{Held, Underway, Concludes}
 use Rattle.lines.specs.Lines.{Takes}
 use Rattle.kinds.specs.declared.Kind.{Kind}
@@ -30,10 +34,10 @@ underway s line H h = (H.table, H.initial, h.known.0, h.known.1)
 
 -- ---- its reader
 
-module _ (k : Kind) (s : List ℕ) (line : ℕ) (H H' : Held) where
-  pub as_kind : (x : Kind) → k ≡ x → Takes (read_by x) (stage_by x) s line H H' → Takes (read_by k) (stage_by k) s line H H'
-  as_kind x e h = subst (λ (y : Kind). Takes (read_by y) (stage_by y) s line H H') (sym e) h
+module _ (k : Kind) (s : List ℕ) (line : ℕ) (H : Held) (H' : Progress → Held) where
+  pub as_kind : (r : Result Progress Flaw) (x : Kind) → k ≡ x → Takes (read_by x) (stage_by x) s line H H' r → Takes (read_by k) (stage_by k) s line H H' r
+  as_kind r x e h = subst (λ (y : Kind). Takes (read_by y) (stage_by y) s line H H' r) (sym e) h
 
-  pub as_broken : k ≡ Broken → H'.progress.number ≡ 2 → Takes (read_by k) (stage_by k) s line H H'
+  pub as_broken : k ≡ Broken → Takes (read_by k) (stage_by k) s line H H' (Err BrokenForm)
   unfolding read_by Concludes
-  as_broken e h = as_kind Broken e (λ st rp sane fo f b. h)
+  as_broken e = as_kind (Err BrokenForm) Broken e (λ st rp sane fo f b. refl)

@@ -8,6 +8,9 @@ use Prim.Native.Nat.{ℕ, suc, ◌+◌, ◌*◌, ◌≤◌, ◌<◌}
 use native.Mathlib.Omega.{arith}
 use borrow.Author.Tests.{le-leb, lt-leb}
 use lib.ListN.{length}
+use Rattle.std.specs.Prelude.{Option as Option', Some, None, Result, Ok, Err}
+use Rattle.syntax.specs.declared.Flaw.{Flaw}
+use Rattle.syntax.specs.declared.Flaw.TheVariants.{BrokenForm, WrongName, OverLimit}
 use Rattle.syntax.specs.Bytes.{choose, tokens, skipped_line, sound_line}
 use Rattle.syntax.specs.Grammar.{Line, declare, give, direct, loop, assign, when, otherwise, end_if, inside, end_do, close}
 use Rattle.syntax.specs.Known.{Open, State, otherwise_after, end_if_after, after}
@@ -20,7 +23,8 @@ use Rattle.syntax.proofs.TokenCount.{tokens_length}
 use Rattle.syntax.proofs.Sane.{after_sane}
 use Rattle.code.specs.Compile.{code_of}
 use Rattle.code.proofs.CodeLength.{line_length}
-use Rattle.lines.specs.Progress.{Held, Represents, number_of, whole, Concludes}
+use Rattle.lines.specs.declared.Progress.{Progress}
+use Rattle.lines.specs.Progress.{Held, Represents, flaw_of, whole, Concludes}
 use Rattle.lines.proofs.Yields.{Yields}
 use Rattle.kinds.specs.declared.Kind.{Kind}
 use Rattle.kinds.specs.Kinds.{read_by, stage_by, Kinds}
@@ -30,7 +34,7 @@ use Rattle.reader.proofs.Parses.{line_of, parse_bytes, line_stage, line_by}
 -- the verdict on a line that is read, by whether it stands wrongly, its names are right and it is within the limits
 abbrev by_tests : ℕ → State → Line → Bool → Bool → Bool → Verdict
 by_tests k st l misplaced named small =
-    choose misplaced (λ _. refused 2 k) (λ _. choose (not named) (λ _. refused 3 k) (λ _. choose (not small) (λ _. refused 4 k) (λ _. good (after k l st))))
+    choose misplaced (λ _. refused BrokenForm k) (λ _. choose (not named) (λ _. refused WrongName k) (λ _. choose (not small) (λ _. refused OverLimit k) (λ _. good (after k l st))))
 
 -- ---- lines that are bad before they are read, and lines that are skipped
 
@@ -38,14 +42,14 @@ module _ (k : ℕ) (last : Bool) (st : State) (s : List ℕ) where
   -- the verdict by the tests of its bytes
   abbrev by_bytes : Bool → Bool → Bool → Verdict
   by_bytes sound skipped early =
-      choose (not sound) (λ _. refused 2 k) (λ _. choose skipped (λ _. cond early (refused 2 k) (good st)) (λ _. judged k last st (parse (tokens s))))
+      choose (not sound) (λ _. refused BrokenForm k) (λ _. choose skipped (λ _. cond early (refused BrokenForm k) (good st)) (λ _. judged k last st (parse (tokens s))))
 
-  unsound : sound_line s ≡ false → judge_line k last st s ≡ refused 2 k
+  unsound : sound_line s ≡ false → judge_line k last st s ≡ refused BrokenForm k
   unfolding judge_line
   unsound h = ap (λ (b : Bool). by_bytes b (skipped_line s) (last && not (finished st.stage))) h
 
   passed_over : sound_line s ≡ true → skipped_line s ≡ true → (b : Bool) → last && not (finished st.stage) ≡ b
-      → judge_line k last st s ≡ cond b (refused 2 k) (good st)
+      → judge_line k last st s ≡ cond b (refused BrokenForm k) (good st)
   unfolding judge_line
   passed_over h g b e = λ i. by_bytes (h i) (g i) (e i)
 
@@ -53,29 +57,29 @@ module _ (k : ℕ) (last : Bool) (st : State) (s : List ℕ) where
   unfolding judge_line
   spoken h g = λ i. by_bytes (h i) (g i) (last && not (finished st.stage))
 
-module _ (k : ℕ) (H' : Held) where
-  is_refused : (v : Verdict) (n : ℕ) → v ≡ refused (suc n) k → H'.progress.number ≡ suc n → Judged k v H'
+module _ (k : ℕ) (H' : Progress → Held) where
+  is_refused : (v : Verdict) (f e : Flaw) → v ≡ refused f k → e ≡ f → Judged k v H' (Err e)
   unfolding Judged
-  is_refused v n e h = subst (λ (u : Verdict). Judged k u H') (sym e) (h, refl, omega arith)
+  is_refused v f e q h = subst (λ (u : Verdict). Judged k u H' (Err e)) (sym q) (h, refl)
 
-  is_good : (v : Verdict) (st : State) → v ≡ good st → H'.progress.number ≡ 0 → Represents H' st → Judged k v H'
+  is_good : (v : Verdict) (st : State) (p : Progress) → v ≡ good st → Represents (H' p) st → Judged k v H' (Ok p)
   unfolding Judged
-  is_good v st e h rp = subst (λ (u : Verdict). Judged k u H') (sym e) (h, rp)
+  is_good v st p e rp = subst (λ (u : Verdict). Judged k u H' (Ok p)) (sym e) rp
 
   -- ---- what the code does for each
 
   module _ (last : Bool) (st : State) (s : List ℕ) where
-    pub bad_bytes : false ≡ sound_line s → H'.progress.number ≡ 2 → Judged k (judge_line k last st s) H'
-    bad_bytes h n = is_refused (judge_line k last st s) 1 (unsound k last st s (sym h)) n
+    pub bad_bytes : false ≡ sound_line s → Judged k (judge_line k last st s) H' (Err BrokenForm)
+    bad_bytes h = is_refused (judge_line k last st s) BrokenForm BrokenForm (unsound k last st s (sym h)) refl
 
     module _ (h : true ≡ sound_line s) where
-      pub skipped_early : true ≡ skipped_line s → last ≡ true → st.stage < 6 → H'.progress.number ≡ 2 → Judged k (judge_line k last st s) H'
-      skipped_early g e b n = is_refused (judge_line k last st s) 1
-          (passed_over k last st s (sym h) (sym g) true (λ i. e i && not (lt-leb 6 st.stage (omega arith) i))) n
+      pub skipped_early : true ≡ skipped_line s → last ≡ true → st.stage < 6 → Judged k (judge_line k last st s) H' (Err BrokenForm)
+      skipped_early g e b = is_refused (judge_line k last st s) BrokenForm BrokenForm
+          (passed_over k last st s (sym h) (sym g) true (λ i. e i && not (lt-leb 6 st.stage (omega arith) i))) refl
 
-      pub skipped_good : true ≡ skipped_line s → last && not (finished st.stage) ≡ false → H'.progress.number ≡ 0 → Represents H' st
-          → Judged k (judge_line k last st s) H'
-      skipped_good g e n rp = is_good (judge_line k last st s) st (passed_over k last st s (sym h) (sym g) false e) n rp
+      pub skipped_good : true ≡ skipped_line s → last && not (finished st.stage) ≡ false → (p : Progress) → Represents (H' p) st
+          → Judged k (judge_line k last st s) H' (Ok p)
+      skipped_good g e p rp = is_good (judge_line k last st s) st p (passed_over k last st s (sym h) (sym g) false e) rp
 
       module _ (g : false ≡ skipped_line s) (kd : Kind) (kn : Kinds (λ f. read_start peek_in skip_in f s) s kd) where
         abbrev f : ℕ
@@ -84,32 +88,32 @@ module _ (k : ℕ) (H' : Held) where
         read_as : judge_line k last st s ≡ judged k last st (line_of (whole (read_by kd f) s))
         read_as = spoken k last st s (sym h) (sym g) ∙ ap (judged k last st) (parse_bytes s f (omega arith) ∙ ap line_of (line_by kd s kn f))
 
-        bad_by : (l : Line) → not (stands st l) || (last && not (finished (stage_of l))) ≡ true → judged k last st (some l) ≡ refused 2 k
+        bad_by : (l : Line) → not (stands st l) || (last && not (finished (stage_of l))) ≡ true → judged k last st (some l) ≡ refused BrokenForm k
         unfolding judged
         bad_by l e = ap (λ (b : Bool). by_tests k st l b (names st l) (limits st l)) e
 
-        no_line : judged k last st none ≡ refused 2 k
+        no_line : judged k last st none ≡ refused BrokenForm k
         unfolding judged
         no_line = refl
 
         -- bad, whatever it is
         misplaced : ((l : Line) → stage_of l ≡ stage_by kd → not (stands st l) || (last && not (finished (stage_of l))) ≡ true)
-            → judged k last st (line_of (whole (read_by kd f) s)) ≡ refused 2 k
+            → judged k last st (line_of (whole (read_by kd f) s)) ≡ refused BrokenForm k
         misplaced e = go (whole (read_by kd f) s) (line_stage kd f s)
           where
-            go : (q : Parsed (List ℕ) Line) → Yields (λ l. stage_of l ≡ stage_by kd) q → judged k last st (line_of q) ≡ refused 2 k
+            go : (q : Parsed (List ℕ) Line) → Yields (λ l. stage_of l ≡ stage_by kd) q → judged k last st (line_of q) ≡ refused BrokenForm k
             go broken y = no_line
             go (done l u) y = bad_by l (e l y)
 
-        pub stands_not : false ≡ may_follow st.stage (stage_by kd) → H'.progress.number ≡ 2 → Judged k (judge_line k last st s) H'
+        pub stands_not : false ≡ may_follow st.stage (stage_by kd) → Judged k (judge_line k last st s) H' (Err BrokenForm)
         unfolding stands
-        stands_not e n = is_refused (judge_line k last st s) 1 (read_as ∙ misplaced unplaced) n
+        stands_not e = is_refused (judge_line k last st s) BrokenForm BrokenForm (read_as ∙ misplaced unplaced) refl
           where
             unplaced : (l : Line) → stage_of l ≡ stage_by kd → not (stands st l) || (last && not (finished (stage_of l))) ≡ true
             unplaced l y = ap (λ (b : Bool). not (b && fits st.opens l) || (last && not (finished (stage_of l)))) (ap (may_follow st.stage) y ∙ sym e)
 
-        pub ends_early : last ≡ true → stage_by kd < 6 → H'.progress.number ≡ 2 → Judged k (judge_line k last st s) H'
-        ends_early e b n = is_refused (judge_line k last st s) 1 (read_as ∙ misplaced unfinished) n
+        pub ends_early : last ≡ true → stage_by kd < 6 → Judged k (judge_line k last st s) H' (Err BrokenForm)
+        ends_early e b = is_refused (judge_line k last st s) BrokenForm BrokenForm (read_as ∙ misplaced unfinished) refl
           where
             unfinished : (l : Line) → stage_of l ≡ stage_by kd → not (stands st l) || (last && not (finished (stage_of l))) ≡ true
             unfinished l y = (λ i. not (stands st l) || (e i && not ((ap finished y ∙ lt-leb 6 (stage_by kd) (omega arith)) i))) ∙ or-true (not (stands st l))
@@ -127,28 +131,42 @@ module _ (k : ℕ) (H' : Held) where
           unfolding judged
           in_place l y = ap (λ (b : Bool). by_tests k st l b (names st l) (limits st l)) (standing l y)
 
-          by_number : (l : Line) → stage_of l ≡ stage_by kd → H'.progress.number ≡ number_of st l → (H'.progress.number ≡ 0 → Represents H' (after k l st))
-              → Judged k (judged k last st (some l)) H'
-          unfolding number_of
-          by_number l y e rp = go (fits st.opens l) (names st l) (limits st l) (in_place l y) e
-            where
-              go : (a b c : Bool) → judged k last st (some l) ≡ by_tests k st l (not a) b c
-                  → H'.progress.number ≡ choose (not a) (λ _. 2) (λ _. choose (not b) (λ _. 3) (λ _. choose (not c) (λ _. 4) (λ _. 0)))
-                  → Judged k (judged k last st (some l)) H'
-              go true true true p q = is_good (judged k last st (some l)) (after k l st) p q (rp q)
-              go true true false p q = is_refused (judged k last st (some l)) 3 p q
-              go true false c p q = is_refused (judged k last st (some l)) 2 p q
-              go false b c p q = is_refused (judged k last st (some l)) 1 p q
+          -- what its tests say is wrong
+          abbrev told_by : Bool → Bool → Bool → Option' Flaw
+          told_by a b c = choose (not a) (λ _. Some BrokenForm) (λ _. choose (not b) (λ _. Some WrongName) (λ _. choose (not c) (λ _. Some OverLimit) (λ _. None)))
 
-          pub judged_line : Concludes (number_of st) (λ l. Represents H' (after k l st)) (whole (read_by kd f) s) H'.progress.number
-              → Judged k (judge_line k last st s) H'
-          unfolding Concludes
-          judged_line cs = subst (λ (v : Verdict). Judged k v H') (sym read_as) (go (whole (read_by kd f) s) (line_stage kd f s) cs)
+          by_flaw : (l : Line) → stage_of l ≡ stage_by kd → (e : Flaw) → flaw_of st l ≡ Some e → Judged k (judged k last st (some l)) H' (Err e)
+          unfolding flaw_of
+          by_flaw l y e q = go (fits st.opens l) (names st l) (limits st l) (in_place l y) q
             where
-              go : (q : Parsed (List ℕ) Line) → Yields (λ l. stage_of l ≡ stage_by kd) q
-                  → Concludes (number_of st) (λ l. Represents H' (after k l st)) q H'.progress.number → Judged k (judged k last st (line_of q)) H'
-              go broken y c = is_refused (judged k last st none) 1 no_line c
-              go (done l u) y c = by_number l y c.0 c.1
+              go : (a b c : Bool) → judged k last st (some l) ≡ by_tests k st l (not a) b c → told_by a b c ≡ Some e → Judged k (judged k last st (some l)) H' (Err e)
+              go true true true p q = absurd (let z : ◌≡◌ {A = ℕ} 0 1 = cc in omega arith)
+              go true true false p q = is_refused (judged k last st (some l)) OverLimit e p cc
+              go true false c p q = is_refused (judged k last st (some l)) WrongName e p cc
+              go false b c p q = is_refused (judged k last st (some l)) BrokenForm e p cc
+
+          flawless : (l : Line) → stage_of l ≡ stage_by kd → (p : Progress) → flaw_of st l ≡ None → Represents (H' p) (after k l st)
+              → Judged k (judged k last st (some l)) H' (Ok p)
+          unfolding flaw_of
+          flawless l y p q rp = go (fits st.opens l) (names st l) (limits st l) (in_place l y) q
+            where
+              go : (a b c : Bool) → judged k last st (some l) ≡ by_tests k st l (not a) b c → told_by a b c ≡ None → Judged k (judged k last st (some l)) H' (Ok p)
+              go true true true e q = is_good (judged k last st (some l)) (after k l st) p e rp
+              go true true false e q = absurd (let z : ◌≡◌ {A = ℕ} 0 1 = cc in omega arith)
+              go true false c e q = absurd (let z : ◌≡◌ {A = ℕ} 0 1 = cc in omega arith)
+              go false b c e q = absurd (let z : ◌≡◌ {A = ℕ} 0 1 = cc in omega arith)
+
+          pub judged_line : (r : Result Progress Flaw) → Concludes (flaw_of st) (λ l p. Represents (H' p) (after k l st)) (whole (read_by kd f) s) r
+              → Judged k (judge_line k last st s) H' r
+          unfolding Concludes
+          judged_line r cs = subst (λ (v : Verdict). Judged k v H' r) (sym read_as) (go (whole (read_by kd f) s) (line_stage kd f s) r cs)
+            where
+              go : (q : Parsed (List ℕ) Line) → Yields (λ l. stage_of l ≡ stage_by kd) q → (r : Result Progress Flaw)
+                  → Concludes (flaw_of st) (λ l p. Represents (H' p) (after k l st)) q r → Judged k (judged k last st (line_of q)) H' r
+              go broken y (Err e) c = is_refused (judged k last st none) BrokenForm e no_line c
+              go broken y (Ok p) c = absurd c
+              go (done l u) y (Err e) c = by_flaw l y e c
+              go (done l u) y (Ok p) c = flawless l y p c.0 c.1
 
 -- ---- what a good line keeps
 
@@ -183,7 +201,7 @@ module _ (k : ℕ) (last : Bool) (st : State) (s : List ℕ) (u : State) where
   which (refused n j) = 0
   which (good x) = 1
 
-  not_refused : {n : ℕ} → refused n k ≡ good u → ⊥
+  not_refused : {n : Flaw} → refused n k ≡ good u → ⊥
   not_refused e = let z : ◌≡◌ {A = ℕ} 0 1 = ap which e in omega arith
 
   abbrev state_of : Verdict → State
@@ -214,7 +232,7 @@ module _ (k : ℕ) (last : Bool) (st : State) (s : List ℕ) (u : State) where
       kept_some (some l) pe q = kept_line l pe (stands st l) (names st l) (limits st l) refl refl refl (last && not (finished (stage_of l))) q
 
       go : (a b c : Bool) (o : Option Line) → parse (tokens s) ≡ o
-          → choose (not a) (λ _. refused 2 k) (λ _. choose b (λ _. cond c (refused 2 k) (good st)) (λ _. judged k last st o)) ≡ good u → Kept st u (length s)
+          → choose (not a) (λ _. refused BrokenForm k) (λ _. choose b (λ _. cond c (refused BrokenForm k) (good st)) (λ _. judged k last st o)) ≡ good u → Kept st u (length s)
       go false b c o pe q = absurd (not_refused q)
       go true true true o pe q = absurd (not_refused q)
       go true true false o pe q = same_state q
@@ -222,12 +240,6 @@ module _ (k : ℕ) (last : Bool) (st : State) (s : List ℕ) (u : State) where
 
 -- ---- the last line
 
-pub ends_open : (last : Bool) (n : ℕ) → last ≡ false → last && not (finished n) ≡ false
-ends_open last n e = ap (λ (b : Bool). b && not (finished n)) e
-
-pub ends_late : (last : Bool) (m n : ℕ) → m ≡ n → 6 ≤ m → last && not (finished n) ≡ false
-ends_late last m n e b = ap (λ (x : Bool). last && not x) (le-leb 6 n (omega (arith, e))) ∙ and-false last
-
-pub ends_right : (last : Bool) (m n : ℕ) → m ≡ n → (last ≡ false) ⊎ (6 ≤ m) → last && not (finished n) ≡ false
-ends_right last m n e (inl h) = ends_open last n h
-ends_right last m n e (inr h) = ends_late last m n e h
+pub ends_right : (last : Bool) (m n : ℕ) → m ≡ n → ((last ≡ true) × (6 ≤ m)) ⊎ (last ≡ false) → last && not (finished n) ≡ false
+ends_right last m n e (inl h) = ap (λ (x : Bool). last && not x) (le-leb 6 n (omega (arith, e, h.1))) ∙ and-false last
+ends_right last m n e (inr h) = ap (λ (b : Bool). b && not (finished n)) h

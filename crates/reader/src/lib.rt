@@ -14,20 +14,11 @@ use kinds::{Kind, is_next, is_skipped, is_sound, kind_of, stage_of};
 use lexer::{line_end, lowered};
 use lines::{
     Progress, assign_line, before_do, close_line, data_line, directive_line, else_line,
-    end_do_line, end_if_line, if_line, integer_line, loop_line, onward,
+    end_do_line, end_if_line, if_line, integer_line, loop_line,
 };
 use names::Table;
 use rules::Grouping;
-
-// A line that is bad by its form or its place.
-fn broken_line(p: Progress) -> Progress
-    ensures { result.number ≡ 2 }
-{
-    let stage = p.stage;
-    let place = p.place;
-    let depth = p.depth;
-    onward(p, 2, stage, place, depth)
-}
+use syntax::Flaw;
 
 // ---- one line
 
@@ -41,14 +32,14 @@ fn line_by(
     initial: &mut [i32],
     code: &mut [u32],
     opens: &mut [u32; 8],
-) -> Progress
+) -> Result<Progress, Flaw>
     requires { Lent s.now line (held p table.old initial.old code.old opens.old) × Inside s.now k }
     ensures { Takes (read_by k) (stage_by k) s.now line
         (held p table.old initial.old code.old opens.old)
-        (held result table.new initial.new code.new opens.new) }
+        (λ q. held q table.new initial.new code.new opens.new) result }
 {
     match k {
-        Kind::Broken => broken_line(p),
+        Kind::Broken => Err(Flaw::BrokenForm),
         Kind::Integer => integer_line(s, p, table),
         Kind::Data => data_line(s, p, table, initial),
         Kind::Opening => directive_line(s, p, table),
@@ -72,24 +63,22 @@ fn spoken_line(
     initial: &mut [i32],
     code: &mut [u32],
     opens: &mut [u32; 8],
-) -> Progress
+) -> Result<Progress, Flaw>
     requires { Lent s.now line (held p table.old initial.old code.old opens.old) }
     ensures { true ≡ sound_line s.now → false ≡ skipped_line s.now
         → JudgesLine s.now last line
         (held p table.old initial.old code.old opens.old)
-        (held result table.new initial.new code.new opens.new) }
+        (λ q. held q table.new initial.new code.new opens.new) result }
 {
     let k = kind_of(s);
     let stage = stage_of(k);
-    if is_next(p.stage, stage) {
-        if last {
-            if stage < 6 {
-                return broken_line(p);
-            }
-        }
-        return line_by(s, k, line, p, table, initial, code, opens);
+    if !is_next(p.stage, stage) {
+        return Err(Flaw::BrokenForm);
     }
-    broken_line(p)
+    if last && stage < 6 {
+        return Err(Flaw::BrokenForm);
+    }
+    line_by(s, k, line, p, table, initial, code, opens)
 }
 
 // A line of a text, the last or not.
@@ -102,37 +91,40 @@ fn judge_line(
     initial: &mut [i32],
     code: &mut [u32],
     opens: &mut [u32; 8],
-) -> Progress
+) -> Result<Progress, Flaw>
     requires { Lent s.now line (held p table.old initial.old code.old opens.old) }
     ensures { JudgesLine s.now last line
         (held p table.old initial.old code.old opens.old)
-        (held result table.new initial.new code.new opens.new) }
+        (λ q. held q table.new initial.new code.new opens.new) result }
 {
-    if is_sound(s) {
-        if is_skipped(s) {
-            if last {
-                if p.stage < 6 {
-                    return broken_line(p);
-                }
-            }
-            return p;
-        }
+    if !is_sound(s) {
+        return Err(Flaw::BrokenForm);
+    }
+    if !is_skipped(s) {
         return spoken_line(s, last, line, p, table, initial, code, opens);
     }
-    broken_line(p)
+    if last && p.stage < 6 {
+        return Err(Flaw::BrokenForm);
+    }
+    Ok(p)
 }
 
 // ---- whole texts
 
-// How far a text was read, and the line that was read last.
-#[derive(Clone, Copy)]
-pub struct Reading {
+// The first bad line, and what is wrong with it; line 0 for a text that is too long.
+#[derive(Clone, Copy, Debug, PartialEq, Eq)]
+pub struct BadLine {
+    pub flaw: Flaw,
     pub line: u32,
-    pub progress: Progress,
 }
 
 // The lines of a text in lower case, up to the first bad one.
-fn read_lines(s: &[u8], table: &mut Table, initial: &mut [i32], code: &mut [u32]) -> Reading
+fn read_lines(
+    s: &[u8],
+    table: &mut Table,
+    initial: &mut [i32],
+    code: &mut [u32],
+) -> Result<Progress, BadLine>
     requires { (length s.now ≤ 2048) × Fresh table.old initial.old code.old }
     ensures { Reads (judge 1 nothing (lines s.now)) result table.new initial.new code.new }
 {
@@ -140,42 +132,40 @@ fn read_lines(s: &[u8], table: &mut Table, initial: &mut [i32], code: &mut [u32]
     let mut opens = [0; 8];
     let mut at = 0;
     let mut line = 1;
-    let mut p = before_do(0, 0, 0, 0, Grouping::Iterations);
+    let mut p = before_do(0, 0, 0, Grouping::Iterations);
     while at <= n {
         let e = line_end(s, at);
         let last = n <= e + 1;
-        p = judge_line(&s[at..e], last, line, p, table, initial, code, &mut opens);
-        if p.number != 0 {
-            return Reading { line, progress: p };
+        match judge_line(&s[at..e], last, line, p, table, initial, code, &mut opens) {
+            Ok(q) => p = q,
+            Err(flaw) => return Err(BadLine { flaw, line }),
         }
         if last {
-            return Reading { line, progress: p };
+            return Ok(p);
         }
         at = e + 1;
         line += 1;
     }
-    Reading { line, progress: p }
+    Ok(p)
 }
 
-// A text over 2,048 bytes.
-fn too_long() -> Reading
-    ensures { (result.progress.number ≡ 1) × (result.line ≡ 0) }
-{
-    Reading {
-        line: 0,
-        progress: before_do(1, 0, 0, 0, Grouping::Iterations),
-    }
-}
-
-// A whole text: the number and the line of the first bad one, or what is known of it, with its names, the cells from its data and its code.
-// Free: after a refusal all that is lent to be written, and the progress but for its number; else the table's words that stand for no name, and the code past its end.
-pub fn read(text: &[u8], table: &mut Table, initial: &mut [i32], code: &mut [u32]) -> Reading
+// A whole text: its first bad line, or what is known of it, with its names, the cells from its data and its code.
+// Free: after a refusal all that is lent to be written; else the table's words that stand for no name, and the code past its end.
+pub fn read(
+    text: &[u8],
+    table: &mut Table,
+    initial: &mut [i32],
+    code: &mut [u32],
+) -> Result<Progress, BadLine>
     requires { Fresh table.old initial.old code.old }
     ensures { Reads (read_text text.now) result table.new initial.new code.new }
 {
     let n = text.len();
     if 2048 < n {
-        return too_long();
+        return Err(BadLine {
+            flaw: Flaw::TooLong,
+            line: 0,
+        });
     }
     let mut low = [0; 2048];
     lowered(text, &mut low);

@@ -8,7 +8,8 @@ use Rattle.int32.specs.Integers.{word, value, wrap, sum}
 use Rattle.rules.specs.declared.Operator.TheVariants.{Sum}
 use Rattle.rules.specs.Choose.{pick, put}
 use Rattle.rules.specs.Cells.{listed}
-use Rattle.rules.specs.Loop.{Act, read, write, update, done, reduction, Loop}
+use Rattle.rules.specs.declared.Class.TheVariants.{Reduction as reduction}
+use Rattle.rules.specs.Loop.{Act, read, write, update, done, Loop}
 use Rattle.rules.specs.Log.{only}
 use Rattle.rules.specs.Serial.{Result, along, from, serial}
 use Rattle.rules.specs.Decide.{change, either?, both?, find, kind?, has?}

@@ -4,7 +4,7 @@
 
 // What is kept of a cell: 1 + the iteration that touched it last (0: none), and whether that one writes or updates it; of the lower iterations, the highest stage
 // of one that writes or updates it, and of one that touches it.
-#[derive(Clone, Copy)]
+#[derive(Clone, Copy, Debug, PartialEq, Eq)]
 pub struct Row {
     pub last: u32,
     pub changes: bool,

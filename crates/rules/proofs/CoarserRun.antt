@@ -5,7 +5,9 @@ use mathlib.Core.List.{[], ◌∷◌}
 use Prim.Native.Nat.{ℕ, ◌<◌}
 use native.Mathlib.Decide.{ℕ_discrete, dec_lt}
 use native.Mathlib.Omega.{arith}
-use Rattle.rules.specs.Loop.{Class, shared, lastprivate, copied, reduction, Loop, Partition}
+use Rattle.rules.specs.declared.Class.{Class}
+use Rattle.rules.specs.declared.Class.TheVariants.{Shared as shared, Lastprivate as lastprivate, Copied as copied, Reduction as reduction}
+use Rattle.rules.specs.Loop.{Loop, Partition}
 use Rattle.rules.specs.Log.{Kind, reads, writes, Access, access, iteration, Log, only, each, Has, newest, older, Exposed, first, earlier, Ordinary, a_read, a_write}
 use Rattle.rules.specs.LogLaws.{only_same, only_other, extends_only, has_more, exposed_more, has_all, has_nil, exposed_nil, only_only}
 use Rattle.rules.specs.Marks.{has_some}

@@ -3,7 +3,9 @@ use mathlib.Core.Logic.{inl, inr}
 use mathlib.Core.List.{◌∷◌}
 use Prim.Native.Nat.{ℕ}
 use native.Mathlib.Omega.{arith}
-use Rattle.rules.specs.Loop.{Class, shared, lastprivate, copied, reduction, Reduces, Loop}
+use Rattle.rules.specs.declared.Class.{Class}
+use Rattle.rules.specs.declared.Class.TheVariants.{Shared as shared, Lastprivate as lastprivate, Copied as copied, Reduction as reduction}
+use Rattle.rules.specs.Loop.{Reduces, Loop}
 use Rattle.rules.specs.Obstacles.{Clash, Stale, Late, Mixed, ObstacleAt, Obstacle, Obstructed}
 use Rattle.rules.specs.Log.{Access, Log, only}
 use Rattle.rules.specs.LogLaws.{Extends, extends_only, has_more, exposed_more, ordinary_more}

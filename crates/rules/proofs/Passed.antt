@@ -7,7 +7,9 @@ use Prim.Native.Nat.{ℕ, suc}
 use native.Mathlib.Omega.{arith}
 use lib.IntN.{ℤ}
 use Rattle.rules.specs.Operation.{Operation, Lawful, operation}
-use Rattle.rules.specs.Loop.{Class, shared, lastprivate, copied, reduction, Reduces, operator, Loop, joining, Partition}
+use Rattle.rules.specs.declared.Class.{Class}
+use Rattle.rules.specs.declared.Class.TheVariants.{Shared as shared, Lastprivate as lastprivate, Copied as copied, Reduction as reduction}
+use Rattle.rules.specs.Loop.{Reduces, operator, Loop, joining, Partition}
 use Rattle.rules.specs.Log.{Log, writes, updates, Has, a_write, each}
 use Rattle.rules.specs.LogLaws.{has_only}
 use Rattle.rules.proofs.Job.{Job, span_none}

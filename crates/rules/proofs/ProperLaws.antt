@@ -1,7 +1,8 @@
 -- What `Proper` says of an iteration holds of a group of them.
 use Prim.Native.Nat.{ℕ, zero, suc}
 use lib.IntN.{ℤ}
-use Rattle.rules.specs.Loop.{Act, read, write, update, fault, done, Class, Reduces, Loop, Partition}
+use Rattle.rules.specs.declared.Class.{Class}
+use Rattle.rules.specs.Loop.{Act, read, write, update, fault, done, Reduces, Loop, Partition}
 use Rattle.rules.proofs.Job.{Job, reading, writing, updating, failing, idle, before, chain}
 use Rattle.rules.specs.Proper.{Sums, Proper}
 

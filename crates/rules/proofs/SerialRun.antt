@@ -9,7 +9,9 @@ use native.Mathlib.Omega.{arith}
 use lib.IntN.{ℤ}
 use Rattle.rules.specs.Choose.{pick, put}
 use Rattle.rules.specs.ChooseLaws.{pick_same, pick_other, put_same, put_other}
-use Rattle.rules.specs.Loop.{Act, read, write, update, fault, done, Class, shared, lastprivate, copied, reduction, Reduces, Loop, joining, Partition}
+use Rattle.rules.specs.declared.Class.{Class}
+use Rattle.rules.specs.declared.Class.TheVariants.{Shared as shared, Lastprivate as lastprivate, Copied as copied, Reduction as reduction}
+use Rattle.rules.specs.Loop.{Act, read, write, update, fault, done, Reduces, Loop, joining, Partition}
 use Rattle.rules.specs.Log.{reads, writes, updates, Access, access, iteration, Log, only, each, written, Has, newest, older, first, Ordinary, a_read}
 use Rattle.rules.specs.LogLaws.{only_same, only_other, only_nil, written_newest, written_none, written_only_leaving, some_or_none, Writing, writing, leaving, writing?, has_only, has_nil, has_more, extends_only, own_or_other}
 use Rattle.rules.specs.Obstacles.{ObstacleAt, Late}

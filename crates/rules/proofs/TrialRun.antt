@@ -9,7 +9,9 @@ use native.Mathlib.Omega.{arith}
 use lib.IntN.{ℤ}
 use Rattle.rules.specs.ChooseLaws.{pick_same, pick_other, put_same, put_other, below_yes, below_no}
 use Rattle.rules.specs.Choose.{put}
-use Rattle.rules.specs.Loop.{Act, read, write, update, fault, done, Class, shared, lastprivate, copied, reduction, Loop, bound, Partition}
+use Rattle.rules.specs.declared.Class.{Class}
+use Rattle.rules.specs.declared.Class.TheVariants.{Shared as shared, Lastprivate as lastprivate, Copied as copied, Reduction as reduction}
+use Rattle.rules.specs.Loop.{Act, read, write, update, fault, done, Loop, bound, Partition}
 use Rattle.rules.specs.Log.{reads, writes, access, Log, only, written, Has, newest, a_read}
 use Rattle.rules.specs.LogLaws.{only_same, has_more, extends_only, own_or_other}
 use Rattle.rules.specs.Obstacles.{ObstacleAt}

@@ -3,6 +3,8 @@
 -- Cells are functions from a cell's number, counted from 0: an update at one cell is `put`, and two states are equal when every cell is.
 -- `Cells` goes from what the code holds, a list, to a function and back.
 use Rattle.std.specs.Prelude.{ℕ, ℤ}
+use Rattle.rules.specs.declared.Class.{Class}
+use Rattle.rules.specs.declared.Class.TheVariants.{Shared as shared, Lastprivate as lastprivate, Copied as copied, Reduction as reduction}
 use Rattle.rules.specs.declared.Operator.{Operator}
 use Rattle.rules.specs.declared.Operator.TheVariants.{Sum}
 use Rattle.rules.specs.Operation.{Operation, operation}
@@ -15,12 +17,8 @@ pub data Act : Type 0 where
   fault : ℕ → ℕ → Act
   done : Act
 
--- what a cell is by the clauses of its name; "a name in no clause is shared". Document 02, Point 5: "A name may stand in `firstprivate` and
+-- A `Class` is what a cell is by the clauses of its name; "a name in no clause is shared". Document 02, Point 5: "A name may stand in `firstprivate` and
 -- `lastprivate` together": its cells are `copied`. Point 6: "Add `reduction(*:list)` and `reduction(max:list)`"
-pub data Class : Type 0 where
-  shared lastprivate copied : Class
-  reduction : Operator → Class
-
 -- the cells of this class may be updated
 abbrev pub Reduces : Class → Type 0
 Reduces shared = ⊥

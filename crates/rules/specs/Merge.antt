@@ -3,7 +3,9 @@ use Rattle.std.specs.Prelude.{[], ◌∷◌, Bool, true, false, cond, ℕ, zero,
 use Rattle.std.proofs.Math.Option.{Option, none, some, get_or}
 use Rattle.rules.specs.Choose.{pick, below}
 use Rattle.rules.specs.Operation.{Operation, operation}
-use Rattle.rules.specs.Loop.{Class, shared, lastprivate, copied, reduction, Loop, Partition, bound}
+use Rattle.rules.specs.declared.Class.{Class}
+use Rattle.rules.specs.declared.Class.TheVariants.{Shared as shared, Lastprivate as lastprivate, Copied as copied, Reduction as reduction}
+use Rattle.rules.specs.Loop.{Loop, Partition, bound}
 use Rattle.rules.specs.Log.{reads, writes, updates, Access, access, iteration, Log, each, written}
 use Rattle.rules.specs.Steps.{State}
 

@@ -1,10 +1,10 @@
--- The numbers of classes, which Name answers (RULES 9.2 c). The rest are devices: operators and groups by their numbers, as the code has them.
+-- The numbers of classes, which Name answers (RULES 9.2 c). The rest are devices: classes and groups by their numbers, as the code has them.
 use Rattle.std.specs.Prelude.{ℕ, eqb, cond}
 use Rattle.rules.specs.declared.Grouping.{Grouping}
 use Rattle.rules.specs.declared.Grouping.TheVariants.{Iterations, Blocks}
-use Rattle.rules.specs.declared.Operator.{Operator}
 use Rattle.rules.specs.declared.Operator.TheVariants.{Sum, Product, Maximum}
-use Rattle.rules.specs.Loop.{Class, shared, lastprivate, copied, reduction}
+use Rattle.rules.specs.declared.Class.{Class}
+use Rattle.rules.specs.declared.Class.TheVariants.{Shared as shared, Lastprivate as lastprivate, Copied as copied, Reduction as reduction}
 
 -- of a class, in the table of names and in the shadow tables
 abbrev pub class_number : Class → ℕ
@@ -15,9 +15,13 @@ class_number copied = 3
 class_number (reduction Product) = 4
 class_number (reduction Maximum) = 5
 
--- the operator of a class by its number
-abbrev pub operator_by : ℕ → Operator
-operator_by k = cond (eqb k 4) Product (cond (eqb k 5) Maximum Sum)
+-- the class of a number; that of a number that no class has stands for nothing
+abbrev pub class_by : ℕ → Class
+class_by k =
+    cond
+    (eqb k 0)
+    shared
+    (cond (eqb k 1) lastprivate (cond (eqb k 3) copied (cond (eqb k 4) (reduction Product) (cond (eqb k 5) (reduction Maximum) (reduction Sum)))))
 
 -- of the group of iteration i, which processor p has (`tested_group`, proofs/BlocksLaws)
 abbrev pub grouped : Grouping → ℕ → ℕ → ℕ

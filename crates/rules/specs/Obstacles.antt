@@ -3,7 +3,9 @@
 use Rattle.std.specs.Prelude.{◌≢◌, ◌⊎◌, ℕ, ◌<◌}
 use Rattle.std.proofs.Common.{inl, inr, subst, arith}
 use Rattle.std.proofs.Math.Decide.{ℕ_discrete, dec_lt}
-use Rattle.rules.specs.Loop.{Class, shared, lastprivate, copied, reduction, Loop}
+use Rattle.rules.specs.declared.Class.{Class}
+use Rattle.rules.specs.declared.Class.TheVariants.{Shared as shared, Lastprivate as lastprivate, Copied as copied, Reduction as reduction}
+use Rattle.rules.specs.Loop.{Loop}
 use Rattle.rules.specs.Log.{Kind, writes, updates, Access, access, Log, only, Has, newest, older, Exposed, Ordinary}
 use Rattle.rules.specs.LogLaws.{has_all, exposed_nil, ordinary_nil}
 use Rattle.rules.specs.Decide.{change, either?, both?, not?, find, has?, exposed?, ordinary?, over, two?}

@@ -1,6 +1,7 @@
 -- What is asked of a loop and of the way its iterations are dealt out. Each holds for every accepted text, for the reason given.
 use Rattle.std.specs.Prelude.{◌≡◌, ℕ, suc, ◌≤◌, ◌<◌, ℤ}
-use Rattle.rules.specs.Loop.{Act, read, write, update, fault, done, Class, Reduces, Loop, Partition}
+use Rattle.rules.specs.declared.Class.{Class}
+use Rattle.rules.specs.Loop.{Act, read, write, update, fault, done, Reduces, Loop, Partition}
 
 -- only reduction cells are updated
 abbrev pub Sums : (ℕ → Class) → Act → Type 0

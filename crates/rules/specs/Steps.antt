@@ -3,7 +3,9 @@ use Rattle.std.specs.Prelude.{List, [], ◌∷◌, ℕ, zero, suc, ◌-◌, ◌<
 use Rattle.std.proofs.Math.Option.{get_or}
 use Rattle.std.proofs.Math.Decide.{dec_lt}
 use Rattle.rules.specs.Choose.{put, below}
-use Rattle.rules.specs.Loop.{Act, read, write, update, fault, done, Class, shared, lastprivate, copied, reduction, Loop, Partition, bound}
+use Rattle.rules.specs.declared.Class.{Class}
+use Rattle.rules.specs.declared.Class.TheVariants.{Shared as shared, Lastprivate as lastprivate, Copied as copied, Reduction as reduction}
+use Rattle.rules.specs.Loop.{Act, read, write, update, fault, done, Loop, Partition, bound}
 use Rattle.rules.specs.Log.{reads, writes, updates, Access, access, Log, only, written}
 use Rattle.rules.specs.Decide.{both?, find}
 

@@ -4,34 +4,84 @@
 
 ghost use Rattle.std.specs.Prelude.{◌≡◌, ◌≤◌, ◌<◌};
 ghost use Rattle.rules.specs.Blocks.{block_start};
-ghost use Rattle.rules.specs.Numbers.{grouped, operator_by};
+ghost use Rattle.rules.specs.Loop.{operator};
+ghost use Rattle.rules.specs.Numbers.{grouped, class_number, class_by};
 ghost use Rattle.rules.specs.Operation.{operation};
 
 // The index of an iteration, from 0. It is never used for a processor's number.
-#[derive(Clone, Copy)]
+#[derive(Clone, Copy, Debug, PartialEq, Eq)]
 pub struct Iteration(pub u32);
 
 // The number of a group of neighbouring iterations, by which own writes, marks and obstacles go. It is never used for an iteration or a processor.
-#[derive(Clone, Copy)]
+#[derive(Clone, Copy, Debug, PartialEq, Eq)]
 pub struct Group(pub u32);
 
 // The number of a processor, from 0. It is never used for an iteration's index.
-#[derive(Clone, Copy)]
+#[derive(Clone, Copy, Debug, PartialEq, Eq)]
 pub struct Processor(pub u32);
 
 // How a text's iterations are grouped: each is a group of its own, or a processor's block is one (RULES 4.1 b).
-#[derive(Clone, Copy)]
+#[derive(Clone, Copy, Debug, PartialEq, Eq)]
 pub enum Grouping {
     Iterations,
     Blocks,
 }
 
 // The operator of a reduction (RULES 3.2 c): what an update does to its cell, and partial results to one another.
-#[derive(Clone, Copy)]
+#[derive(Clone, Copy, Debug, PartialEq, Eq)]
 pub enum Operator {
     Sum,
     Product,
     Maximum,
+}
+
+// The class of a cell (RULES 1.7): shared, last private, copied in, or updated by an operator alone.
+#[derive(Clone, Copy, Debug, PartialEq, Eq)]
+pub enum Class {
+    Shared,
+    Lastprivate,
+    Copied,
+    Reduction(Operator),
+}
+
+impl Class {
+    // The operator of its updates. The other classes have none, and theirs stands for nothing.
+    pub fn operator(self) -> Operator
+        ensures { result ≡ operator self }
+    {
+        match self {
+            Class::Reduction(operator) => operator,
+            _ => Operator::Sum,
+        }
+    }
+
+    // Its number, which Name answers (RULES 9.2 c), and which the words of the tables hold.
+    pub fn number(self) -> u32
+        ensures { (result ≡ class_number self) × (result ≤ 5) }
+    {
+        match self {
+            Class::Shared => 0,
+            Class::Lastprivate => 1,
+            Class::Copied => 3,
+            Class::Reduction(Operator::Sum) => 2,
+            Class::Reduction(Operator::Product) => 4,
+            Class::Reduction(Operator::Maximum) => 5,
+        }
+    }
+
+    // The class of a number. That of a number that no class has stands for nothing.
+    pub fn of_number(number: u32) -> Class
+        ensures { result ≡ class_by number }
+    {
+        match number {
+            0 => Class::Shared,
+            1 => Class::Lastprivate,
+            3 => Class::Copied,
+            4 => Class::Reduction(Operator::Product),
+            5 => Class::Reduction(Operator::Maximum),
+            _ => Class::Reduction(Operator::Sum),
+        }
+    }
 }
 
 // The group of an iteration of a processor.
@@ -42,32 +92,6 @@ pub fn group_of(grouping: Grouping, i: Iteration, p: Processor) -> Group
         Grouping::Iterations => Group(i.0),
         Grouping::Blocks => Group(p.0),
     }
-}
-
-// The numbers of the classes, as `class_number` of specs/Numbers.antt gives them.
-pub const SHARED: u32 = 0;
-
-pub const LASTPRIVATE: u32 = 1;
-
-pub const SUM: u32 = 2;
-
-pub const COPIED: u32 = 3;
-
-pub const PRODUCT: u32 = 4;
-
-pub const MAXIMUM: u32 = 5;
-
-// The operator of a class.
-pub fn operator_of(class: u32) -> Operator
-    ensures { result ≡ operator_by class }
-{
-    if class == PRODUCT {
-        return Operator::Product;
-    }
-    if class == MAXIMUM {
-        return Operator::Maximum;
-    }
-    Operator::Sum
 }
 
 // Two numbers brought together by an operator.
@@ -92,14 +116,8 @@ pub fn neutral(o: Operator) -> i32
     }
 }
 
-// A processor's place among the records.
-pub fn index_of(p: Processor) -> usize
-    ensures { result ≡ p.0 }
-{
-    p.0 as usize
-}
-
 // The first iteration of processor p, of so many iterations and processors. The one after the last processor stands for the end.
+#[tactic(auto, unfolding(crate::specs::Blocks::block_start))]
 pub fn block_start(iterations: u32, processors: u32, p: Processor) -> Iteration
     requires { (iterations ≤ 65535) × ((0 < processors) × ((processors ≤ 8) × (p.0 ≤ processors))) }
     ensures { result.0 ≡ block_start iterations processors p.0 }

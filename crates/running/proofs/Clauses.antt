@@ -6,7 +6,7 @@ use Prim.Native.Nat.{ℕ, suc, ◌≤◌}
 use native.Mathlib.Omega.{arith}
 use lib.ListN.{length}
 use Rattle.rules.specs.declared.Grouping.TheVariants.{Iterations}
-use Rattle.rules.specs.Loop.{lastprivate, copied, reduction}
+use Rattle.rules.specs.declared.Class.TheVariants.{Lastprivate as lastprivate, Copied as copied, Reduction as reduction}
 use Rattle.syntax.specs.Bytes.{any, same}
 use Rattle.syntax.specs.declared.ClauseKind.{ClauseKind}
 use Rattle.syntax.specs.declared.ClauseKind.TheVariants.{Shared, Lastprivate, Firstprivate, Reduction}

@@ -19,9 +19,12 @@ use Rattle.syntax.specs.Text.{Verdict, good, read}
 use Rattle.syntax.specs.Meaning.{loop_of, partition_of}
 use Rattle.syntax.proofs.ProperLoop.{accepted_proper}
 use Rattle.syntax.proofs.Theorem.{accepted_complete}
-use Rattle.answers.specs.Answers.{run_number, taken, answered, settles, run_of, cells_run}
+use Rattle.answers.specs.Answers.{counted, fail, run_number, taken, answered, settles, run_of, cells_run}
+use Rattle.std.specs.Prelude.{Result, Ok, Err}
+use Rattle.answers.specs.declared.Failure.{Failure}
 use Rattle.answers.specs.declared.Ran.{Ran}
-use Rattle.answers.specs.declared.Ran.TheVariants.{Passed, Rerun, Faulted, Refused}
+use Rattle.answers.specs.declared.Counts.{Counts}
+use Rattle.answers.specs.declared.Ran.TheVariants.{Passed, Rerun}
 use Rattle.running.specs.Alike.{reclaused, redirected, dealing, ungrouping, but_for_the_word}
 use Rattle.running.proofs.Redirected.{Redirects, relearnt}
 
@@ -29,7 +32,7 @@ use Rattle.running.proofs.Redirected.{Redirects, relearnt}
 module _ (text : List ℕ) (s : State) (e : read text ≡ good s) (M : List ℤ) (w : ℕ) (ps : List ℕ) (z : run_number s (length M) w ps ≡ 0) where
   pub answer_is : run_of (read text) M w ps ≡ answered s (settles s M).answer
   unfolding run_of
-  answer_is = ap (λ (v : Verdict). run_of v M w ps) e ∙ ap (λ (n : ℕ). taken n (answered s (settles s M).answer) (Refused n 0)) z
+  answer_is = ap (λ (v : Verdict). run_of v M w ps) e ∙ ap (λ (n : ℕ). taken n (answered s (settles s M).answer) (fail n 0)) z
 
   pub cells_are : cells_run (read text) M w ps ≡ (settles s M).cells
   unfolding cells_run
@@ -61,16 +64,17 @@ unfolding loop_of
 settles_but_for_the_word P G s M = settled_alike (loop_of s M) (partition_of s).group (partition_of (redirected P G s)).group
 
 -- an answer that is passed
-abbrev if_passed : Ran → Answer
-if_passed (Passed a b) = passed a b
-if_passed (Rerun a b) = rerun 0 0
-if_passed (Faulted n t v) = rerun 0 0
-if_passed (Refused n k) = rerun 0 0
+abbrev if_passed : Result Ran Failure → Answer
+if_passed (Ok (Passed c)) = passed c.pairs c.cells
+if_passed (Ok (Rerun c)) = rerun 0 0
+if_passed (Err f) = rerun 0 0
 
-pub answered_passed : (s : State) (x : Answer) (a b : ℕ) → answered s x ≡ Passed a b → x ≡ passed a b
+pub answered_passed : (s : State) (x : Answer) (a b : ℕ) → answered s x ≡ Ok (Passed (counted a b)) → x ≡ passed a b
 answered_passed s (passed c d) a b h = ap if_passed h
-answered_passed s (rerun c d) a b h = let z : ◌≡◌ {A = ℕ} 0 1 = ap (λ (r : Ran). has_passed (if_passed r)) h in absurd (omega arith)
-answered_passed s (faulted n t i) a b h = let z : ◌≡◌ {A = ℕ} 0 1 = ap (λ (r : Ran). has_passed (if_passed r)) h in absurd (omega arith)
+answered_passed s (rerun c d) a b h =
+    let z : ◌≡◌ {A = ℕ} 0 1 = ap (λ (r : Result Ran Failure). has_passed (if_passed r)) h in absurd (omega arith)
+answered_passed s (faulted n t i) a b h =
+    let z : ◌≡◌ {A = ℕ} 0 1 = ap (λ (r : Result Ran Failure). has_passed (if_passed r)) h in absurd (omega arith)
 
 pub settles_too : (text : List ℕ) (s : State) → read text ≡ good s → (M : List ℤ) (a b : ℕ)
     → (settles (ungrouping s) M).answer ≡ passed a b → settles s M ≡ settles (ungrouping s) M

@@ -15,7 +15,8 @@ use Rattle.syntax.specs.Known.{State, nothing}
 use Rattle.syntax.specs.Follows.{Program, Follows, learnt}
 use Rattle.syntax.specs.Text.{good, read}
 use Rattle.syntax.proofs.Theorem.{accepted_complete}
-use Rattle.answers.specs.Answers.{run_number, answered, settles, run_of, cells_run}
+use Rattle.answers.specs.Answers.{counted, run_number, answered, settles, run_of, cells_run}
+use Rattle.std.specs.Prelude.{Ok}
 use Rattle.answers.specs.declared.Ran.TheVariants.{Passed}
 use Rattle.running.specs.Alike.{reclaused, redealt, unscheduled, redirected, dealing, ungrouping, but_for_the_word}
 use Rattle.running.proofs.Clauses.{rethreads, unschedules}
@@ -78,8 +79,8 @@ alike_but_for_the_word text text' p d f f' M w w' ps ps' z z' =
 pub passes_with_the_clause_too : (text text' : List ℕ) (p : Program) → Follows text p → Follows text' (reclaused unscheduled p)
     → (M : List ℤ) (w w' : ℕ) (ps ps' : List ℕ)
     → run_number (learnt nothing p) (length M) w ps ≡ 0 → run_number (learnt nothing (reclaused unscheduled p)) (length M) w' ps' ≡ 0
-    → (a b : ℕ) → run_of (read text') M w' ps' ≡ Passed a b
-    → (run_of (read text) M w ps ≡ Passed a b) × (cells_run (read text) M w ps ≡ cells_run (read text') M w' ps')
+    → (a b : ℕ) → run_of (read text') M w' ps' ≡ Ok (Passed (counted a b))
+    → (run_of (read text) M w ps ≡ Ok (Passed (counted a b))) × (cells_run (read text) M w ps ≡ cells_run (read text') M w' ps')
 passes_with_the_clause_too text text' p f f' M w w' ps ps' z z' a b h =
     let s = learnt nothing p in
     let e = accepted_complete text p f in

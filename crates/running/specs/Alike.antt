@@ -1,13 +1,14 @@
 -- RULES 12 d: texts alike in all but the number of processors (demand 3) or the clause `schedule(static)` (document 02, Point 3), what is known of such
 -- texts, and answers alike but for the word passed or rerun.
-use Rattle.std.specs.Prelude.{List, [], ◌∷◌, ℕ}
+use Rattle.std.specs.Prelude.{List, [], ◌∷◌, ℕ, Result, Ok, Err}
 use Rattle.rules.specs.declared.Grouping.{Grouping}
 use Rattle.rules.specs.declared.Grouping.TheVariants.{Iterations}
 use Rattle.syntax.specs.Grammar.{Clause, clause, threads, static, declare, give, direct, loop, inside, end_do, close}
 use Rattle.syntax.specs.Known.{State}
 use Rattle.syntax.specs.Follows.{Program}
+use Rattle.answers.specs.declared.Failure.{Failure}
 use Rattle.answers.specs.declared.Ran.{Ran}
-use Rattle.answers.specs.declared.Ran.TheVariants.{Passed, Rerun, Faulted, Refused}
+use Rattle.answers.specs.declared.Ran.TheVariants.{Passed, Rerun}
 
 -- ---- texts, by their lines
 
@@ -67,8 +68,7 @@ ungrouping = redirected (λ p. p) (λ _. Iterations)
 -- ---- answers
 
 -- without the word passed or rerun: the write counts, the fault or the refusal
-abbrev pub but_for_the_word : Ran → Ran
-but_for_the_word (Passed a b) = Rerun a b
-but_for_the_word (Rerun a b) = Rerun a b
-but_for_the_word (Faulted n t v) = Faulted n t v
-but_for_the_word (Refused n k) = Refused n k
+abbrev pub but_for_the_word : Result Ran Failure → Result Ran Failure
+but_for_the_word (Ok (Passed c)) = Ok (Rerun c)
+but_for_the_word (Ok (Rerun c)) = Ok (Rerun c)
+but_for_the_word (Err f) = Err f

@@ -11,7 +11,7 @@ use Rattle.rules.specs.Choose.{put}
 use Rattle.rules.specs.Cells.{cell_of, listed}
 use Rattle.rules.proofs.CellsLaws.{listed_length, cell_listed}
 use Rattle.rules.specs.Operation.{operation}
-use Rattle.rules.specs.Loop.{Loop, joining, Partition}
+use Rattle.rules.specs.Loop.{operator, Loop, joining, Partition}
 use Rattle.rules.specs.Blocks.{singles}
 use Rattle.rules.specs.Log.{Kind, reads, writes, updates, access, Log}
 use Rattle.rules.specs.LogLaws.{only_other}
@@ -19,7 +19,7 @@ use Rattle.rules.proofs.Progress.{bound_first, bound_last}
 use Rattle.rules.proofs.TrialRun.{home}
 use Rattle.shadow.specs.Orderly.{turn_cons, inside_cons, worker}
 use Rattle.tables.specs.Logged.{Logged}
-use Rattle.tables.proofs.Logged.{logged_operator}
+use Rattle.tables.proofs.Logged.{logged_class}
 use Rattle.noting.proofs.Logging.{logged_read, logged_write, logged_update, logged_ready}
 use Rattle.stepping.specs.declared.Role.{Role}
 use Rattle.stepping.specs.Access.{Accessible, seen_by, stored_by, joined_by, seen, read_words, stored, written_words, joined, updated_words}
@@ -96,10 +96,10 @@ module _ (l : Loop) (i c : ℕ) (M : List ℤ) (W : List ℕ) (m : ℕ → ℤ) 
   pub serves_update : (y : ℤ) → Serially l i (joined x M W c y) (updated_words x i W c y) (put m c ((joining l c).join (m c) y)) (access updates i c y ∷ g)
   unfolding singles joined_by
   serves_update y =
-      let o = logged_operator l δ g W s.stands.words c s.inside in
+      let o = logged_class l δ g W s.stands.words c s.inside in
       let z : ℤ = (joining l c).join (m c) y in
       more updates y _ _ (put m c z)
-      ((λ n. set (s.stands.cells n) c ((operation (o n)).join (stands_as n) y)) ∙ listed_set l.size m c z s.inside)
+      ((λ n. set (s.stands.cells n) c ((operation (operator (o n))).join (stands_as n) y)) ∙ listed_set l.size m c z s.inside)
       (logged_update l δ g W s.stands.words 0 i c mine s.inside low y)
 
 -- the next iteration

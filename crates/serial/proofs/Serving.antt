@@ -3,7 +3,8 @@ use mathlib.Core.Path.{◌≡◌}
 use mathlib.Core.List.{List, ◌∷◌}
 use Prim.Native.Nat.{ℕ, suc, ◌-◌, ◌<◌}
 use lib.IntN.{ℤ}
-use Rattle.rules.specs.Choose.{pick, below}
+use Rattle.std.specs.declared.option.Option.TheVariants.{None}
+use Rattle.rules.specs.Choose.{below}
 use Rattle.rules.specs.Loop.{Loop}
 use Rattle.rules.specs.Log.{reads, writes, updates, access, Log}
 use Rattle.rules.specs.Proper.{Sized}
@@ -11,7 +12,7 @@ use Rattle.rules.specs.Serial.{finished, failed, Result, along, from, serial}
 use Rattle.operands.specs.declared.Move.{Move}
 use Rattle.operands.specs.declared.Move.TheVariants.{Read, Write, Update, Fault, End}
 use Rattle.operands.specs.Pending.{Holding}
-use Rattle.stepping.specs.Step.{Scene, at}
+use Rattle.stepping.specs.Step.{by_fault, Scene, at}
 use Rattle.stepping.proofs.Happening.{rest}
 use Rattle.trial.specs.Standing.{Coded}
 use Rattle.serial.specs.Serving.{alone, Serially}
@@ -25,15 +26,14 @@ pub record Serves (l : Loop) (i c : ℕ) (M : List ℤ) (W : List ℕ) (m : ℕ 
 -- what the run comes to from a scene, with the cells m and the accesses g
 unfoldable pub onward : Loop → List ℕ → ℤ → Scene → (ℕ → ℤ) → Log → Result
 onward l code v z m g =
-    pick
+    by_fault
     z.point.fault
-    0
     (below
     (at z)
     l.iterations
     (along l (at z) (rest (alone v l.iterations) code z) m g (from l (l.iterations - suc (at z)) (suc (at z))))
     (record { cells = m; log = g; outcome = finished }))
-    (record { cells = m; log = g; outcome = failed z.point.fault z.point.line (at z) })
+    (λ f. record { cells = m; log = g; outcome = failed f.number f.line (at z) })
 
 -- the accesses g after a move of iteration i over the cells m
 abbrev pub grown : ℕ → (ℕ → ℤ) → Log → Move → Log
@@ -48,7 +48,7 @@ pub record Serving (code : List ℕ) (v : ℤ) (l : Loop) (z : Scene) (m : ℕ �
   pub stands : Serially l (at z) z.cells z.words m g
   pub holding : Holding z.pending z.point.depth
   pub result : serial l ≡ onward l code v z m g
-  pub sized : z.point.fault ≡ 0 → at z < l.iterations → Sized l.size (rest (alone v l.iterations) code z)
+  pub sized : z.point.fault ≡ None → at z < l.iterations → Sized l.size (rest (alone v l.iterations) code z)
 
 -- with some cells and accesses
 abbrev pub SerialAt : List ℕ → ℤ → Loop → Scene → Type 0

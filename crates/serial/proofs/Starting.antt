@@ -5,6 +5,7 @@ use Prim.Native.Nat.{ℕ, ◌+◌, ◌*◌, ◌≤◌}
 use native.Mathlib.Nat.{mul-le-mul_left}
 use native.Mathlib.Omega.{arith}
 use lib.IntN.{ℤ}
+use Rattle.rules.specs.declared.Class.{Class}
 use Rattle.rules.specs.Loop.{Loop, Partition}
 use Rattle.rules.specs.Blocks.{singles}
 use Rattle.rules.proofs.BlocksLaws.{singles_proper}
@@ -30,7 +31,7 @@ suits_one k l δ h =
     }
 
 -- the serial run may begin where the trial may
-pub serials_of : (code : List ℕ) (g : Setting) (l : Loop) (M : List ℤ) (C : List ℕ) (n : ℕ) → Starts code g l M C n → Serials code g l M C n
+pub serials_of : (code : List ℕ) (g : Setting) (l : Loop) (M : List ℤ) (C : List Class) (n : ℕ) → Starts code g l M C n → Serials code g l M C n
 serials_of code g l M C n h =
     let e = h.entry in
     let q : 6 + 5 * 1 ≤ 6 + 5 * g.processors = omega (arith, e.suits.some) in

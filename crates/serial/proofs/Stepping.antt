@@ -1,15 +1,19 @@
 -- The serial run, step by step.
 use mathlib.Core.Path.{◌≡◌, refl, sym, ◌∙◌, ap, subst}
-use mathlib.Core.Logic.{◌≢◌, ◌⊎◌, inl, inr}
+use mathlib.Core.Logic.{◌⊎◌, inl, inr}
 use mathlib.Core.Bool.{true}
 use mathlib.Core.List.{List, [], ◌∷◌}
 use Prim.Native.Nat.{ℕ, zero, suc, ◌+◌, ◌-◌, ◌≤◌, ◌<◌}
-use native.Mathlib.Decide.{ℕ_discrete}
 use native.Mathlib.Omega.{arith}
 use lib.ListN.{length}
 use lib.IntN.{ℤ}
+use Rattle.std.specs.declared.option.Option.{Option}
+use Rattle.std.specs.declared.option.Option.TheVariants.{None, Some}
+use Rattle.std.specs.Prelude.{IsSome}
+use Rattle.rules.specs.declared.Class.{Class}
+use Rattle.stepping.specs.declared.Fault.{Fault}
 use Rattle.rules.specs.Choose.{put}
-use Rattle.rules.specs.ChooseLaws.{pick_same, pick_other, below_yes, below_no}
+use Rattle.rules.specs.ChooseLaws.{below_yes, below_no}
 use Rattle.rules.proofs.CellsLaws.{listed_length}
 use Rattle.rules.specs.Loop.{Act, Loop, joining}
 use Rattle.rules.specs.Log.{reads, writes, updates, access, Log, only}
@@ -26,7 +30,7 @@ use Rattle.stepping.specs.declared.Role.{Role}
 use Rattle.stepping.specs.Step.{Scene, unstopped as unstopped_at, scene, at, CanGo, Goes}
 use Rattle.stepping.specs.Carrying.{is_open, Reached, CanCarry, Carries}
 use Rattle.stepping.proofs.Happening.{rest, can_reach, Continues, Happens, happens}
-use Rattle.stepping.proofs.Opened.{opened_yes, opened_no}
+use Rattle.stepping.proofs.Opened.{opened_yes, opened_no, none_stops, not_both, by_none, by_some}
 use Rattle.trial.specs.declared.Setting.{Setting}
 use Rattle.trial.specs.Standing.{Coded}
 use Rattle.serial.specs.Serving.{by_one, alone, Serially, Serials, outcome_of, IsSerial}
@@ -41,18 +45,18 @@ module _ (l : Loop) (code : List ℕ) (v : ℤ) (z : Scene) (m : ℕ → ℤ) (g
   abbrev left_act : Act
   left_act = rest (alone v l.iterations) code z
 
-  onward_open : z.point.fault ≡ 0 → at z < l.iterations
+  onward_open : z.point.fault ≡ None → at z < l.iterations
       → onward l code v z m g ≡ along l (at z) left_act m g (from l (l.iterations - suc (at z)) (suc (at z)))
   unfolding onward
-  onward_open f b = pick_same f _ _ ∙ below_yes b _ _
+  onward_open f b = by_none f _ _ ∙ below_yes b _ _
 
-  onward_done : z.point.fault ≡ 0 → l.iterations ≤ at z → onward l code v z m g ≡ record { cells = m; log = g; outcome = finished }
+  onward_done : z.point.fault ≡ None → l.iterations ≤ at z → onward l code v z m g ≡ record { cells = m; log = g; outcome = finished }
   unfolding onward
-  onward_done f b = pick_same f _ _ ∙ below_no b _ _
+  onward_done f b = by_none f _ _ ∙ below_no b _ _
 
-  onward_failed : z.point.fault ≢ 0 → onward l code v z m g ≡ record { cells = m; log = g; outcome = failed z.point.fault z.point.line (at z) }
+  onward_failed : (f : Fault) → z.point.fault ≡ Some f → onward l code v z m g ≡ record { cells = m; log = g; outcome = failed f.number f.line (at z) }
   unfolding onward
-  onward_failed f = pick_other f _ _
+  onward_failed f e = by_some e _ _
 
   -- the body of an iteration that begins
   left_body : Coded code v l → z.point.place ≡ 0 → z.point.depth ≡ 0 → at z < l.iterations → left_act ≡ l.body (at z)
@@ -60,7 +64,7 @@ module _ (l : Loop) (code : List ℕ) (v : ℤ) (z : Scene) (m : ℕ → ℤ) (g
   left_body c p d b = rw (p, d) (sym (c.body (at z) b))
 
   -- an iteration that begins, or the end
-  pub onward_begin : Coded code v l → z.point.fault ≡ 0 → z.point.place ≡ 0 → z.point.depth ≡ 0 → (k : ℕ) → at z + k ≡ l.iterations
+  pub onward_begin : Coded code v l → z.point.fault ≡ None → z.point.place ≡ 0 → z.point.depth ≡ 0 → (k : ℕ) → at z + k ≡ l.iterations
       → from l k (at z) m g ≡ onward l code v z m g
   unfolding from
   onward_begin c f p d zero e = sym (onward_done f (omega arith))
@@ -77,7 +81,7 @@ module _ (code : List ℕ) (v : ℤ) (l : Loop) (z : Scene) (m : ℕ → ℤ) (g
   abbrev x : Role
   x = alone v l.iterations
 
-  unstopped : z.point.fault ≡ 0
+  unstopped : z.point.fault ≡ None
   unstopped = (opened_yes z.point l.iterations o).0
 
   low : at z < l.iterations
@@ -138,17 +142,17 @@ module _ (code : List ℕ) (v : ℤ) (l : Loop) (z : Scene) (m : ℕ → ℤ) (g
         let u = sized _ e in
         moved (put m c ((joining l c).join (m c) y)) (access updates (at z) c y ∷ g) r
         (rw (h, w) (serves_update l (at z) c z.cells z.words m g (serves c u.0) v y)) (goes _ e) u.1
-    by (happening.faults n d y e h w i f k r) = (
+    by (happening.faults n d e h w i f r) = (
       m,
       record {
         coded = s.coded;
         stands = rw (h, w, i) s.stands;
         holding = r;
-        result = goes _ e ∙ sym (onward_failed l code v z' m g (omega (arith, f, y)) ∙ rw (f, k, i));
-        sized = λ q _. absurd (omega (arith, f, y, q));
+        result = goes _ e ∙ sym (onward_failed l code v z' m g _ f ∙ rw i);
+        sized = λ q _. absurd (not_both _ _ q f);
       },
     )
-    by (happening.ends e h w i f k p d r) = (
+    by (happening.ends e h w i f p d r) = (
       m,
       record {
         coded = s.coded;
@@ -179,7 +183,7 @@ module _ (code : List ℕ) (v : ℤ) (l : Loop) (r : Role) (e : r ≡ alone v l.
   can_serve z s = rw e (λ y h o. let (m, g, t) = along_steps z y s h in serial_goes code v l y m g t o)
 
   -- where it ends
-  pub served : (z z' : Scene) → SerialAt code v l z → Carries ToTheEnd r code z z' → SerialAt code v l z' × ((z'.point.fault ≢ 0) ⊎ (l.iterations ≤ at z'))
+  pub served : (z z' : Scene) → SerialAt code v l z → Carries ToTheEnd r code z z' → SerialAt code v l z' × (IsSome z'.point.fault ⊎ (l.iterations ≤ at z'))
   unfolding Carries
   served z z' s h = let (y, o) = rw e at h in (along_steps z z' s y, opened_no z'.point l.iterations o)
 
@@ -198,7 +202,7 @@ serving_begin code v l i k M W m g c h n e a o =
       sized = λ _ lt. rw (left_body l code v z m g c refl refl lt) (h.suits.proper.sized i);
     }
 
-pub serial_start : (code : List ℕ) (x : Setting) (l : Loop) (M : List ℤ) (C : List ℕ) (n : ℕ) → Serials code x l M C n → (W : List ℕ)
+pub serial_start : (code : List ℕ) (x : Setting) (l : Loop) (M : List ℤ) (C : List Class) (n : ℕ) → Serials code x l M C n → (W : List ℕ)
     → Logged l (by_one l) [] W → (a : List ℤ) → Holding a 0 → SerialAt code x.from l (scene M W a (unstopped_at 0 0 0))
 unfolding serial only
 serial_start code x l M C n h W w a o = (
@@ -210,17 +214,16 @@ serial_start code x l M C n h W w a o = (
 )
 
 -- the result at the end
-ended : (code : List ℕ) (v : ℤ) (l : Loop) (z : Scene) (m : ℕ → ℤ) (g : Log) → Serving code v l z m g → (z.point.fault ≢ 0) ⊎ (l.iterations ≤ at z)
+ended : (code : List ℕ) (v : ℤ) (l : Loop) (z : Scene) (m : ℕ → ℤ) (g : Log) → Serving code v l z m g → IsSome z.point.fault ⊎ (l.iterations ≤ at z)
     → serial l ≡ record { cells = m; log = g; outcome = outcome_of z.point }
 unfolding outcome_of
-ended code v l z m g s h = elim (ℕ_discrete z.point.fault 0) [
-  | no n ↦ s.result ∙ onward_failed l code v z m g n ∙ rw (pick_other n finished (failed z.point.fault z.point.line (at z)))
-  | yes f ↦
-      s.result ∙ onward_done l code v z m g f (elim h [ inl n ↦ absurd (n f) | inr b ↦ b ])
-      ∙ rw (pick_same f finished (failed z.point.fault z.point.line (at z)))
-]
+ended code v l z m g s h = by z.point.fault refl
+  where
+    by : (o : Option Fault) → z.point.fault ≡ o → serial l ≡ record { cells = m; log = g; outcome = outcome_of z.point }
+    by (Some f) e = s.result ∙ onward_failed l code v z m g f e ∙ rw e
+    by None e = s.result ∙ onward_done l code v z m g e (elim h [ inl n ↦ absurd (none_stops _ e n) | inr b ↦ b ]) ∙ rw e
 
-pub serial_end : (code : List ℕ) (v : ℤ) (l : Loop) (z : Scene) → SerialAt code v l z → (z.point.fault ≢ 0) ⊎ (l.iterations ≤ at z)
+pub serial_end : (code : List ℕ) (v : ℤ) (l : Loop) (z : Scene) → SerialAt code v l z → IsSome z.point.fault ⊎ (l.iterations ≤ at z)
     → IsSerial l z.cells z.words z.point
 serial_end code v l z (m, g, s) h =
     let e = ended code v l z m g s h in

@@ -1,7 +1,7 @@
 -- What the serial run promises (crates/rules, Serial, has the rule): its accesses are noted for one processor.
 use Rattle.std.specs.Prelude.{◌≡◌, List, [], ℕ, ◌<◌, ℤ}
+use Rattle.rules.specs.declared.Class.{Class}
 use Rattle.rules.specs.declared.Grouping.TheVariants.{Iterations}
-use Rattle.rules.specs.Choose.{pick}
 use Rattle.rules.specs.Cells.{listed}
 use Rattle.rules.specs.Loop.{Loop, Partition}
 use Rattle.rules.specs.Log.{Log, each}
@@ -14,6 +14,7 @@ use Rattle.tables.specs.Layout.{pairs_word, cells_word}
 use Rattle.stepping.specs.declared.Manner.TheVariants.{InPlace}
 use Rattle.stepping.specs.declared.Role.{Role}
 use Rattle.stepping.specs.declared.Point.{Point}
+use Rattle.stepping.specs.Step.{by_fault}
 use Rattle.trial.specs.declared.Setting.{Setting}
 use Rattle.trial.specs.Standing.{Suits, Coded, Kept}
 use Rattle.trial.specs.Start.{Entry}
@@ -37,17 +38,17 @@ pub record Serially (l : Loop) (i : ℕ) (M : List ℤ) (W : List ℕ) (m : ℕ 
   pub upto : (j : ℕ) → i < j → each j g ≡ []
 
 -- the code and the setting are the loop's, and the cells those at entry
-pub record Serials (code : List ℕ) (s : Setting) (l : Loop) (M : List ℤ) (C : List ℕ) (n : ℕ) : Type 0 where
+pub record Serials (code : List ℕ) (s : Setting) (l : Loop) (M : List ℤ) (C : List Class) (n : ℕ) : Type 0 where
   pub coded : Coded code s.from l
   pub iterations : l.iterations ≡ s.iterations
   pub entry : Entry 1 l (by_one l) M C n
 
-abbrev pub CanSerial : List ℕ → Setting → List ℤ → List ℕ → ℕ → Type 0
+abbrev pub CanSerial : List ℕ → Setting → List ℤ → List Class → ℕ → Type 0
 CanSerial code s M C n = (l : Loop) × Serials code s l M C n
 
 -- "gives its number, the line ... and v", here the iteration
 unfoldable pub outcome_of : Point → Outcome
-outcome_of t = pick t.fault 0 finished (failed t.fault t.line t.iteration.0)
+outcome_of t = by_fault t.fault finished (λ f. failed f.number f.line t.iteration.0)
 
 -- the cells, the outcome and both write counts of the serial run
 pub record IsSerial (l : Loop) (M : List ℤ) (W : List ℕ) (t : Point) : Type 0 where
@@ -57,5 +58,5 @@ pub record IsSerial (l : Loop) (M : List ℤ) (W : List ℕ) (t : Point) : Type 
   pub written : cells_word W ≡ written_cells l (serial l).log
   pub kept : Kept 1 l (by_one l) M W
 
-abbrev pub RunsSerially : List ℕ → Setting → List ℤ → List ℕ → ℕ → List ℤ → List ℕ → Point → Type 0
+abbrev pub RunsSerially : List ℕ → Setting → List ℤ → List Class → ℕ → List ℤ → List ℕ → Point → Type 0
 RunsSerially code s M C n M' W' t = (l : Loop) → Serials code s l M C n → IsSerial l M' W' t

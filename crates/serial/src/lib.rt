@@ -5,7 +5,7 @@
 ghost use Rattle.std.specs.Prelude.{◌≡◌, length};
 ghost use Rattle.serial.specs.Serving.{alone, CanSerial, RunsSerially};
 
-use rules::{Grouping, Iteration, Processor};
+use rules::{Class, Grouping, Iteration, Processor};
 use stepping::{Extent, Manner, Point, Role};
 use trial::Setting;
 
@@ -13,24 +13,22 @@ use trial::Setting;
 pub fn only_role(setting: Setting) -> Role
     ensures { result ≡ alone setting.from setting.iterations }
 {
-    let only = Processor(0);
-    let end = Iteration(setting.iterations);
     Role {
         manner: Manner::InPlace,
         grouping: Grouping::Iterations,
         processors: 1,
-        number: only,
+        number: Processor(0),
         from: setting.from,
-        end: end,
+        end: Iteration(setting.iterations),
     }
 }
 
-// The serial run. The answer is the point that it ends at: its fault is 0, or the number of the fault, with its line and its iteration.
-// Free: how many values are pending there, and its place in the code; without a fault its line and iteration too.
+// The serial run. The answer is the point that it ends at: the fault that stopped it, if one did, and its iteration.
+// Free: how many values are pending there, and its place in the code; without a fault its iteration too.
 pub fn run(
     code: &[u32],
     setting: Setting,
-    classes: &[u32],
+    classes: &[Class],
     cells: &mut [i32],
     w: &mut [u32],
 ) -> Point
@@ -39,15 +37,8 @@ pub fn run(
 {
     trial::enter(1, cells, classes, w);
     let mut pending = [0; 32];
-    let first = Iteration(0);
     let role = only_role(setting);
-    let start = Point {
-        depth: 0,
-        place: 0,
-        iteration: first,
-        fault: 0,
-        line: 0,
-    };
+    let start = stepping::unstopped_at(0, 0, Iteration(0));
     let r = stepping::carry_on(code, role, cells, w, &mut pending, start, Extent::ToTheEnd);
     r.point
 }

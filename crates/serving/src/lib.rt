@@ -7,49 +7,40 @@ ghost use Rattle.syntax.specs.Text.{read as read_text};
 ghost use Rattle.answers.specs.Numbers.{served_numbers};
 ghost use Rattle.serving.specs.Serial.{SerialOf, serial_numbers};
 
-use answers::Served;
-use fitting::unfit;
+use answers::{Counts, Failure, Fault};
 use preparing::prepare;
+use rules::Class;
 
 // The serial run, in place over the cells: the text and the cells alone decide it. A refusal apart, the workspace keeps the cells at entry, in the rows of
 // tables for one processor, for whoever restores them. Free: its other words.
-pub fn run_serially(text: &[u8], cells: &mut [i32], workspace: &mut [u32]) -> Served
+pub fn run_serially(
+    text: &[u8],
+    cells: &mut [i32],
+    workspace: &mut [u32],
+) -> Result<Counts, Failure>
     ensures serial_of { SerialOf (read_text text.now) cells.old workspace.old result cells.new workspace.new }
     ensures result_value { served_numbers result ≡ serial_numbers (read_text text.now) cells.old (length workspace.old) }
 {
     let mut code = [0; code::WORDS];
-    let mut classes = [0; 4096];
-    let r = prepare(text, &mut code, &mut classes);
-    if r.number != 0 {
-        return Served::Refused {
-            number: r.number,
-            line: r.line,
-        };
-    }
-    let setting = r.setting;
-    let number = unfit(
-        r.cells,
-        setting.processors,
+    let mut classes = [Class::Shared; 4096];
+    let r = prepare(
+        text,
         cells.len(),
         workspace.len(),
         b"",
-    );
-    if number != 0 {
-        return Served::Refused { number, line: 0 };
-    }
-    let end = r.end;
-    let from = setting.from;
-    let t = serial::run(&code[0..end], setting, &classes, cells, workspace);
-    if t.fault == 0 {
-        return Served::Finished {
+        &mut code,
+        &mut classes,
+    )?;
+    let t = serial::run(&code[..r.end], r.setting, &classes, cells, workspace);
+    match t.fault {
+        None => Ok(Counts {
             pairs: findings::pair_count(workspace),
             cells: findings::cell_count(workspace),
-        };
-    }
-    let i = t.iteration;
-    Served::Faulted {
-        number: t.fault,
-        line: t.line,
-        v: stepping::value_at(from, i),
+        }),
+        Some(fault) => Err(Failure::Faulted(Fault {
+            number: fault.number,
+            line: fault.line,
+            v: stepping::value_at(r.setting.from, t.iteration),
+        })),
     }
 }

@@ -8,7 +8,8 @@ use lib.ListN.{length, get_or}
 use lib.IntN.{ℤ, pos, ◌+ℤ◌}
 use Rattle.rules.specs.Cells.{cell_of, listed}
 use Rattle.rules.proofs.CellsLaws.{listed_cells}
-use Rattle.rules.specs.Numbers.{class_number}
+use Rattle.rules.specs.declared.Class.{Class}
+use Rattle.rules.specs.declared.Class.TheVariants.{Shared as shared}
 use Rattle.rules.proofs.BlocksLaws.{tested_processors, tested_groups}
 use Rattle.syntax.specs.Known.{State, cells}
 use Rattle.syntax.specs.Text.{good, read}
@@ -68,8 +69,8 @@ module _ (text : List ℕ) (s : State) (e : read text ≡ good s) (M : List ℤ)
   size_is = refl
 
   -- the cells as lent, their classes and n words
-  module _ (size : length M ≡ cells s.table) (C : List ℕ) (long : cells s.table ≤ length C)
-      (cl : (c : ℕ) → c < cells s.table → get_or C c 0 ≡ class_number (class_of s.table c)) (n : ℕ)
+  module _ (size : length M ≡ cells s.table) (C : List Class) (long : cells s.table ≤ length C)
+      (cl : (c : ℕ) → c < cells s.table → get_or C c shared ≡ class_of s.table c) (n : ℕ)
       (room : row_at s.processors (cells s.table) ≤ n) where
     entry : Entry s.processors (loop_of s M) (partition_of s) M C n
     unfolding loop_of

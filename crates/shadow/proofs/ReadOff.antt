@@ -9,7 +9,8 @@ use native.Mathlib.Omega.{arith}
 use Rattle.rules.specs.Choose.{below}
 use Rattle.rules.specs.ChooseLaws.{below_yes, below_no}
 use Rattle.rules.specs.Operation.{Operation}
-use Rattle.rules.specs.Loop.{Class, shared, lastprivate, copied, reduction}
+use Rattle.rules.specs.declared.Class.{Class}
+use Rattle.rules.specs.declared.Class.TheVariants.{Shared as shared, Lastprivate as lastprivate, Copied as copied, Reduction as reduction}
 use Rattle.rules.specs.Log.{reads, writes, updates, Log, only, Has, newest, older, Exposed, first, earlier, Ordinary, a_read, a_write}
 use Rattle.rules.specs.LogLaws.{has_nil, has_only, has_all, exposed_nil}
 use Rattle.rules.specs.Obstacles.{Clash, Stale, Late, Mixed, ObstacleAt}

@@ -11,7 +11,9 @@ use lib.IntN.{ℤ}
 use Rattle.rules.specs.Choose.{below}
 use Rattle.rules.specs.ChooseLaws.{below_yes, below_no}
 use Rattle.rules.specs.Operation.{operation}
-use Rattle.rules.specs.Loop.{Class, shared, lastprivate, copied, reduction, operator, Loop, joining, bound, Partition}
+use Rattle.rules.specs.declared.Class.{Class}
+use Rattle.rules.specs.declared.Class.TheVariants.{Shared as shared, Lastprivate as lastprivate, Copied as copied, Reduction as reduction}
+use Rattle.rules.specs.Loop.{operator, Loop, joining, bound, Partition}
 use Rattle.rules.specs.Log.{Kind, access, Log, only, each, written, Has, newest, older}
 use Rattle.rules.specs.LogLaws.{only_same, only_other, only_nil, has_all}
 use Rattle.rules.specs.Obstacles.{ObstacleAt, Obstructed}

@@ -3,7 +3,9 @@ use Rattle.std.specs.Prelude.{[], ◌∷◌, Bool, true, false, cond, ◌⊎◌,
 use Rattle.std.proofs.Math.Option.{Option, none, some}
 use Rattle.rules.specs.Choose.{pick, put, below}
 use Rattle.rules.specs.Operation.{Operation}
-use Rattle.rules.specs.Loop.{Class, shared, lastprivate, copied, reduction, Loop, joining, Partition}
+use Rattle.rules.specs.declared.Class.{Class}
+use Rattle.rules.specs.declared.Class.TheVariants.{Shared as shared, Lastprivate as lastprivate, Copied as copied, Reduction as reduction}
+use Rattle.rules.specs.Loop.{Loop, joining, Partition}
 use Rattle.rules.specs.Owner.{whose}
 use Rattle.rules.specs.Log.{Kind, reads, writes, updates, Access, access, Log}
 

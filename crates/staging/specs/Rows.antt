@@ -1,8 +1,10 @@
 -- The rows of the stage table (crates/reorder, StageTable) in words, four for each cell, and what noting an access does to them. Nothing here has to be
 -- believed: proofs/Keeping.antt says what it means for the table.
 use Rattle.std.specs.Prelude.{◌≡◌, Bool, true, false, List, ℕ, max, ◌+◌, ◌*◌, ◌≤◌, ◌<◌, eqb, length, get_or, set}
-use Rattle.rules.specs.Log.{Kind}
+use Rattle.rules.specs.Log.{Kind, reads, writes}
 use Rattle.reorder.specs.declared.Row.{Row}
+use Rattle.staging.specs.declared.Touch.{Touch}
+use Rattle.staging.specs.declared.Touch.TheVariants.{Read, Change}
 use Rattle.reorder.specs.StageTable.{opened, needs, marked}
 
 -- the stage of iteration j by the list
@@ -25,6 +27,11 @@ row_set W c r = set (set (set (set W (c * 4) r.last) (c * 4 + 1) (flag r.changes
 -- the row as it finds it
 abbrev pub found : List ℕ → ℕ → List ℕ → ℕ → Row
 found L i W c = opened (stage_in L) i (row_in W c)
+
+-- the kind of an access that touches a cell so
+abbrev pub kind_of : Touch → Kind
+kind_of Read = reads
+kind_of Change = writes
 
 -- the words after the access
 unfoldable pub noted_in : Kind → List ℕ → ℕ → List ℕ → ℕ → List ℕ

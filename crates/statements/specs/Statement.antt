@@ -1,5 +1,5 @@
 -- What the readers of statements answer and emit, by `read_assign` and `read_when` of `Rattle.syntax.specs.Reader` over a line's bytes.
-use Rattle.std.specs.Prelude.{◌≡◌, cond, List, [], ◌++◌, ℕ, ◌+◌, ◌-◌, ◌*◌, ◌≤◌, max, length, take, drop}
+use Rattle.std.specs.Prelude.{◌≡◌, cond, List, [], ◌++◌, ℕ, ◌+◌, ◌-◌, ◌*◌, ◌≤◌, max, length, take, drop, Option, None, IfSome}
 use Rattle.syntax.specs.Bytes.{same}
 use Rattle.syntax.specs.Grammar.{assign, when, otherwise, end_if, Line, declare, give, direct, loop, inside, end_do, close}
 use Rattle.syntax.specs.Known.{Entry}
@@ -8,9 +8,8 @@ use Rattle.syntax.specs.Reader.{Parsed, broken, done}
 use Rattle.code.specs.Instr.{Instr, words}
 use Rattle.code.specs.Compile.{code_assign, code_if}
 use Rattle.names.specs.Table.{variable_of, Tabled}
-use Rattle.parts.specs.Answer.{worst}
+use Rattle.parts.specs.Answer.{worst, Stops}
 use Rattle.parts.specs.declared.Got.{Got}
-use Rattle.parts.specs.declared.Got.TheVariants.{Broken, Done}
 
 -- the code of a statement that stands on line k; the jump of an `if` is over nothing until the part's end is known
 unfoldable pub code_line : List Entry → List ℕ → ℕ → Line → List Instr
@@ -42,21 +41,20 @@ assigned_rank v close = 0
 abbrev pub rank_line : List Entry → List ℕ → Line → ℕ
 rank_line t v l = max (assigned_rank v l) (worst t v (in_line l))
 
--- Broken where nothing is read; else the place after what is read, the place in the code after what is emitted, and the rank; up to that place the
+-- None where nothing is read; else the place after what is read, the place in the code after what is emitted, and the rank; up to that place the
 -- code is what stood before the first place, and the statement's instructions, two words each.
-unfoldable pub Writes : List Entry → List ℕ → ℕ → List ℕ → Parsed (List ℕ) Line → ℕ → List ℕ → List ℕ → Got → Type 0
-Writes t v k s broken place before after r = r ≡ Broken
+unfoldable pub Writes : List Entry → List ℕ → ℕ → List ℕ → Parsed (List ℕ) Line → ℕ → List ℕ → List ℕ → Option Got → Type 0
+Writes t v k s broken place before after r = r ≡ None
 Writes t v k s (done l u) place before after r =
     (u ≡ drop (length s - length u) s)
-    × (r ≡ Done (length s - length u) (place + length (code_line t v k l)) (rank_line t v l))
+    × Stops (length s - length u) (place + length (code_line t v k l)) (rank_line t v l) r
     × (take (2 * (place + length (code_line t v k l))) after ≡ take (2 * place) before ++ words (code_line t v k l))
 
 -- in the line, and with at most two instructions for each of its bytes
-unfoldable pub Bounded : List ℕ → ℕ → Got → Type 0
-Bounded s place Broken = Unit {0}
-Bounded s place (Done n p d) = (n ≤ length s) × (p ≤ place + 2 * length s)
+unfoldable pub Bounded : List ℕ → ℕ → Option Got → Type 0
+Bounded s place r = IfSome r (λ g. (g.at ≤ length s) × (g.place ≤ place + 2 * length s))
 
 -- What a reader of statements promises of line k, whose bytes are s, for every table that the words T stand for: with enough fuel it answers as `read`
-pub record Compiles (read : ℕ → List ℕ → Parsed (List ℕ) Line) (T s : List ℕ) (k place : ℕ) (before after : List ℕ) (r : Got) : Type 0 where
+pub record Compiles (read : ℕ → List ℕ → Parsed (List ℕ) Line) (T s : List ℕ) (k place : ℕ) (before after : List ℕ) (r : Option Got) : Type 0 where
   pub reads : (t : List Entry) → Tabled T t → (f : ℕ) → 3 * length s + 4 ≤ f → Writes t (variable_of T) k s (read f s) place before after r
   pub within : Bounded s place r

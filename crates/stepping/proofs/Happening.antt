@@ -8,6 +8,8 @@ use lib.ListN.{length, length-set}
 use lib.IntN.{ℤ}
 use mir.Syntax.{w32}
 use mir.Val.{SFits}
+use Rattle.std.specs.declared.option.Option.TheVariants.{None, Some}
+use Rattle.std.specs.Prelude.{IsSome}
 use Rattle.rules.specs.Loop.{Act, read, write, update, fault, done}
 use Rattle.rules.specs.Proper.{Sized}
 use Rattle.machine.specs.declared.Advanced.{Advanced}
@@ -18,9 +20,9 @@ use Rattle.operands.specs.Pending.{pendings, Holding}
 use Rattle.operands.specs.Performing.{left}
 use Rattle.operands.proofs.Pending.{pendings_push}
 use Rattle.stepping.specs.declared.Role.{Role}
+use Rattle.stepping.proofs.Opened.{none_stops}
 use Rattle.stepping.specs.Access.{Accessible, seen, read_words, stored, written_words, joined, updated_words}
 use Rattle.stepping.specs.Step.{Scene, at, variable, moved, Comes, CanMove, Fitting, Goes}
-use Rattle.stepping.proofs.Faults.{resume_fault}
 
 -- what is left of the iteration
 abbrev pub rest : Role → List ℕ → Scene → Act
@@ -46,8 +48,7 @@ can_reach x code z n s f b r h = go r.done refl
 -- the iteration goes on
 pub record Continues (z z' : Scene) : Type 0 where
   pub same : at z' ≡ at z
-  pub unstopped : z'.point.fault ≡ 0
-  pub lineless : z'.point.line ≡ 0
+  pub unstopped : z'.point.fault ≡ None
   pub holding : Holding z'.pending z'.point.depth
 
 -- what a step by a move comes to
@@ -58,9 +59,9 @@ pub data Happens (x : Role) (code : List ℕ) (z z' : Scene) : Move → Type 0 w
       → z'.words ≡ written_words x (at z) z.words c v → Continues z z' → Happens x code z z' (Write c v)
   updates : (c : ℕ) (v : ℤ) → SFits w32 v → rest x code z ≡ update c v (rest x code z') → z'.cells ≡ joined x z.cells z.words c v
       → z'.words ≡ updated_words x (at z) z.words c v → Continues z z' → Happens x code z z' (Update c v)
-  faults : (n t : ℕ) → 0 < n → rest x code z ≡ fault n t → z'.cells ≡ z.cells → z'.words ≡ z.words → at z' ≡ at z → z'.point.fault ≡ n
-      → z'.point.line ≡ t → Holding z'.pending z'.point.depth → Happens x code z z' (Fault n t)
-  ends : rest x code z ≡ done → z'.cells ≡ z.cells → z'.words ≡ z.words → at z' ≡ suc (at z) → z'.point.fault ≡ 0 → z'.point.line ≡ 0
+  faults : (n t : ℕ) → rest x code z ≡ fault n t → z'.cells ≡ z.cells → z'.words ≡ z.words → at z' ≡ at z
+      → z'.point.fault ≡ Some (record { number = n; line = t }) → Holding z'.pending z'.point.depth → Happens x code z z' (Fault n t)
+  ends : rest x code z ≡ done → z'.cells ≡ z.cells → z'.words ≡ z.words → at z' ≡ suc (at z) → z'.point.fault ≡ None
       → z'.point.place ≡ 0 → z'.point.depth ≡ 0 → length z'.pending ≡ 32 → Happens x code z z' End
 
 pub happens : (x : Role) (code : List ℕ) (z z' : Scene) (g : Goes x code z z') → Happens x code z z' g.reached.done
@@ -83,27 +84,25 @@ happens x code z z' g = by g.reached.done refl g.makes.after
         let v = seen x (at z) z.cells z.words c in
         rw h (reads c (λ y. on (y ∷ pendings g.pending g.reached.depth)) (came (Read c) q)
         (ap on (pendings_push g.pending g.reached.depth v (omega (arith, g.comes.size)))) refl refl
-        (record { same = refl; unstopped = refl; lineless = refl; holding = record { size = simp length-set g.comes.size; most = omega arith } }))
+        (record { same = refl; unstopped = refl; holding = record { size = simp length-set g.comes.size; most = omega arith } }))
     by (Write c v) q h = rw h
         (writes c v (rw q at g.makes.fits) (came (Write c v) q) refl refl
-        (record { same = refl; unstopped = refl; lineless = refl; holding = room (Write c v) q }))
+        (record { same = refl; unstopped = refl; holding = room (Write c v) q }))
     by (Update c v) q h = rw h
         (updates c v (rw q at g.makes.fits) (came (Update c v) q) refl refl
-        (record { same = refl; unstopped = refl; lineless = refl; holding = room (Update c v) q }))
+        (record { same = refl; unstopped = refl; holding = room (Update c v) q }))
     by (Fault n t) q h =
         rw h
-        (faults n t
-        (resume_fault (instructions code) z.point.place (pendings z.pending z.point.depth) (variable x z) n t (came (Fault n t) q))
-        (came (Fault n t) q) refl refl refl refl refl (room (Fault n t) q))
-    by End q h = rw h (ends (came End q) refl refl (add-one (at z)) refl refl refl refl g.comes.size)
+        (faults n t (came (Fault n t) q) refl refl refl refl (room (Fault n t) q))
+    by End q h = rw h (ends (came End q) refl refl (add-one (at z)) refl refl refl g.comes.size)
 
 -- it stops in its iteration
-pub goes_halts : (x : Role) (code : List ℕ) (z z' : Scene) → Goes x code z z' → 0 < z'.point.fault → at z' ≡ at z
+pub goes_halts : (x : Role) (code : List ℕ) (z z' : Scene) → Goes x code z z' → IsSome z'.point.fault → at z' ≡ at z
 goes_halts x code z z' g b = by (happens x code z z' g)
   where
     by : {a : Move} → Happens x code z z' a → at z' ≡ at z
     by (reads c k e f m w o) = o.same
     by (writes c v s e m w o) = o.same
     by (updates c v s e m w o) = o.same
-    by (faults n t h e m w i f l o) = i
-    by (ends e m w i f l p d h) = absurd (omega (arith, b, f))
+    by (faults n t e m w i f o) = i
+    by (ends e m w i f p d h) = absurd (none_stops _ f b)

@@ -6,6 +6,7 @@ use native.Mathlib.Omega.{arith}
 use lib.IntN.{ℤ}
 use mir.Syntax.{w32}
 use mir.Val.{SFits}
+use Rattle.std.specs.declared.option.Option.TheVariants.{Some}
 use Rattle.operands.specs.declared.Move.TheVariants.{Read, Write, Update, Fault, End}
 use Rattle.machine.specs.declared.Advanced.{Advanced}
 use Rattle.operands.specs.Pending.{Pushed}
@@ -51,7 +52,7 @@ module _ (x : Role) (i : ℕ) (M : List ℤ) (W : List ℕ) (b : List ℤ) (r : 
   makes_update c y M' W' t' q s g f = record { fits = rw q s; after = rw (q, f, g.cells, g.words) }
 
   pub makes_fault : (n k : ℕ) → r.done ≡ Fault n k
-      → Makes x i M W b r (scene M W b (record { depth = r.depth; place = r.place; iteration = record { 0 = i }; fault = n; line = k }))
+      → Makes x i M W b r (scene M W b (record { depth = r.depth; place = r.place; iteration = record { 0 = i }; fault = Some (record { number = n; line = k }) }))
   unfolding moved Fitting
   makes_fault n k q = record { fits = rw q tt; after = rw q }
 

@@ -1,10 +1,12 @@
 -- What an access does to cells and words. Nothing here has to be believed: crates/trial and crates/serial show that it is what RULES 4.4 and 6 b say.
-use Rattle.std.specs.Prelude.{◌≡◌, List, ℕ, ◌≤◌, ◌<◌, length, set, ℤ}
+use Rattle.std.specs.Prelude.{◌≡◌, Bool, cond, eqb, List, ℕ, ◌≤◌, ◌<◌, length, set, ℤ}
 use Rattle.rules.specs.Choose.{pick}
 use Rattle.rules.specs.Cells.{cell_of}
 use Rattle.rules.specs.Operation.{operation}
-use Rattle.rules.specs.Numbers.{grouped, operator_by}
-use Rattle.tables.specs.Layout.{row_at, own_at, class_word}
+use Rattle.rules.specs.declared.Class.{Class}
+use Rattle.rules.specs.Loop.{operator}
+use Rattle.rules.specs.Numbers.{grouped}
+use Rattle.tables.specs.Layout.{row_at, own_at, class_word, class_held}
 use Rattle.noting.specs.Changes.{Ready, read_noted, counted, written, updated, own_seen}
 use Rattle.stepping.specs.declared.Manner.{Manner}
 use Rattle.stepping.specs.declared.Manner.TheVariants.{ByClass, InPlace}
@@ -34,15 +36,15 @@ unfoldable pub seen_by : Manner → List ℤ → List ℕ → ℕ → ℕ → �
 seen_by ByClass M W row own g c = pick (class_word W row) 0 (cell_of M c) (own_seen W row own g)
 seen_by InPlace M W row own g c = cell_of M c
 
--- the cells after v was written to a cell of a class
-unfoldable pub stored_by : Manner → ℕ → List ℤ → ℕ → ℤ → List ℤ
-stored_by ByClass k M c v = pick k 0 (set M c v) M
-stored_by InPlace k M c v = set M c v
+-- the cells after v was written to a cell, which is shared or not
+unfoldable pub stored_by : Manner → Bool → List ℤ → ℕ → ℤ → List ℤ
+stored_by ByClass b M c v = cond b (set M c v) M
+stored_by InPlace b M c v = set M c v
 
 -- the cells after an update by v of a cell of a class
-unfoldable pub joined_by : Manner → ℕ → List ℤ → ℕ → ℤ → List ℤ
+unfoldable pub joined_by : Manner → Class → List ℤ → ℕ → ℤ → List ℤ
 joined_by ByClass k M c v = M
-joined_by InPlace k M c v = set M c ((operation (operator_by k)).join (cell_of M c) v)
+joined_by InPlace k M c v = set M c ((operation (operator k)).join (cell_of M c) v)
 
 -- ---- iteration i accesses cell c
 
@@ -53,13 +55,13 @@ abbrev pub read_words : Role → ℕ → List ℕ → ℕ → List ℕ
 read_words x i W c = read_noted W (row_of x c) (own_of x c) (group_of x i)
 
 abbrev pub stored : Role → List ℤ → List ℕ → ℕ → ℤ → List ℤ
-stored x M W c v = stored_by x.manner (class_word W (row_of x c)) M c v
+stored x M W c v = stored_by x.manner (eqb (class_word W (row_of x c)) 0) M c v
 
 abbrev pub written_words : Role → ℕ → List ℕ → ℕ → ℤ → List ℕ
 written_words x i W c v = written (counted W (row_of x c) (own_of x c) i) (row_of x c) (own_of x c) (group_of x i) v
 
 abbrev pub joined : Role → List ℤ → List ℕ → ℕ → ℤ → List ℤ
-joined x M W c v = joined_by x.manner (class_word W (row_of x c)) M c v
+joined x M W c v = joined_by x.manner (class_held W (row_of x c)) M c v
 
 abbrev pub updated_words : Role → ℕ → List ℕ → ℕ → ℤ → List ℕ
 updated_words x i W c v = updated (counted W (row_of x c) (own_of x c) i) (row_of x c) (own_of x c) v

@@ -1,5 +1,5 @@
 -- A run of steps of one processor, as far as it is to go.
-use Rattle.std.specs.Prelude.{◌≡◌, ◌⊎◌, Bool, true, false, ◌&&◌, List, ℕ, eqb, ltb}
+use Rattle.std.specs.Prelude.{◌≡◌, ◌⊎◌, Bool, true, false, ◌&&◌, List, ℕ, is_none, ltb}
 use Rattle.stepping.specs.declared.Extent.{Extent}
 use Rattle.stepping.specs.declared.Extent.TheVariants.{Once, ToTheEnd}
 use Rattle.stepping.specs.declared.Point.{Point}
@@ -9,7 +9,7 @@ use Rattle.stepping.specs.Step.{Scene, CanGo, Goes, Went}
 
 -- a processor whose block ends before e is neither stopped nor finished
 unfoldable pub opened : Point → ℕ → Bool
-opened t e = eqb t.fault 0 && ltb t.iteration.0 e
+opened t e = is_none t.fault && ltb t.iteration.0 e
 
 abbrev pub is_open : Role → Scene → Bool
 is_open x z = opened z.point x.end.0

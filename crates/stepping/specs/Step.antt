@@ -1,5 +1,7 @@
 -- What a step does: to the cells, the words of the tables, the pending values and the point of one processor.
 use Rattle.std.specs.Prelude.{◌≡◌, List, ℕ, ◌+◌, ◌≤◌, ◌<◌, length, set, ℤ, pos, ◌+ℤ◌}
+use Rattle.std.specs.declared.option.Option.{Option}
+use Rattle.std.specs.declared.option.Option.TheVariants.{None, Some}
 use Rattle.std.specs.Int.{w32}
 use Rattle.std.proofs.Common.{SFits}
 use Rattle.operands.specs.declared.Move.{Move}
@@ -8,13 +10,19 @@ use Rattle.machine.specs.declared.Advanced.{Advanced}
 use Rattle.operands.specs.Pending.{Holding}
 use Rattle.operands.specs.Performing.{coming}
 use Rattle.machine.specs.Machine.{Advances}
+use Rattle.stepping.specs.declared.Fault.{Fault as Stop}
 use Rattle.stepping.specs.declared.Point.{Point}
 use Rattle.stepping.specs.declared.Role.{Role}
 use Rattle.stepping.specs.Access.{Accessible, seen, read_words, stored, written_words, joined, updated_words}
 
 -- a point where no fault stopped the processor
 abbrev pub unstopped : ℕ → ℕ → ℕ → Point
-unstopped depth place i = record { depth = depth; place = place; iteration = record { 0 = i }; fault = 0; line = 0 }
+unstopped depth place i = record { depth = depth; place = place; iteration = record { 0 = i }; fault = None }
+
+-- x where no fault stopped it, else k of the fault
+abbrev pub by_fault : {A : Type 0} → Option Stop → A → (Stop → A) → A
+by_fault None x k = x
+by_fault (Some f) x k = k f
 
 -- all that a step may change
 pub record Scene : Type 0 where
@@ -42,7 +50,7 @@ unfoldable pub moved : Role → ℕ → List ℤ → List ℕ → List ℤ → �
 moved x i M W b place d (Read c) = scene M (read_words x i W c) (set b d (seen x i M W c)) (unstopped (d + 1) place i)
 moved x i M W b place d (Write c v) = scene (stored x M W c v) (written_words x i W c v) b (unstopped d place i)
 moved x i M W b place d (Update c v) = scene (joined x M W c v) (updated_words x i W c v) b (unstopped d place i)
-moved x i M W b place d (Fault n k) = scene M W b (record { depth = d; place = place; iteration = record { 0 = i }; fault = n; line = k })
+moved x i M W b place d (Fault n k) = scene M W b (record { depth = d; place = place; iteration = record { 0 = i }; fault = Some (record { number = n; line = k }) })
 moved x i M W b place d End = scene M W b (unstopped 0 0 (i + 1))
 
 -- the cell of the move can be accessed

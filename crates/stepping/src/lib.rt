@@ -18,14 +18,16 @@ use rules::{Grouping, Iteration, Processor};
 mod access;
 
 // How accesses work: by the class of the cell, with private values kept apart, or in place, whatever the class.
-#[derive(Clone, Copy)]
+// No closure or type parameter: each access has one `match` on it, and a parameter would put a second step into the code, as a second caller of the step did (see `Extent`).
+#[derive(Clone, Copy, Debug, PartialEq, Eq)]
 pub enum Manner {
     ByClass,
     InPlace,
 }
 
 // How far a processor goes: one step, or until it is finished or stopped.
-#[derive(Clone, Copy)]
+// No function for each, and no closure: a second caller of the step was tried, and Run took a third longer.
+#[derive(Clone, Copy, Debug, PartialEq, Eq)]
 pub enum Extent {
     Once,
     ToTheEnd,
@@ -33,7 +35,7 @@ pub enum Extent {
 
 // What is fixed for a processor: how its accesses work, how its iterations are grouped, for how many processors the tables are laid out, its number, the first
 // value of the loop's variable, and the iteration that its block ends before.
-#[derive(Clone, Copy)]
+#[derive(Clone, Copy, Debug, PartialEq, Eq)]
 pub struct Role {
     pub manner: Manner,
     pub grouping: Grouping,
@@ -43,19 +45,24 @@ pub struct Role {
     pub end: Iteration,
 }
 
-// Where a processor is: how many values are pending, its place in the code and its iteration; 0 or the number of the fault that stopped it, and that fault's
-// line.
-#[derive(Clone, Copy)]
+// A fault: its number (RULES 10) and its line.
+#[derive(Clone, Copy, Debug, PartialEq, Eq)]
+pub struct Fault {
+    pub number: u32,
+    pub line: u32,
+}
+
+// Where a processor is: how many values are pending, its place in the code and its iteration, and the fault that stopped it.
+#[derive(Clone, Copy, Debug, PartialEq, Eq)]
 pub struct Point {
     pub depth: usize,
     pub place: usize,
     pub iteration: Iteration,
-    pub fault: u32,
-    pub line: u32,
+    pub fault: Option<Fault>,
 }
 
 // What a step came to: where the processor then is, and the move that it made.
-#[derive(Clone, Copy)]
+#[derive(Clone, Copy, Debug, PartialEq, Eq)]
 pub struct Stepped {
     pub point: Point,
     pub done: Move,
@@ -74,11 +81,10 @@ pub fn unstopped_at(depth: usize, place: usize, iteration: Iteration) -> Point
     ensures { result ≡ unstopped depth place iteration.0 }
 {
     Point {
-        depth: depth,
-        place: place,
-        iteration: iteration,
-        fault: 0,
-        line: 0,
+        depth,
+        place,
+        iteration,
+        fault: None,
     }
 }
 
@@ -94,8 +100,7 @@ fn make(
     requires { CanMake role i.0 cells.old w.old pending.old r }
     ensures { Makes role i.0 cells.old w.old pending.old r (scene cells.new w.new pending.new result) }
 {
-    let done = r.done;
-    match done {
+    match r.done {
         Move::Read { cell } => {
             let x = access::read_cell(role, i, cells, w, cell);
             let d = operands::put(pending, r.depth, x);
@@ -113,13 +118,9 @@ fn make(
             depth: r.depth,
             place: r.place,
             iteration: i,
-            fault: number,
-            line: line,
+            fault: Some(Fault { number, line }),
         },
-        Move::End => {
-            let next = Iteration(i.0 + 1);
-            unstopped_at(0, 0, next)
-        }
+        Move::End => unstopped_at(0, 0, Iteration(i.0 + 1)),
     }
 }
 
@@ -139,20 +140,18 @@ fn go_on(
     let i = t.iteration;
     let v = value_at(role.from, i);
     let r = machine::advance(code, t.place, t.depth, pending, v);
-    let done = r.done;
-    let point = make(role, i, cells, w, pending, r);
-    Stepped { point, done }
+    Stepped {
+        point: make(role, i, cells, w, pending, r),
+        done: r.done,
+    }
 }
 
 // Whether a processor whose block ends before an iteration is neither stopped nor finished.
+#[tactic(auto, unfolding(crate::specs::Carrying::opened))]
 fn is_open(t: Point, end: Iteration) -> bool
     ensures { result ≡ opened t end.0 }
 {
-    if t.fault == 0 {
-        t.iteration.0 < end.0
-    } else {
-        false
-    }
+    t.fault.is_none() && t.iteration.0 < end.0
 }
 
 // The steps of a processor, as far as it is to go. A finished or stopped one does nothing. The answer's move is that of the one step (`Once`), if it makes it; else it
@@ -172,16 +171,12 @@ pub fn carry_on(
     ensures does { Does extent role code.now (scene cells.old w.old pending.old from)
         (scene cells.new w.new pending.new result.point) result.done }
 {
-    let end = role.end;
     let mut t = from;
-    while is_open(t, end) {
+    while is_open(t, role.end) {
         let r = go_on(code, role, cells, w, pending, t);
-        let point = r.point;
-        t = point;
+        t = r.point;
         match extent {
-            Extent::Once => {
-                return r;
-            }
+            Extent::Once => return r,
             Extent::ToTheEnd => {}
         }
     }

@@ -7,6 +7,7 @@ use native.Mathlib.Omega.{arith}
 use lib.ListN.{length, set}
 use lib.Seq.{ext_get_or, get_or-set_same, get_or-set_other}
 use lib.IntN.{ℤ}
+use Rattle.rules.specs.declared.Class.{Class}
 use Rattle.rules.specs.Cells.{listed}
 use Rattle.rules.proofs.CellsLaws.{listed_length, listed_at}
 use Rattle.rules.specs.Loop.{Loop}
@@ -32,7 +33,7 @@ use Rattle.sweeping.proofs.Stepping.{Under}
 
 -- ---- the start
 
-module _ (code : List ℕ) (s : Setting) (l : Loop) (M : List ℤ) (C : List ℕ) (w : ℕ) (f : Faultless code s l M C w) where
+module _ (code : List ℕ) (s : Setting) (l : Loop) (M : List ℤ) (C : List Class) (w : ℕ) (f : Faultless code s l M C w) where
   pub sweep_start : (W R L : List ℕ) → Logged l (by_one l) [] W → Zeros M R → length L ≡ s.iterations → Before l 0 M W R L
   unfolding serial only during noted swept row_in
   sweep_start W R L t r n =

@@ -4,12 +4,13 @@ use mathlib.Core.Logic.{◌≢◌, ◌⊎◌, inl, inr}
 use mathlib.Core.Bool.{true}
 use mathlib.Core.List.{List, ◌∷◌}
 use Prim.Native.Nat.{ℕ, suc, ◌+◌, ◌-◌, ◌<◌}
-use native.Mathlib.Decide.{ℕ_discrete}
 use native.Mathlib.Numerals.{add-one}
 use native.Mathlib.Omega.{arith}
-use borrow.Author.Tests.{eq-eqb, lt-ltb}
+use borrow.Author.Tests.{lt-ltb}
 use lib.IntN.{ℤ}
-use Rattle.rules.specs.ChooseLaws.{pick_other}
+use Rattle.std.specs.declared.option.Option.{Option}
+use Rattle.std.specs.declared.option.Option.TheVariants.{None, Some}
+use Rattle.stepping.specs.declared.Fault.{Fault as Stop}
 use Rattle.rules.specs.Loop.{Act, Loop}
 use Rattle.rules.specs.Log.{Kind, reads, writes, updates, access, Log}
 use Rattle.rules.specs.Proper.{Sized}
@@ -21,7 +22,7 @@ use Rattle.stepping.specs.Step.{Scene, at, moved, Goes, Went}
 use Rattle.stepping.specs.Carrying.{opened, is_open, CanCarry}
 use Rattle.stepping.specs.declared.Role.{Role}
 use Rattle.stepping.proofs.Happening.{rest}
-use Rattle.stepping.proofs.Nearing.{fault_some}
+use Rattle.stepping.proofs.Opened.{not_both, by_some}
 use Rattle.serial.specs.Serving.{alone}
 use Rattle.serial.proofs.Serving.{onward, grown, Serving}
 use Rattle.serial.proofs.Stepping.{onward_begin, serial_grown, can_serve}
@@ -70,21 +71,21 @@ module _ (code : List ℕ) (v : ℤ) (l : Loop) (i : ℕ) (L : List ℕ) where
 
   module _ (faultless : (serial l).outcome ≡ finished) where
     -- no fault stops it
-    unfaulted : (z : Scene) (m : ℕ → ℤ) (g : Log) → Serving code v l z m g → z.point.fault ≡ 0
+    unfaulted : (z : Scene) (m : ℕ → ℤ) (g : Log) → Serving code v l z m g → z.point.fault ≡ None
     unfolding onward
-    unfaulted z m g s = elim (ℕ_discrete z.point.fault 0) [
-      | yes e ↦ e
-      | no n ↦
-          let f : failed z.point.fault z.point.line (at z) ≡ finished
-          = ap (λ (r : Result). r.outcome) (sym (s.result ∙ pick_other n _ _)) ∙ faultless in
-          let q : ◌≡◌ {A = ℕ} 0 1 = cc in absurd (omega arith)
-    ]
+    unfaulted z m g s = by z.point.fault refl
+      where
+        by : (o : Option Stop) → z.point.fault ≡ o → z.point.fault ≡ None
+        by None e = e
+        by (Some h) e =
+            let f : failed h.number h.line (at z) ≡ finished = ap (λ (r : Result). r.outcome) (sym (s.result ∙ by_some e _ _)) ∙ faultless in
+            let q : ◌≡◌ {A = ℕ} 0 1 = cc in absurd (omega arith)
 
     module _ (low : i < l.iterations) (R : List ℕ) (o : ℕ) (z : Scene) (u : Under R o z) where
       -- a step can be made
       pub under_open : is_open (alone v l.iterations) z ≡ true
       unfolding opened
-      under_open = rw (eq-eqb z.point.fault 0 (unfaulted z u.m u.g u.serving), lt-ltb (at z) l.iterations (omega (arith, u.here, low)))
+      under_open = rw (unfaulted z u.m u.g u.serving, lt-ltb (at z) l.iterations (omega (arith, u.here, low)))
 
       -- and noted, and then the iteration is still under way, or over
       module _ (z' : Scene) (w : Goes (alone v l.iterations) code z z') where
@@ -128,7 +129,7 @@ module _ (code : List ℕ) (v : ℤ) (l : Loop) (i : ℕ) (L : List ℕ) where
         by (Write c y) q m' s h = on writes c y (sized_as _ (rw q at w.comes.meaning)).0 m' s (ap at h)
         by (Update c y) q m' s h = on updates c y (sized_as _ (rw q at w.comes.meaning)).0 m' s (ap at h)
         by (Fault n t) q m' s h =
-            absurd (omega (arith, fault_some x code z z' w n t q, unfaulted z' m' u.g s, ap (λ (y : Scene). y.point.fault) h))
+            absurd (not_both _ _ (unfaulted z' m' u.g s) (ap (λ (y : Scene). y.point.fault) h))
         by End q m' s h =
             let e : at z' ≡ suc i = ap at h ∙ add-one (at z) ∙ ap suc u.here in
             let k : at z' + (l.iterations - suc i) ≡ l.iterations = omega (arith, e, low) in

@@ -1,5 +1,6 @@
 -- What the sweep promises: the stages of the serial run, of a loop whose serial run meets no fault.
 use Rattle.std.specs.Prelude.{◌≡◌, List, [], ℕ, suc, ◌*◌, ◌-◌, ◌≤◌, ◌<◌, length, replicate, ℤ}
+use Rattle.rules.specs.declared.Class.{Class}
 use Rattle.rules.specs.Cells.{listed}
 use Rattle.rules.specs.Loop.{Loop}
 use Rattle.rules.specs.Log.{reads, writes, updates, Log, each}
@@ -18,7 +19,7 @@ use Rattle.staging.specs.Kept.{Kept}
 -- ---- the whole
 
 -- the code and the setting are a loop's, the cells those at entry, and its serial run meets no fault
-pub record Faultless (code : List ℕ) (s : Setting) (l : Loop) (M : List ℤ) (C : List ℕ) (w : ℕ) : Type 0 where
+pub record Faultless (code : List ℕ) (s : Setting) (l : Loop) (M : List ℤ) (C : List Class) (w : ℕ) : Type 0 where
   pub serials : Serials code s l M C w
   pub faultless : (serial l).outcome ≡ finished
 
@@ -28,7 +29,7 @@ pub record Zeros (M : List ℤ) (R : List ℕ) : Type 0 where
   pub room : length M * 4 ≤ length R
 
 -- there is such a loop, with such rows, and the list has n numbers
-pub record CanSweep (code : List ℕ) (s : Setting) (M : List ℤ) (C : List ℕ) (w : ℕ) (R : List ℕ) (n : ℕ) : Type 0 where
+pub record CanSweep (code : List ℕ) (s : Setting) (M : List ℤ) (C : List Class) (w : ℕ) (R : List ℕ) (n : ℕ) : Type 0 where
   pub loop : Loop
   pub runs : Faultless code s loop M C w
   pub rows : Zeros M R
@@ -39,7 +40,7 @@ pub record Planned (l : Loop) (L : List ℕ) (r : ℕ) : Type 0 where
   pub stages : L ≡ listed l.iterations (stage (serial l).log)
   pub number : r ≡ stage_count (serial l).log l.iterations
 
-abbrev pub Sweeps : List ℕ → Setting → List ℤ → List ℕ → ℕ → List ℕ → ℕ → Type 0
+abbrev pub Sweeps : List ℕ → Setting → List ℤ → List Class → ℕ → List ℕ → ℕ → Type 0
 Sweeps code s M C w L' r = (l : Loop) → Faultless code s l M C w → Planned l L' r
 
 -- ---- one move of iteration i

@@ -6,23 +6,23 @@ ghost use Rattle.std.specs.Prelude.{length};
 ghost use Rattle.sweeping.specs.Sweep.{CanNote, Notes, CanIterate, Iterates, CanSweep, Sweeps};
 
 use operands::Move;
-use rules::Iteration;
-use staging::{note_change, note_read};
+use rules::{Class, Iteration};
+use staging::Touch;
 use stepping::{Extent, Role};
-use tables::higher_of;
 use trial::Setting;
 
 // A move of iteration i, in the rows of the stage table. The answer is the highest stage that the iteration has to come after, which was `over`.
+#[tactic(auto, unfolding(crate::specs::Sweep::CanNote, crate::specs::Sweep::noted_by, crate::specs::Sweep::over_by))]
 fn note(rows: &mut [u32], list: &[u16], i: Iteration, done: Move, over: u32) -> u32
     requires { CanNote list.now i.0 rows.old done }
     ensures { Notes list.now i.0 rows.old done over rows.new result }
 {
     match done {
-        Move::Read { cell } => note_read(rows, list, i, cell, over),
-        Move::Write { cell, value } => note_change(rows, list, i, cell, over),
-        Move::Update { cell, value } => note_change(rows, list, i, cell, over),
-        Move::Fault { number, line } => over,
-        Move::End => over,
+        Move::Read { cell } => staging::note(rows, list, i, cell, Touch::Read, over),
+        Move::Write { cell, .. } | Move::Update { cell, .. } => {
+            staging::note(rows, list, i, cell, Touch::Change, over)
+        }
+        Move::Fault { .. } | Move::End => over,
     }
 }
 
@@ -45,10 +45,8 @@ fn iterate(
     let mut over: u32 = 0;
     while t.iteration.0 == i.0 {
         let r = stepping::carry_on(code, role, cells, w, &mut pending, t, Extent::Once);
-        let done = r.done;
-        over = note(rows, list, i, done, over);
-        let point = r.point;
-        t = point;
+        over = note(rows, list, i, r.done, over);
+        t = r.point;
     }
     over
 }
@@ -57,7 +55,7 @@ fn iterate(
 pub fn sweep(
     code: &[u32],
     setting: Setting,
-    classes: &[u32],
+    classes: &[Class],
     cells: &mut [i32],
     w: &mut [u32],
     rows: &mut [u32],
@@ -68,16 +66,12 @@ pub fn sweep(
 {
     trial::enter(1, cells, classes, w);
     let role = serial::only_role(setting);
-    let n = setting.iterations;
     let mut stages: u32 = 0;
-    let mut index: u32 = 0;
-    while index < n {
-        let i = Iteration(index);
-        let over = iterate(code, role, list, i, cells, w, rows);
+    for i in 0..setting.iterations {
+        let over = iterate(code, role, list, Iteration(i), cells, w, rows);
         let stage = over + 1;
-        list[index as usize] = stage as u16;
-        stages = higher_of(stages, stage);
-        index += 1;
+        list[i as usize] = stage as u16;
+        stages = stages.max(stage);
     }
     stages
 }

@@ -8,6 +8,8 @@ use native.Mathlib.Omega.{arith}
 use lib.Dec.{eqb, ltb}
 use lib.ListN.{length}
 use borrow.Author.Tests.{le-ltb, ltb-false}
+use Rattle.syntax.specs.declared.Flaw.{Flaw}
+use Rattle.syntax.specs.declared.Flaw.TheVariants.{TooLong, BrokenForm, WrongName, OverLimit}
 use Rattle.syntax.specs.Bytes.{choose, all, lower, lines, tokens, skipped_line, sound_line, after_newline, in_front, Token}
 use Rattle.syntax.specs.Grammar.{Line, declare, give, direct, loop, inside, assign, when, otherwise, end_if, end_do, close, show_line}
 use Rattle.syntax.specs.Reader.{parse}
@@ -22,19 +24,19 @@ use Rattle.syntax.proofs.Complete.{parse_complete}
 
 -- ---- verdicts
 
-not_good : {n k : ℕ} {s : State} → refused n k ≡ good s → ⊥
+not_good : {n : Flaw} {k : ℕ} {s : State} → refused n k ≡ good s → ⊥
 not_good {n} {k} {s} h = let z : ◌≡◌ {A = ℕ} 0 1 = cc in omega arith
 
 same_good : {s t : State} → good s ≡ good t → s ≡ t
 same_good {s} {t} h = cc
 
 -- a test that refuses where it holds
-passed : (c : Bool) (n k : ℕ) (f : Unit {0} → Verdict) {s : State} → choose c (λ _. refused n k) f ≡ good s → (c ≡ false) × (f tt ≡ good s)
+passed : (c : Bool) (n : Flaw) (k : ℕ) (f : Unit {0} → Verdict) {s : State} → choose c (λ _. refused n k) f ≡ good s → (c ≡ false) × (f tt ≡ good s)
 passed true n k f h = absurd (not_good h)
 passed false n k f h = (refl, h)
 
 -- and one that refuses where it fails
-pub met : (c : Bool) (n k : ℕ) (f : Unit {0} → Verdict) {s : State} → choose (not c) (λ _. refused n k) f ≡ good s → (c ≡ true) × (f tt ≡ good s)
+pub met : (c : Bool) (n : Flaw) (k : ℕ) (f : Unit {0} → Verdict) {s : State} → choose (not c) (λ _. refused n k) f ≡ good s → (c ≡ true) × (f tt ≡ good s)
 met true n k f h = (refl, h)
 met false n k f h = absurd (not_good h)
 
@@ -84,10 +86,10 @@ judged_good : (k : ℕ) (last : Bool) (s : State) (b : List ℕ) (t : State) →
 unfolding judged
 judged_good k last s b t n none p h = absurd (not_good h)
 judged_good k last s b t n (some l) p h =
-    let (x, h1) = passed (not (stands s l) || (last && not (finished (stage_of l)))) 2 k _ h in
+    let (x, h1) = passed (not (stands s l) || (last && not (finished (stage_of l)))) BrokenForm k _ h in
     let (y, z) = neither (stands s l) (last && not (finished (stage_of l))) x in
-    let (u, h2) = met (names s l) 3 k _ h1 in
-    let (v, h3) = met (limits s l) 4 k _ h2 in
+    let (u, h2) = met (names s l) WrongName k _ h1 in
+    let (v, h3) = met (limits s l) OverLimit k _ h2 in
     let e = same_good h3 in
     speaks l n (parse_sound (tokens b) l p) y u v e
     (λ q. subst (λ (w : ℕ). finished w ≡ true) (sym (stage_after k l s) ∙ ap (λ (r : State). r.stage) e) (at_end last (finished (stage_of l)) z q))
@@ -95,15 +97,15 @@ judged_good k last s b t n (some l) p h =
 line_good : (k : ℕ) (last : Bool) (s : State) (b : List ℕ) (t : State) → judge_line k last s b ≡ good t → (sound_line b ≡ true) × Good k last s b t
 unfolding judge_line
 line_good k last s b t h =
-    let (x, h1) = met (sound_line b) 2 k _ h in
+    let (x, h1) = met (sound_line b) BrokenForm k _ h in
     (x, go (skipped_line b) refl h1)
   where
     go : (c : Bool) → skipped_line b ≡ c
-        → choose c (λ _. cond (last && not (finished s.stage)) (refused 2 k) (good s)) (λ _. judged k last s (parse (tokens b))) ≡ good t
+        → choose c (λ _. cond (last && not (finished s.stage)) (refused BrokenForm k) (good s)) (λ _. judged k last s (parse (tokens b))) ≡ good t
         → Good k last s b t
     go true e h = skipped (last && not (finished s.stage)) refl h
       where
-        skipped : (c : Bool) → last && not (finished s.stage) ≡ c → cond c (refused 2 k) (good s) ≡ good t → Good k last s b t
+        skipped : (c : Bool) → last && not (finished s.stage) ≡ c → cond c (refused BrokenForm k) (good s) ≡ good t → Good k last s b t
         skipped true p q = absurd (not_good q)
         skipped false p q =
             let i = same_good q in skips e i (λ r. subst (λ (w : State). finished w.stage ≡ true) i (at_end last (finished s.stage) p r))
@@ -152,7 +154,7 @@ judge_sound k s (b ∷ ls) t f h = go (λ u. judge_sound (suc k) u ls t) (judge_
 
 -- ---- complete
 
-goes : {c : Bool} (n k : ℕ) (f : Unit {0} → Verdict) {v : Verdict} → c ≡ true → f tt ≡ v → choose (not c) (λ _. refused n k) f ≡ v
+goes : {c : Bool} (n : Flaw) (k : ℕ) (f : Unit {0} → Verdict) {v : Verdict} → c ≡ true → f tt ≡ v → choose (not c) (λ _. refused n k) f ≡ v
 goes n k f e h = ap (λ (c : Bool). choose (not c) (λ _. refused n k) f) e ∙ h
 
 unfinished : {last done : Bool} → (last ≡ true → done ≡ true) → last && not done ≡ false
@@ -166,25 +168,25 @@ judged_it : (k : ℕ) (last : Bool) (s : State) (l : Line) → stands s l ≡ tr
     → (last ≡ true → finished (stage_of l) ≡ true) → judged k last s (some l) ≡ good (after k l s)
 unfolding judged
 judged_it k last s l y n m f =
-    ap (λ (c : Bool). choose c (λ _. refused 2 k)
-    (λ _. choose (not (names s l)) (λ _. refused 3 k) (λ _. choose (not (limits s l)) (λ _. refused 4 k) (λ _. good (after k l s)))))
+    ap (λ (c : Bool). choose c (λ _. refused BrokenForm k)
+    (λ _. choose (not (names s l)) (λ _. refused WrongName k) (λ _. choose (not (limits s l)) (λ _. refused OverLimit k) (λ _. good (after k l s)))))
     (ap (λ (c : Bool). not c || (last && not (finished (stage_of l)))) y ∙ unfinished f)
-    ∙ goes 3 k _ n (goes 4 k _ m refl)
+    ∙ goes WrongName k _ n (goes OverLimit k _ m refl)
 
 line_skips : (k : ℕ) (last : Bool) (s : State) (b : List ℕ) → sound_line b ≡ true → skipped_line b ≡ true → (last ≡ true → finished s.stage ≡ true)
     → judge_line k last s b ≡ good s
 unfolding judge_line
 line_skips k last s b x e f =
-    goes 2 k _ x (ap (λ (c : Bool). choose c (λ _. cond (last && not (finished s.stage)) (refused 2 k) (good s))
+    goes BrokenForm k _ x (ap (λ (c : Bool). choose c (λ _. cond (last && not (finished s.stage)) (refused BrokenForm k) (good s))
     (λ _. judged k last s (parse (tokens b)))) e
-    ∙ ap (λ (c : Bool). cond c (refused 2 k) (good s)) (unfinished f))
+    ∙ ap (λ (c : Bool). cond c (refused BrokenForm k) (good s)) (unfinished f))
 
 line_speaks : (k : ℕ) (last : Bool) (s : State) (b : List ℕ) (l : Line) → sound_line b ≡ true → skipped_line b ≡ false → tokens b ≡ show_line l
     → stands s l ≡ true → names s l ≡ true → limits s l ≡ true
     → (last ≡ true → finished (stage_of l) ≡ true) → judge_line k last s b ≡ good (after k l s)
 unfolding judge_line
 line_speaks k last s b l x e i y n m f =
-    goes 2 k _ x (ap (λ (c : Bool). choose c (λ _. cond (last && not (finished s.stage)) (refused 2 k) (good s))
+    goes BrokenForm k _ x (ap (λ (c : Bool). choose c (λ _. cond (last && not (finished s.stage)) (refused BrokenForm k) (good s))
     (λ _. judged k last s (parse (tokens b)))) e
     ∙ ap (judged k last s) (ap parse i ∙ parse_complete l) ∙ judged_it k last s l y n m f)
 
@@ -260,14 +262,14 @@ not_none s e = let f = some_lines s in let z : ◌≡◌ {A = ℕ} 0 1 = cc in o
 pub read_sound : (text : List ℕ) (s : State) → read text ≡ good s → (p : Program) × Follows text p × (learnt nothing p ≡ s)
 unfolding read
 read_sound text s h =
-    let (x, h1) = passed (ltb 2048 (length text)) 1 0 _ h in
+    let (x, h1) = passed (ltb 2048 (length text)) TooLong 0 _ h in
     let r = judge_sound 1 nothing (lines (map lower text)) s (λ e. absurd (not_none (map lower text) e)) h1 in
     (r.program, record { short = ltb-false 2048 (length text) x; sound = r.sound; spelled = r.spelled; ordered = r.ordered }, r.known)
 
 pub read_complete : (text : List ℕ) (p : Program) → Follows text p → read text ≡ good (learnt nothing p)
 unfolding read
 read_complete text p f =
-    ap (λ (c : Bool). choose c (λ _. refused 1 0) (λ _. judge 1 nothing (lines (map lower text)))) (le-ltb 2048 (length text) f.short)
+    ap (λ (c : Bool). choose c (λ _. refused TooLong 0) (λ _. judge 1 nothing (lines (map lower text)))) (le-ltb 2048 (length text) f.short)
     ∙ judge_complete 1 nothing (lines (map lower text)) p f.sound f.spelled f.ordered
 
 same_written : (p q : Program) → map shown p ≡ map shown q → p ≡ q

@@ -14,7 +14,9 @@ use Rattle.int32.specs.declared.Relation.{Relation}
 use Rattle.int32.specs.Integers.{product, quotient, related}
 use Rattle.rules.specs.declared.Operator.{Operator}
 use Rattle.rules.specs.Operation.{operation}
-use Rattle.rules.specs.Loop.{Act, read, write, update, done, Class, shared, operator, Loop}
+use Rattle.rules.specs.declared.Class.{Class}
+use Rattle.rules.specs.declared.Class.TheVariants.{Shared as shared}
+use Rattle.rules.specs.Loop.{Act, read, write, update, done, operator, Loop}
 use Rattle.rules.specs.Merge.{pairs, written_cells}
 use Rattle.rules.proofs.Likewise.{Like, like_done, like_write, like_comes, like_update, like_serial, Comes, comes_value, comes_fault, comes_read, comes_then, traced_cells, traced_pairs}
 use Rattle.syntax.specs.declared.Function.{Function}

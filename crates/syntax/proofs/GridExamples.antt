@@ -22,6 +22,7 @@ use Rattle.syntax.specs.Grammar.{number_from, show, show_terms, show_term, show_
 use Rattle.syntax.specs.Known.{find, then_do, values, class_in, cells, after}
 use Rattle.syntax.specs.Conditions.{mentions, in_terms, in_term, in_factors, in_factor, in_ref, in_line, names, limits, stands}
 use Rattle.syntax.specs.Reader.{read_expr, read_terms, read_term, read_factors, read_factor, read_ref, read_more, read_declare, read_give, read_clauses, read_directive, read_loop, read_assign, read_when, read_end, read_start, read_line, parse}
+use Rattle.syntax.specs.Flaws.{flaw_number}
 use Rattle.syntax.specs.Text.{Verdict, refused, good, judged, judge_line, judge, read, loaded}
 use Rattle.syntax.specs.Meaning.{no_zeros, alike, summand, multiplicand, alone, rival, is_update, remainder, located, in_grid, divides, called, eval, eval_terms, eval_term, eval_factors, eval_factor, place, assigned, exec, class_of, loop_of, partition_of}
 use Rattle.syntax.proofs.Quoted.{text}
@@ -60,11 +61,11 @@ abbrev row : Shown → Shown → Row
 row a b = record { got = a; want = b }
 
 abbrev ran : Verdict → Shown
-ran (refused n k) = refuses n k
+ran (refused f k) = refuses (flaw_number f) k
 ran (good s) = let e = run (loop_of s (loaded s.table)) (partition_of s) [] in ends e.answer e.cells
 
 abbrev sized : Verdict → Shown
-sized (refused n k) = refuses n k
+sized (refused f k) = refuses (flaw_number f) k
 sized (good s) = sizes (cells s.table)
 
 -- the cells as Load fills them

@@ -4,6 +4,8 @@ pub mod Theorem
 pub mod GridExamples
 -- Readers one after another.
 pub mod ReaderLaws
+-- Ranks by their numbers.
+pub mod RankLaws
 -- The argument: what is spelled by tokens from place to place, what a reader has met, what it reads, the places of a line's bytes, whole texts,
 -- nested statements and the lines that they stand on.
 pub mod Spelling

@@ -10,7 +10,9 @@ use borrow.Author.Tests.{leb-true}
 use Rattle.int32.specs.declared.Relation.{Relation}
 use Rattle.int32.specs.Integers.{quotient, related}
 use Rattle.rules.specs.declared.Operator.{Operator}
-use Rattle.rules.specs.Loop.{Act, read, write, update, fault, done, Class, shared, lastprivate, copied, reduction, Reduces}
+use Rattle.rules.specs.declared.Class.{Class}
+use Rattle.rules.specs.declared.Class.TheVariants.{Shared as shared, Lastprivate as lastprivate, Copied as copied, Reduction as reduction}
+use Rattle.rules.specs.Loop.{Act, read, write, update, fault, done, Reduces}
 use Rattle.rules.specs.Proper.{Sums, Sized, Proper}
 use Rattle.rules.proofs.BlocksLaws.{tested_proper}
 use Rattle.syntax.specs.declared.Function.{Function}

@@ -15,3 +15,6 @@ pub mod Spelled
 -- to look at: nested statements as lines; what holds of every accepted text
 pub mod Nesting
 pub mod Sane
+-- what is wrong with a text, and the ranks that the readers hand on, by their numbers
+pub mod Flaws
+pub mod Ranks

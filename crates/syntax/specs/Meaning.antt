@@ -4,7 +4,9 @@ use Rattle.std.proofs.Math.Option.{Option, none, some}
 use Rattle.int32.specs.Integers.{sum, difference, product, negation, larger, quotient, related}
 use Rattle.rules.specs.declared.Operator.{Operator}
 use Rattle.rules.specs.declared.Operator.TheVariants.{Sum, Product, Maximum}
-use Rattle.rules.specs.Loop.{Act, read, write, update, fault, done, Class, shared, lastprivate, copied, reduction, operator, Loop, Partition}
+use Rattle.rules.specs.declared.Class.{Class}
+use Rattle.rules.specs.declared.Class.TheVariants.{Shared as shared, Lastprivate as lastprivate, Copied as copied, Reduction as reduction}
+use Rattle.rules.specs.Loop.{Act, read, write, update, fault, done, operator, Loop, Partition}
 use Rattle.rules.specs.Blocks.{tested}
 use Rattle.rules.specs.Cells.{cell_of}
 use Rattle.syntax.specs.declared.Function.{Function}

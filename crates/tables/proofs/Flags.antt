@@ -5,9 +5,9 @@ use Prim.Native.Nat.{ℕ, ◌+◌, ◌*◌, ◌/◌, ◌%◌, ◌≤◌}
 use native.Mathlib.Omega.{arith}
 use Rattle.rules.specs.Choose.{pick}
 use Rattle.rules.specs.ChooseLaws.{pick_same, pick_other}
-use Rattle.rules.specs.Loop.{Class, operator}
-use Rattle.rules.specs.Numbers.{class_number, operator_by}
-use Rattle.rules.proofs.NumberLaws.{operator_number}
+use Rattle.rules.specs.declared.Class.{Class}
+use Rattle.rules.specs.Numbers.{class_number, class_by}
+use Rattle.rules.proofs.NumberLaws.{numbered}
 use Rattle.tables.specs.Layout.{bit, flags_of}
 
 pub bit_most : (b : Bool) → bit b ≤ 1
@@ -27,14 +27,14 @@ module _ (k : Class) (cr up : Bool) where
       middle : (a b c : ℕ) → b ≤ 1 → c ≤ 1 → (4 * a + 2 * b + c) / 2 % 2 ≡ b
       middle a b c g h = omega arith
 
-  pub flags_class : flags_of k cr up / 4 ≡ class_number k
-  flags_class = high (class_number k) (bit up) (bit cr) (bit_most up) (bit_most cr)
+  pub flags_number : flags_of k cr up / 4 ≡ class_number k
+  flags_number = high (class_number k) (bit up) (bit cr) (bit_most up) (bit_most cr)
     where
       high : (a b c : ℕ) → b ≤ 1 → c ≤ 1 → (4 * a + 2 * b + c) / 4 ≡ a
       high a b c g h = omega arith
 
-  pub flags_operator : operator_by (flags_of k cr up / 4) ≡ operator k
-  flags_operator = ap operator_by flags_class ∙ operator_number k
+  pub flags_class : class_by (flags_of k cr up / 4) ≡ k
+  flags_class = ap class_by flags_number ∙ numbered k
 
 -- a choice by a mark's bit
 pub pick_bit : {A : Type 0} (b : Bool) (x y : A) → pick (bit b) 1 x y ≡ cond b x y

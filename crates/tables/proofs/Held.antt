@@ -12,7 +12,7 @@ use lib.IntN.{ℤ}
 use Rattle.int32.specs.Integers.{value}
 use Rattle.rules.specs.Choose.{put}
 use Rattle.rules.specs.ChooseLaws.{put_same, put_other}
-use Rattle.rules.specs.Loop.{Class}
+use Rattle.rules.specs.declared.Class.{Class}
 use Rattle.shadow.specs.Tables.{Own, Row, Tables}
 use Rattle.tables.specs.Layout.{row_at, own_at, flags_of, OwnHeld, RowHeld, Holds}
 

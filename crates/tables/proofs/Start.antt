@@ -12,12 +12,11 @@ use lib.ListN.{length, get_or, replicate, length-replicate}
 use lib.IntN.{ℤ}
 use Rattle.int32.specs.Integers.{value}
 use Rattle.int32.proofs.Laws.{value_word}
-use Rattle.rules.specs.declared.Operator.{Operator}
 use Rattle.rules.specs.Operation.{Operation, operation}
-use Rattle.rules.specs.Loop.{Class, operator}
-use Rattle.rules.specs.Numbers.{class_number, operator_by}
+use Rattle.rules.specs.declared.Class.{Class}
+use Rattle.rules.specs.Loop.{operator}
+use Rattle.rules.specs.Numbers.{class_number}
 use Rattle.rules.proofs.OperationLaws.{start_fits}
-use Rattle.rules.proofs.NumberLaws.{operator_number}
 use Rattle.shadow.specs.Tables.{Row, blank, tables}
 use Rattle.tables.specs.Layout.{row_at, own_at, flags_of, RowHeld, Holds}
 use Rattle.tables.specs.Entered.{entered, begun}
@@ -53,31 +52,28 @@ module _ (n p : ℕ) (class : ℕ → Class) (entry : ℕ → ℤ) where
     abbrev row : ℕ
     row = row_at p k
 
-    abbrev number : ℕ
-    number = class_number (class k)
-
     abbrev E : List ℕ
-    E = entered W row (entry k) number
+    E = entered W row (entry k) (class k)
 
     abbrev start : ℤ
-    start = (operation (operator_by number)).start
+    start = (joins class k).start
 
     abbrev W' : List ℕ
-    W' = begun W row p (entry k) number
+    W' = begun W row p (entry k) (class k)
 
     fits : row + (6 + 5 * p) ≤ length W
     fits = omega (arith, h.size, rows_apart p k n b)
 
     len : length W' ≡ length W
     unfolding begun
-    len = started_length E row start p ∙ entered_length W row (entry k) number (omega (arith, fits))
+    len = started_length E row start p ∙ entered_length W row (entry k) (class k) (omega (arith, fits))
 
     -- the partial results
     partial : (q : ℕ) → q < p → value (get_or W' (own_at row q + 3) 0) ≡ (joins class k).start
     unfolding begun
     partial q l =
-        ap value (started_partial E row start p q l (omega (arith, fits, entered_length W row (entry k) number (omega (arith, fits)))))
-        ∙ value_word start (start_fits (operator_by number)) ∙ ap (λ (o : Operator). (operation o).start) (operator_number (class k))
+        ap value (started_partial E row start p q l (omega (arith, fits, entered_length W row (entry k) (class k) (omega (arith, fits)))))
+        ∙ value_word start (start_fits (operator (class k)))
 
     -- a word that is none of them, and one outside the row's own words
     before : (j : ℕ) → ((q : ℕ) → q < p → j ≡ row + 6 + 5 * q + 3 → ⊥) → get_or W' j 0 ≡ get_or E j 0
@@ -85,7 +81,7 @@ module _ (n p : ℕ) (class : ℕ → Class) (entry : ℕ → ℤ) where
     before j m = started_other E row start p j m
 
     other : (j : ℕ) → (j < row ⊎ row + 6 ≤ j) → ((q : ℕ) → q < p → j ≡ row + 6 + 5 * q + 3 → ⊥) → get_or W' j 0 ≡ get_or W j 0
-    other j s m = before j m ∙ entered_other W row (entry k) number (omega (arith, fits)) j s
+    other j s m = before j m ∙ entered_other W row (entry k) (class k) (omega (arith, fits)) j s
 
     -- a word after the row's own words that is no partial result was 0
     zero_own : (j : ℕ) → row + 6 ≤ j → ((q : ℕ) → q < p → j ≡ row + 6 + 5 * q + 3 → ⊥) → get_or W' j 0 ≡ 0
@@ -95,15 +91,15 @@ module _ (n p : ℕ) (class : ℕ → Class) (entry : ℕ → ℤ) where
     unfolding value
     new_row = record {
       entry =
-          ap value (before row (λ q l. omega arith) ∙ entered_value W row (entry k) number (omega (arith, fits)))
+          ap value (before row (λ q l. omega arith) ∙ entered_value W row (entry k) (class k) (omega (arith, fits)))
           ∙ value_word (entry k) f;
-      met = before (row + 1) (λ q l. omega arith) ∙ entered_met W row (entry k) number (omega (arith, fits));
-      writers = before (row + 2) (λ q l. omega arith) ∙ entered_writers W row (entry k) number (omega (arith, fits));
+      met = before (row + 1) (λ q l. omega arith) ∙ entered_met W row (entry k) (class k) (omega (arith, fits));
+      writers = before (row + 2) (λ q l. omega arith) ∙ entered_writers W row (entry k) (class k) (omega (arith, fits));
       flags =
-          before (row + 3) (λ q l. omega arith) ∙ entered_flags W row (entry k) number (omega (arith, fits))
-          ∙ (let e : 4 * number ≡ flags_of (class k) false false = omega arith in e);
-      lowest = before (row + 4) (λ q l. omega arith) ∙ entered_lowest W row (entry k) number (omega (arith, fits));
-      highest = before (row + 5) (λ q l. omega arith) ∙ entered_highest W row (entry k) number (omega (arith, fits));
+          before (row + 3) (λ q l. omega arith) ∙ entered_flags W row (entry k) (class k) (omega (arith, fits))
+          ∙ (let e : 4 * class_number (class k) ≡ flags_of (class k) false false = omega arith in e);
+      lowest = before (row + 4) (λ q l. omega arith) ∙ entered_lowest W row (entry k) (class k) (omega (arith, fits));
+      highest = before (row + 5) (λ q l. omega arith) ∙ entered_highest W row (entry k) (class k) (omega (arith, fits));
       own = λ q l. record {
         value = ap value (zero_own (own_at row q) (omega arith) (λ s m. omega arith));
         wrote = zero_own (own_at row q + 1) (omega arith) (λ s m. omega arith);

@@ -1,25 +1,18 @@
 -- Words that were set, and those of a row at its start.
 use mathlib.Core.Path.{◌≡◌, refl, ◌∙◌}
 use mathlib.Core.Logic.{◌⊎◌, inl, inr}
-use mathlib.Core.List.{List, [], ◌++◌, append-nil}
+use mathlib.Core.List.{List}
 use Prim.Native.Nat.{ℕ, zero, suc, ◌+◌, ◌*◌, ◌≤◌, ◌<◌}
 use native.Mathlib.Decide.{ℕ_discrete}
 use native.Mathlib.Omega.{arith}
 use lib.IntN.{ℤ}
-use lib.ListN.{length, get_or, set, drop, replicate, length-set, drop_of_length-le}
+use lib.ListN.{length, get_or, set, length-set}
 use lib.Seq.{get_or-set_same, get_or-set_other}
+use Rattle.std.proofs.lemmas.Grind.{common_steps}
 use Rattle.int32.specs.Integers.{word}
+use Rattle.rules.specs.declared.Class.{Class}
+use Rattle.rules.specs.Numbers.{class_number}
 use Rattle.tables.specs.Entered.{entered, started}
-
--- with at most 8 processors
-pub stride_most : (p : ℕ) → p ≤ 8 → 6 + 5 * p ≤ 46
-stride_most p h = omega arith
-
--- a list that was filled to its end
-pub filled : (W : List ℕ) (n : ℕ) → n ≡ length W → replicate n 0 ++ drop n W ≡ replicate (length W) 0
-filled W n e =
-    let d : drop (length W) W ≡ [] = drop_of_length-le W {i = length W} (omega arith) in
-    rw (e, d, append-nil)
 
 -- a word that was set, and another
 pub hit : (W : List ℕ) (i v : ℕ) → i < length W → get_or (set W i v) i 0 ≡ v
@@ -30,7 +23,7 @@ unset W i k v n = get_or-set_other W i k v 0 n
 
 -- ---- a row's start
 
-module _ (W : List ℕ) (row : ℕ) (v : ℤ) (n : ℕ) (h : row + 6 ≤ length W) where
+module _ (W : List ℕ) (row : ℕ) (v : ℤ) (c : Class) (h : row + 6 ≤ length W) where
   abbrev enter1 : List ℕ
   enter1 = set W row (word v)
 
@@ -41,54 +34,45 @@ module _ (W : List ℕ) (row : ℕ) (v : ℤ) (n : ℕ) (h : row + 6 ≤ length 
   enter3 = set enter2 (row + 2) 0
 
   abbrev enter4 : List ℕ
-  enter4 = set enter3 (row + 3) (4 * n)
+  enter4 = set enter3 (row + 3) (4 * class_number c)
 
   abbrev enter5 : List ℕ
   enter5 = set enter4 (row + 4) 0
 
   -- the words before the record's
-  before : (k : ℕ) → k < row + 4 → get_or (entered W row v n) k 0 ≡ get_or enter4 k 0
+  before : (k : ℕ) → k < row + 4 → get_or (entered W row v c) k 0 ≡ get_or enter4 k 0
   unfolding entered
-  before k b = unset enter5 (row + 5) k _ (omega arith) ∙ unset enter4 (row + 4) k _ (omega arith)
+  before k b = grind (arith, common_steps)
 
-  pub entered_length : length (entered W row v n) ≡ length W
+  pub entered_length : length (entered W row v c) ≡ length W
   unfolding entered
   entered_length = simp length-set
 
-  pub entered_value : get_or (entered W row v n) row 0 ≡ word v
+  pub entered_value : get_or (entered W row v c) row 0 ≡ word v
   unfolding entered
-  entered_value =
-      before row (omega arith)
-      ∙ unset enter3 (row + 3) row _ (omega arith)
-      ∙ unset enter2 (row + 2) row _ (omega arith)
-      ∙ unset enter1 (row + 1) row _ (omega arith)
-      ∙ hit W row _ (omega arith)
+  entered_value = grind (arith, common_steps)
 
-  pub entered_met : get_or (entered W row v n) (row + 1) 0 ≡ 0
+  pub entered_met : get_or (entered W row v c) (row + 1) 0 ≡ 0
   unfolding entered
-  entered_met =
-      before (row + 1) (omega arith)
-      ∙ unset enter3 (row + 3) (row + 1) _ (omega arith)
-      ∙ unset enter2 (row + 2) (row + 1) _ (omega arith)
-      ∙ hit enter1 (row + 1) _ (simp length-set (omega arith))
+  entered_met = grind (arith, common_steps)
 
-  pub entered_writers : get_or (entered W row v n) (row + 2) 0 ≡ 0
+  pub entered_writers : get_or (entered W row v c) (row + 2) 0 ≡ 0
   unfolding entered
-  entered_writers = before (row + 2) (omega arith) ∙ unset enter3 (row + 3) (row + 2) _ (omega arith) ∙ hit enter2 (row + 2) _ (simp length-set (omega arith))
+  entered_writers = grind (arith, common_steps)
 
-  pub entered_flags : get_or (entered W row v n) (row + 3) 0 ≡ 4 * n
+  pub entered_flags : get_or (entered W row v c) (row + 3) 0 ≡ 4 * class_number c
   unfolding entered
-  entered_flags = before (row + 3) (omega arith) ∙ hit enter3 (row + 3) _ (simp length-set (omega arith))
+  entered_flags = grind (arith, common_steps)
 
-  pub entered_lowest : get_or (entered W row v n) (row + 4) 0 ≡ 0
+  pub entered_lowest : get_or (entered W row v c) (row + 4) 0 ≡ 0
   unfolding entered
-  entered_lowest = unset enter5 (row + 5) (row + 4) _ (omega arith) ∙ hit enter4 (row + 4) _ (simp length-set (omega arith))
+  entered_lowest = grind (arith, common_steps)
 
-  pub entered_highest : get_or (entered W row v n) (row + 5) 0 ≡ 0
+  pub entered_highest : get_or (entered W row v c) (row + 5) 0 ≡ 0
   unfolding entered
-  entered_highest = hit enter5 (row + 5) _ (simp length-set (omega arith))
+  entered_highest = grind (arith, common_steps)
 
-  pub entered_other : (k : ℕ) → (k < row ⊎ row + 6 ≤ k) → get_or (entered W row v n) k 0 ≡ get_or W k 0
+  pub entered_other : (k : ℕ) → (k < row ⊎ row + 6 ≤ k) → get_or (entered W row v c) k 0 ≡ get_or W k 0
   unfolding entered
   entered_other k (inl a) =
       before k (omega arith) ∙ unset enter3 (row + 3) k _ (omega arith) ∙ unset enter2 (row + 2) k _ (omega arith) ∙ unset enter1 (row + 1) k _ (omega arith)

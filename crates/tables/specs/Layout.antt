@@ -3,8 +3,8 @@
 -- its own value, 1 + the group of its last write, 1 + the group of its last exposed read, the partial result of its updates, and 1 + the iteration
 -- of its last write or update. Nothing here has to be believed.
 use Rattle.std.specs.Prelude.{◌≡◌, Bool, true, false, List, ℕ, ◌+◌, ◌*◌, ◌/◌, ◌≤◌, ◌<◌, length, get_or, ℤ}
-use Rattle.rules.specs.Loop.{Class}
-use Rattle.rules.specs.Numbers.{class_number}
+use Rattle.rules.specs.declared.Class.{Class}
+use Rattle.rules.specs.Numbers.{class_number, class_by}
 use Rattle.shadow.specs.Tables.{Own, Row, Tables}
 use Rattle.int32.specs.Integers as integers
 
@@ -78,6 +78,10 @@ highest_word W row = get_or W (highest_at row) 0
 -- the number of the class, in the flags
 abbrev pub class_word : List ℕ → ℕ → ℕ
 class_word W row = flags_word W row / 4
+
+-- the class
+abbrev pub class_held : List ℕ → ℕ → Class
+class_held W row = class_by (class_word W row)
 
 -- of an own part
 abbrev pub private_word : List ℕ → ℕ → ℕ

@@ -2,12 +2,11 @@
 // crates/noting, and crates/findings reads off what they came to.
 #![tactic(auto)]
 
-ghost use Rattle.std.specs.Prelude.{◌≡◌, max, ◌+◌, ◌*◌, ◌≤◌, ◌<◌, length, replicate};
-ghost use Rattle.rules.specs.Choose.{pick};
-ghost use Rattle.tables.specs.Layout.{row_at, own_at, class_word};
+ghost use Rattle.std.specs.Prelude.{eqb, ◌≡◌, max, ◌+◌, ◌*◌, ◌≤◌, ◌<◌, length, replicate};
+ghost use Rattle.tables.specs.Layout.{row_at, own_at, class_word, class_held};
 ghost use Rattle.tables.specs.Entered.{entered, started, begun};
 
-use rules::Processor;
+use rules::{Class, Processor};
 
 // Both write counts stand before the rows.
 pub const PAIRS: usize = 0;
@@ -58,63 +57,56 @@ pub fn own_of(row: usize, p: Processor) -> usize
     row + ROW + OWN * p.0 as usize
 }
 
-// x if a is b, else y.
-pub fn choose(a: u32, b: u32, x: u32, y: u32) -> u32
-    ensures { result ≡ pick a b x y }
-{
-    if a == b { x } else { y }
-}
-
-// The higher of two.
-pub fn higher_of(a: u32, b: u32) -> u32
-    ensures { result ≡ max a b }
-{
-    if a < b { b } else { a }
-}
-
-// The number of the cell's class.
-pub fn class_of(w: &[u32], row: usize) -> u32
+// The cell's class.
+pub fn class_of(w: &[u32], row: usize) -> Class
     requires { row + 6 ≤ length w.now }
-    ensures { result ≡ class_word w.now row }
+    ensures { result ≡ class_held w.now row }
 {
-    w[row + FLAGS] / 4
+    Class::of_number(w[row + FLAGS] / 4)
+}
+
+// Whether the cell is shared: one comparison, for each access asks it.
+pub fn is_shared(w: &[u32], row: usize) -> bool
+    requires { row + 6 ≤ length w.now }
+    ensures { result ≡ eqb (class_word w.now row) 0 }
+{
+    w[row + FLAGS] / 4 == 0
 }
 
 // A row's entry value and class.
-fn set_entry(w: &mut [u32], row: usize, value: i32, class: u32)
-    requires { (row + 6 ≤ length w.old) × (class ≤ 5) }
+#[tactic(auto, unfolding(crate::specs::Entered::entered))]
+fn set_entry(w: &mut [u32], row: usize, value: i32, class: Class)
+    requires { row + 6 ≤ length w.old }
     ensures { w.new ≡ entered w.old row value class }
 {
     w[row] = int32::to_word(value);
     w[row + MET] = 0;
     w[row + WRITERS] = 0;
-    w[row + FLAGS] = 4 * class;
+    w[row + FLAGS] = 4 * class.number();
     w[row + LOWEST] = 0;
     w[row + HIGHEST] = 0;
 }
 
 // The partial results of a row, at the number with which they begin.
+#[tactic(auto, unfolding(crate::specs::Entered::started))]
 fn begin_partials(w: &mut [u32], row: usize, processors: u32, start: i32)
     requires { (row < 4294967296) × (row + 6 + 5 * processors ≤ length w.old) }
     ensures { w.new ≡ started w.old row start processors }
 {
     let word = int32::to_word(start);
-    let mut q: u32 = 0;
-    while q < processors {
-        let p = Processor(q);
-        let own = own_of(row, p);
-        w[own + PARTIAL] = word;
-        q += 1;
+    for q in 0..processors {
+        w[own_of(row, Processor(q)) + PARTIAL] = word;
     }
 }
 
 // A row before any access, of a cell with a value at entry and a class.
-pub fn begin_row(w: &mut [u32], row: usize, processors: u32, value: i32, class: u32)
-    requires { (row < 4294967296) × (row + 6 + 5 * processors ≤ length w.old) × (class ≤ 5) }
+#[tactic(auto, unfolding(crate::specs::Entered::begun))]
+pub fn begin_row(w: &mut [u32], row: usize, processors: u32, value: i32, class: Class)
+    requires { (row < 4294967296) × (row + 6 + 5 * processors ≤ length w.old) }
     ensures { w.new ≡ begun w.old row processors value class }
 {
     set_entry(w, row, value, class);
-    let start = rules::neutral(rules::operator_of(class));
+    let start = rules::neutral(class.operator());
     begin_partials(w, row, processors, start);
 }
 
@@ -122,9 +114,5 @@ pub fn begin_row(w: &mut [u32], row: usize, processors: u32, value: i32, class: 
 pub fn clear(w: &mut [u32])
     ensures { w.new ≡ replicate (length w.old) 0 }
 {
-    let mut i = 0;
-    while i < w.len() {
-        w[i] = 0;
-        i += 1;
-    }
+    w.fill(0);
 }

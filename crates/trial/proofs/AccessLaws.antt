@@ -1,6 +1,8 @@
 -- What an access needs and gives, by what the words stand for.
 use mathlib.Core.Path.{◌≡◌, refl, sym, ◌∙◌, ap, subst}
+use mathlib.Core.Bool.{cond}
 use mathlib.Core.List.{List, ◌∷◌}
+use lib.Dec.{eqb}
 use Prim.Native.Nat.{ℕ, suc, ◌<◌}
 use native.Mathlib.Decide.{ℕ_discrete}
 use native.Mathlib.Omega.{arith}
@@ -12,7 +14,10 @@ use Rattle.rules.specs.Choose.{pick, put}
 use Rattle.rules.specs.ChooseLaws.{pick_same, pick_other, put_same, put_other}
 use Rattle.rules.specs.Cells.{cell_of, listed}
 use Rattle.rules.proofs.CellsLaws.{listed_length, cell_listed, listed_same, listed_cells, cell_set}
-use Rattle.rules.specs.Loop.{Class, shared, lastprivate, copied, reduction, Loop, Partition, bound}
+use Rattle.rules.specs.declared.Operator.TheVariants.{Sum, Product, Maximum}
+use Rattle.rules.specs.declared.Class.{Class}
+use Rattle.rules.specs.declared.Class.TheVariants.{Shared as shared, Lastprivate as lastprivate, Copied as copied, Reduction as reduction}
+use Rattle.rules.specs.Loop.{Loop, Partition, bound}
 use Rattle.rules.specs.Numbers.{class_number}
 use Rattle.rules.proofs.NumberLaws.{reduction_number}
 use Rattle.rules.specs.Log.{reads, writes, updates, Access, access, only}
@@ -24,7 +29,7 @@ use Rattle.shadow.specs.Orderly.{worker}
 use Rattle.shadow.specs.Tables.{table}
 use Rattle.tables.specs.Layout.{row_at, own_at, class_word}
 use Rattle.noting.specs.Changes.{Ready, read_noted, counted, written, updated, own_seen}
-use Rattle.tables.proofs.Logged.{logged_class}
+use Rattle.tables.proofs.Logged.{logged_number}
 use Rattle.tables.specs.Logged.{Logged}
 use Rattle.noting.proofs.Logging.{logged_read, logged_write, logged_update, logged_ready, logged_own}
 use Rattle.stepping.specs.declared.Role.{Role}
@@ -62,14 +67,16 @@ seen_as : (l : Loop) (δ : Partition) (s : State) (i c : ℕ) (k : Class) (x : �
 seen_as l δ s i c shared x e y f = pick_same refl x y ∙ e
 seen_as l δ s i c lastprivate x e y f = pick_other {i = 1} {j = 0} (omega arith) x y ∙ f
 seen_as l δ s i c copied x e y f = pick_other {i = 3} {j = 0} (omega arith) x y ∙ f
-seen_as l δ s i c (reduction o) x e y f = pick_other {i = class_number (reduction o)} {j = 0} (omega (arith, (reduction_number o).0)) x y ∙ f
+seen_as l δ s i c (reduction o) x e y f = pick_other {i = class_number (reduction o)} {j = 0} (omega (arith, reduction_number o)) x y ∙ f
 
 stored_as : (n : ℕ) (f : ℕ → ℤ) (c : ℕ) (v : ℤ) (k : Class) (M : List ℤ) → M ≡ listed n f → c < n
-    → pick (class_number k) 0 (set M c v) M ≡ listed n (steps.stored k f c v)
-stored_as n f c v shared M e b = pick_same refl (set M c v) M ∙ ap (λ (m : List ℤ). set m c v) e ∙ listed_set n f c v b
-stored_as n f c v lastprivate M e b = pick_other {i = 1} {j = 0} (omega arith) (set M c v) M ∙ e
-stored_as n f c v copied M e b = pick_other {i = 3} {j = 0} (omega arith) (set M c v) M ∙ e
-stored_as n f c v (reduction o) M e b = pick_other {i = class_number (reduction o)} {j = 0} (omega (arith, (reduction_number o).0)) (set M c v) M ∙ e
+    → cond (eqb (class_number k) 0) (set M c v) M ≡ listed n (steps.stored k f c v)
+stored_as n f c v shared M e b = ap (λ (m : List ℤ). set m c v) e ∙ listed_set n f c v b
+stored_as n f c v lastprivate M e b = e
+stored_as n f c v copied M e b = e
+stored_as n f c v (reduction Sum) M e b = e
+stored_as n f c v (reduction Product) M e b = e
+stored_as n f c v (reduction Maximum) M e b = e
 
 module _ (g : Setting) (l : Loop) (M : List ℤ) (W : List ℕ) (s : State) (p i c : ℕ) (a : Allowed g l M W s p i c) where
   abbrev δ : Partition
@@ -134,15 +141,15 @@ module _ (g : Setting) (l : Loop) (M : List ℤ) (W : List ℕ) (s : State) (p i
       let t = a.standing in
       let by : (k j : ℕ) → ℤ = λ k j. pick (class_word W (row_at k c)) 0 (cell_of M c) (own_seen W (row_at k c) (own_at (row_at k c) p) j) in
       sym (λ n. by (processors_are n) (group_is n))
-      ∙ ap (λ (n : ℕ). pick n 0 (cell_of M c) (own_seen W row (own_at row p) (δ.group i))) (logged_class l δ s.log W t.words c a.inside)
+      ∙ ap (λ (n : ℕ). pick n 0 (cell_of M c) (own_seen W row (own_at row p) (δ.group i))) (logged_number l δ s.log W t.words c a.inside)
       ∙ seen_as l δ s i c (l.class c) (cell_of M c) (ap (λ (n : List ℤ). cell_of n c) t.cells ∙ cell_listed l.size s.cells c a.inside) _ own_is
 
   -- what is stored
   pub access_stored : (v : ℤ) → stored x M W c v ≡ listed l.size (steps.stored (l.class c) s.cells c v)
   unfolding stored_by
   access_stored v =
-      ap (λ (k : ℕ). pick (class_word W (row_at k c)) 0 (set M c v) M) (sym processors_are)
-      ∙ ap (λ (n : ℕ). pick n 0 (set M c v) M) (logged_class l δ s.log W a.standing.words c a.inside)
+      ap (λ (k : ℕ). cond (eqb (class_word W (row_at k c)) 0) (set M c v) M) (sym processors_are)
+      ∙ ap (λ (n : ℕ). cond (eqb n 0) (set M c v) M) (logged_number l δ s.log W a.standing.words c a.inside)
       ∙ stored_as l.size s.cells c v (l.class c) M a.standing.cells a.inside
 
   -- what is noted: the words X that go with the number of processors and the group

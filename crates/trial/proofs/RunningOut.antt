@@ -3,11 +3,13 @@ use mathlib.Core.Path.{◌≡◌, refl, sym, ◌∙◌, ap, subst}
 use mathlib.Core.Logic.{◌≢◌, ◌⊎◌, inl, inr}
 use mathlib.Core.Bool.{false}
 use mathlib.Core.List.{List}
-use Prim.Native.Nat.{ℕ, zero, suc, ◌-◌, ◌≤◌, ◌<◌}
-use native.Mathlib.Decide.{ℕ_discrete, dec_lt}
+use Prim.Native.Nat.{ℕ, zero, suc, ◌+◌, ◌-◌, ◌≤◌, ◌<◌}
+use native.Mathlib.Decide.{dec_lt}
 use native.Mathlib.Omega.{arith}
+use Rattle.std.proofs.Common.{below_more}
 use lib.ListN.{length, get_or, set}
 use lib.Seq.{get_or-set_same, get_or-set_other}
+use Rattle.std.specs.Prelude.{IsSome}
 use Rattle.rules.specs.ChooseLaws.{put_same}
 use Rattle.rules.specs.Loop.{Act, read, write, update, fault, done, Loop, Partition, bound}
 use Rattle.rules.specs.Steps.{Place, State, opening, given, go_on, step, through, through_all, run_out}
@@ -17,7 +19,7 @@ use Rattle.stepping.specs.declared.Extent.TheVariants.{Once, ToTheEnd}
 use Rattle.stepping.specs.declared.Role.{Role}
 use Rattle.stepping.specs.Step.{Scene}
 use Rattle.stepping.specs.Carrying.{is_open, Reached, CanCarry}
-use Rattle.stepping.proofs.Opened.{opened_no}
+use Rattle.stepping.proofs.Opened.{opened_no, stop_of}
 use Rattle.trial.specs.declared.Worker.{Worker}
 use Rattle.trial.specs.declared.Setting.{Setting}
 use Rattle.trial.specs.Running.{dealt, joined, nobody, Turn, Over, role_of, along, Ends}
@@ -120,11 +122,11 @@ module _ (code : List ℕ) (g : Setting) (l : Loop) (p : ℕ) where
   turn_over : (s : State) (z : Scene) → TurnAt s z → is_open x z ≡ false → run_out l δ p s ≡ s
   turn_over s z t o = by (opened_no z.point (block_start g.iterations g.processors (suc p)) o)
     where
-      by : (z.point.fault ≢ 0) ⊎ (block_start g.iterations g.processors (suc p) ≤ z.point.iteration.0) → run_out l δ p s ≡ s
+      by : IsSome z.point.fault ⊎ (block_start g.iterations g.processors (suc p) ≤ z.point.iteration.0) → run_out l δ p s ≡ s
       by (inr h) = run_out_finished l δ p s (omega (arith, turn_end code g l z.cells z.words s p (joined z.pending z.point) t, t.held.at))
-      by (inl n) = elim (dec_lt (s.places p).at (bound δ (suc p))) [
-        | yes y ↦ run_out_stopped l δ p s z.point.fault z.point.line
-            (turn_fault code g l z.cells z.words s p (joined z.pending z.point) t n y)
+      by (inl n) = let (f, e) = stop_of z.point.fault n in elim (dec_lt (s.places p).at (bound δ (suc p))) [
+        | yes y ↦ run_out_stopped l δ p s f.number f.line
+            (turn_fault code g l z.cells z.words s p (joined z.pending z.point) t f e y)
         | no y ↦ run_out_finished l δ p s (omega arith)
       ]
 
@@ -160,9 +162,9 @@ module _ (code : List ℕ) (g : Setting) (l : Loop) (p : ℕ) where
   unfolding Ends carrying.Carries
   carried_ends k r q z z' h = by k (rw q at h)
     where
-      over : (z'.point.fault ≢ 0) ⊎ (block_start g.iterations g.processors (suc p) ≤ z'.point.iteration.0)
+      over : IsSome z'.point.fault ⊎ (block_start g.iterations g.processors (suc p) ≤ z'.point.iteration.0)
           → Over g p (joined z'.pending z'.point)
-      over (inl n) = inl (omega arith)
+      over (inl n) = inl n
       over (inr b) = inr b
 
       by : (k : Extent) → carrying.Carries k x code z z' → Ends k g p (joined z'.pending z'.point)
@@ -171,8 +173,5 @@ module _ (code : List ℕ) (g : Setting) (l : Loop) (p : ℕ) where
 
 -- one processor more is over
 pub over_more : (g : Setting) (ws : List Worker) (q : ℕ) (x : Worker) → q < length ws → ((j : ℕ) → j < q → Over g j (get_or ws j nobody)) → Over g q x
-    → (j : ℕ) → j < suc q → Over g j (get_or (set ws q x) j nobody)
-over_more g ws q x b h o j c = elim (ℕ_discrete j q) [
-  | yes e ↦ rw (e, get_or-set_same ws q x nobody b) o
-  | no n ↦ rw (get_or-set_other ws q j x nobody n) (h j (omega arith))
-]
+    → (j : ℕ) → j < q + 1 → Over g j (get_or (set ws q x) j nobody)
+over_more g ws q x b h o = below_more _ _ (λ j c. let n : j ≢ q = omega arith in rw (get_or-set_other ws q j x nobody n) (h j c)) (rw (get_or-set_same ws q x nobody b) o)

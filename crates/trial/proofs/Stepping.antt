@@ -7,7 +7,7 @@ use native.Mathlib.Decide.{dec_lt}
 use native.Mathlib.Omega.{arith}
 use lib.IntN.{ℤ, pos, ◌+ℤ◌}
 use Rattle.rules.specs.Choose.{put}
-use Rattle.rules.specs.ChooseLaws.{pick_same, pick_other, put_same, put_other, below_yes, below_no}
+use Rattle.rules.specs.ChooseLaws.{put_same, put_other, below_yes, below_no}
 use Rattle.rules.specs.Cells.{listed}
 use Rattle.rules.specs.Loop.{Act, read, write, update, fault, done, Loop, Partition, bound}
 use Rattle.rules.specs.Log.{reads, writes, updates, access}
@@ -24,6 +24,7 @@ use Rattle.stepping.specs.Access.{joined_by}
 use Rattle.stepping.specs.Step.{Scene, scene, CanGo, Goes}
 use Rattle.operands.specs.declared.Move.{Move}
 use Rattle.stepping.proofs.Happening.{rest, can_reach, Continues, Happens, happens}
+use Rattle.stepping.proofs.Opened.{by_none, by_some}
 use Rattle.stepping.proofs.Happening as happening
 use Rattle.trial.specs.declared.Setting.{Setting}
 use Rattle.trial.specs.Standing.{Standing, Placed, left_of}
@@ -95,7 +96,7 @@ module _ (code : List ℕ) (g : Setting) (l : Loop) (M : List ℤ) (W : List ℕ
   open_act =
       let q = o.placed.at in
       o.placed.act (omega (arith, here.inside, q))
-      ∙ pick_same o.unstopped (resume (instructions code) t.place (pendings a t.depth) (m +ℤ pos (s.places p).at)) (fault t.fault t.line)
+      ∙ by_none o.unstopped _ _
       ∙ ap (λ (j : ℕ). resume (instructions code) t.place (pendings a t.depth) (m +ℤ pos j)) q
 
   -- the access is of a cell that there is
@@ -142,10 +143,9 @@ module _ (code : List ℕ) (g : Setting) (l : Loop) (M : List ℤ) (W : List ℕ
         rw (put_same {i = p} refl s.places (record { at = (s.places p).at; act = b })) (record {
           holding = c.holding;
           at = j;
-          lineless = λ _. c.lineless;
           act = λ _. q
               ∙ ap (λ (n : ℕ). resume (instructions code) z'.point.place (pendings z'.pending z'.point.depth) (m +ℤ pos n)) (sym j)
-              ∙ sym (pick_same c.unstopped _ _);
+              ∙ sym (by_none c.unstopped _ _);
         })
 
     by : {a : Move} → Happens x code z z' a → After
@@ -166,21 +166,19 @@ module _ (code : List ℕ) (g : Setting) (l : Loop) (M : List ℤ) (W : List ℕ
         after (moved p (access updates i c v) (rest x code z') s.cells s)
         (step_is l δ p s (update c v (rest x code z')) o.unfinished (open_act ∙ f) ∙ rw o.placed.at)
         (h ∙ o.running.standing.cells) (rw w (access_updates g l M W s p i c b v)) (goes_on _ refl r)
-    by (happening.faults n d y f h w j k u r) =
+    by (happening.faults n d f h w j k r) =
         after s (step_is l δ p s (fault n d) o.unfinished (open_act ∙ f)) (h ∙ o.running.standing.cells) (rw w o.running.standing.words) (record {
           holding = r;
           at = o.placed.at ∙ sym j;
-          lineless = λ q. absurd (omega (arith, q, k, y));
-          act = λ _. open_act ∙ f ∙ rw (← k, ← u) (sym (pick_other (omega (arith, k, y)) _ _));
+          act = λ _. open_act ∙ f ∙ sym (by_some k _ _);
         })
-    by (happening.ends f h w j k u q d r) =
+    by (happening.ends f h w j k q d r) =
         after (record { cells = s.cells; log = s.log; places = put s.places p (opening l (suc i)) })
         (step_is l δ p s done o.unfinished (open_act ∙ f) ∙ rw o.placed.at) (h ∙ o.running.standing.cells) (rw w o.running.standing.words)
         (rw (put_same {i = p} refl s.places (opening l (suc i))) (record {
           holding = record { size = r; most = omega (arith, d) };
           at = sym j;
-          lineless = λ _. u;
-          act = λ lt. o.running.coded.body (suc i) lt ∙ rw (q, d) (sym (pick_same k _ _));
+          act = λ lt. o.running.coded.body (suc i) lt ∙ rw (q, d) (sym (by_none k _ _));
         }))
 
     pub open_steps : Goes x code z z' → After

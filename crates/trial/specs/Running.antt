@@ -1,5 +1,6 @@
 -- A run with its processors' records: what its state is, and what a step and a schedule do to it.
-use Rattle.std.specs.Prelude.{◌≡◌, ◌⊎◌, List, [], ℕ, suc, ◌≤◌, ◌<◌, length, get_or, replicate, ℤ, pos}
+use Rattle.std.specs.Prelude.{◌≡◌, ◌⊎◌, List, [], ℕ, suc, ◌≤◌, ◌<◌, length, get_or, replicate, ℤ, pos, IsSome}
+use Rattle.std.specs.declared.option.Option.TheVariants.{None}
 use Rattle.rules.specs.Loop.{Loop, Partition, bound}
 use Rattle.rules.specs.Blocks.{block_start, tested}
 use Rattle.rules.specs.Steps.{Place, State, step, steps, run_out, run_on}
@@ -8,6 +9,7 @@ use Rattle.stepping.specs.declared.Extent.TheVariants.{Once, ToTheEnd}
 use Rattle.stepping.specs.declared.Manner.TheVariants.{ByClass}
 use Rattle.stepping.specs.declared.Point.{Point}
 use Rattle.stepping.specs.declared.Role.{Role}
+use Rattle.stepping.specs.Step.{unstopped}
 use Rattle.trial.specs.declared.Worker.{Worker}
 use Rattle.trial.specs.declared.Setting.{Setting}
 use Rattle.trial.specs.Standing.{Coded, Standing, Placed}
@@ -28,34 +30,30 @@ pub record Open (code : List ℕ) (g : Setting) (l : Loop) (M : List ℤ) (W : L
   pub placed : Placed code g.from l a t (s.places p)
   pub low : p < g.processors
   pub unfinished : (s.places p).at < bound (dealt g) (suc p)
-  pub unstopped : t.fault ≡ 0
-
--- where a processor is, by its record
-abbrev pub point_of : Worker → Point
-point_of x = record { depth = x.depth; place = x.place; iteration = x.iteration; fault = x.fault; line = x.line }
+  pub unstopped : t.fault ≡ None
 
 -- a record of pending values and a point
 abbrev pub joined : List ℤ → Point → Worker
-joined a t = record { pending = a; depth = t.depth; place = t.place; iteration = t.iteration; fault = t.fault; line = t.line }
+joined a t = record { pending = a; point = t }
 
 -- a processor's record stands for its place
 abbrev pub Held : List ℕ → Setting → Loop → Worker → Place → Type 0
-Held code g l x w = Placed code g.from l x.pending (point_of x) w
+Held code g l x w = Placed code g.from l x.pending x.point w
 
 -- a record at the start of an iteration
 abbrev pub waiting : ℕ → Worker
-waiting i = record { pending = replicate 32 (pos 0); depth = 0; place = 0; iteration = record { 0 = i }; fault = 0; line = 0 }
+waiting i = joined (replicate 32 (pos 0)) (unstopped 0 0 i)
 
 -- what stands past the records
 abbrev pub nobody : Worker
-nobody = record { pending = []; depth = 0; place = 0; iteration = record { 0 = 0 }; fault = 0; line = 0 }
+nobody = joined [] (unstopped 0 0 0)
 
 -- with the record of each processor
 pub record Run (code : List ℕ) (g : Setting) (l : Loop) (M : List ℤ) (W : List ℕ) (ws : List Worker) (s : State) : Type 0 where
   pub running : Running code g l M W s
   pub crew : (q : ℕ) → q < g.processors → Held code g l (get_or ws q nobody) (s.places q)
   -- a stopped processor is in its block
-  pub halted : (q : ℕ) → q < g.processors → 0 < (get_or ws q nobody).fault → (s.places q).at < bound (dealt g) (suc q)
+  pub halted : (q : ℕ) → q < g.processors → IsSome (get_or ws q nobody).point.fault → (s.places q).at < bound (dealt g) (suc q)
 
 -- ---- a step
 
@@ -64,7 +62,7 @@ pub record Turn (code : List ℕ) (g : Setting) (l : Loop) (M : List ℤ) (W : L
   pub running : Running code g l M W s
   pub low : p < g.processors
   pub held : Held code g l x (s.places p)
-  pub halted : 0 < x.fault → (s.places p).at < bound (dealt g) (suc p)
+  pub halted : IsSome x.point.fault → (s.places p).at < bound (dealt g) (suc p)
 
 abbrev pub HasTurn : List ℕ → Setting → List ℤ → List ℕ → ℕ → Worker → Type 0
 HasTurn code g M W p x = (l : Loop) × (s : State) × Turn code g l M W s p x
@@ -94,7 +92,7 @@ RunsOut code g M W p x M' W' x' = (l : Loop) (s : State) → Turn code g l M W s
 
 -- it was stopped, or its block is done
 abbrev pub Over : Setting → ℕ → Worker → Type 0
-Over g p x = (0 < x.fault) ⊎ (block_start g.iterations g.processors (suc p) ≤ x.iteration.0)
+Over g p x = IsSome x.point.fault ⊎ (block_start g.iterations g.processors (suc p) ≤ x.point.iteration.0)
 
 -- ---- both, by what is fixed for a processor
 

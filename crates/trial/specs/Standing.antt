@@ -2,7 +2,6 @@
 use Rattle.std.specs.Prelude.{◌≡◌, List, [], ℕ, ◌≤◌, ◌<◌, length, ℤ, pos, ◌+ℤ◌}
 use Rattle.std.specs.Int.{w32}
 use Rattle.std.proofs.Common.{SFits}
-use Rattle.rules.specs.Choose.{pick}
 use Rattle.rules.specs.Cells.{listed}
 use Rattle.rules.specs.Loop.{Act, fault, Loop, Partition}
 use Rattle.rules.specs.Log.{Log}
@@ -13,6 +12,7 @@ use Rattle.tables.specs.Logged.{Logged}
 use Rattle.code.specs.Instr.{instructions, resume}
 use Rattle.operands.specs.Pending.{pendings, Holding}
 use Rattle.stepping.specs.declared.Point.{Point}
+use Rattle.stepping.specs.Step.{by_fault}
 
 -- ---- the loop
 
@@ -53,11 +53,10 @@ pub record Kept (k : ℕ) (l : Loop) (δ : Partition) (M : List ℤ) (W : List �
 
 -- what is left of an iteration by a processor's record: its pending values are in a
 unfoldable pub left_of : List ℕ → ℤ → List ℤ → Point → Act
-left_of code v a t = pick t.fault 0 (resume (instructions code) t.place (pendings a t.depth) v) (fault t.fault t.line)
+left_of code v a t = by_fault t.fault (resume (instructions code) t.place (pendings a t.depth) v) (λ f. fault f.number f.line)
 
 -- a processor's record stands for its place
 pub record Placed (code : List ℕ) (m : ℤ) (l : Loop) (a : List ℤ) (t : Point) (w : Place) : Type 0 where
   pub holding : Holding a t.depth
   pub at : w.at ≡ t.iteration.0
-  pub lineless : t.fault ≡ 0 → t.line ≡ 0
   pub act : w.at < l.iterations → w.act ≡ left_of code (m +ℤ pos w.at) a t

@@ -7,23 +7,19 @@ ghost use Rattle.trial.specs.Running.{role_of, waiting, HasTurn, TakesTurn, HasR
 ghost use Rattle.trial.specs.Start.{Entry, Enters, Crew, CanBegin, Begins, CanTry, Tries};
 ghost use Rattle.rules.specs.Loop.{Loop, Partition};
 
-use rules::{Grouping, Iteration, Processor};
+use rules::{Class, Grouping, Iteration, Processor};
 use stepping::{Extent, Manner, Point, Role};
 
-// A processor's record: its pending values, and where it is (`stepping::Point`).
-#[derive(Clone, Copy)]
+// A processor's record: its pending values, and where it is.
+#[derive(Clone, Copy, Debug, PartialEq, Eq)]
 pub struct Worker {
     pub pending: [i32; 32],
-    pub depth: usize,
-    pub place: usize,
-    pub iteration: Iteration,
-    pub fault: u32,
-    pub line: u32,
+    pub point: Point,
 }
 
 // What is fixed in a run: how many processors there are, how their iterations are grouped, how many iterations there are, and the first value of the loop's
 // variable.
-#[derive(Clone, Copy)]
+#[derive(Clone, Copy, Debug, PartialEq, Eq)]
 pub struct Setting {
     pub processors: u32,
     pub grouping: Grouping,
@@ -38,51 +34,39 @@ fn role_of(setting: Setting, p: Processor) -> Role
     requires { (setting.iterations ≤ 65535) × (setting.processors ≤ 8) × (p.0 < setting.processors) }
     ensures { result ≡ role_of setting p.0 }
 {
-    let after = Processor(p.0 + 1);
-    let end = rules::block_start(setting.iterations, setting.processors, after);
-    let grouping = setting.grouping;
+    let end = rules::block_start(setting.iterations, setting.processors, Processor(p.0 + 1));
     Role {
         manner: Manner::ByClass,
-        grouping: grouping,
+        grouping: setting.grouping,
         processors: setting.processors,
         number: p,
         from: setting.from,
-        end: end,
+        end,
     }
 }
 
-// The steps of a processor by its record, as far as it is to go. The record is taken apart once.
+// The steps of a processor by its record, as far as it is to go.
 fn carry(
-    worker: Worker,
+    worker: &mut Worker,
     code: &[u32],
     role: Role,
     cells: &mut [i32],
     w: &mut [u32],
     extent: Extent,
-) -> Worker
-    requires { HasRole code.now role cells.old w.old worker }
-    ensures { Carries extent code.now role cells.old w.old worker cells.new w.new result }
+)
+    requires { HasRole code.now role cells.old w.old worker.old }
+    ensures { Carries extent code.now role cells.old w.old worker.old cells.new w.new worker.new }
 {
-    let mut pending = worker.pending;
-    let i = worker.iteration;
-    let from = Point {
-        depth: worker.depth,
-        place: worker.place,
-        iteration: i,
-        fault: worker.fault,
-        line: worker.line,
-    };
-    let r = stepping::carry_on(code, role, cells, w, &mut pending, from, extent);
-    let t = r.point;
-    let j = t.iteration;
-    Worker {
-        pending: pending,
-        depth: t.depth,
-        place: t.place,
-        iteration: j,
-        fault: t.fault,
-        line: t.line,
-    }
+    let r = stepping::carry_on(
+        code,
+        role,
+        cells,
+        w,
+        &mut worker.pending,
+        worker.point,
+        extent,
+    );
+    worker.point = r.point;
 }
 
 // One step of a processor by its record. A finished or stopped one does nothing.
@@ -97,8 +81,16 @@ pub fn step(
     requires { HasTurn code.now setting cells.old w.old p.0 worker }
     ensures { TakesTurn code.now setting cells.old w.old p.0 worker cells.new w.new result }
 {
-    let role = role_of(setting, p);
-    carry(worker, code, role, cells, w, Extent::Once)
+    let mut after = worker;
+    carry(
+        &mut after,
+        code,
+        role_of(setting, p),
+        cells,
+        w,
+        Extent::Once,
+    );
+    after
 }
 
 // The same step on the record of the one processor that it names, which is lent; no other record is.
@@ -113,25 +105,7 @@ pub fn step_record(
     requires { HasTurn code.now setting cells.old w.old p.0 worker.old }
     ensures { TakesTurn code.now setting cells.old w.old p.0 worker.old cells.new w.new worker.new }
 {
-    let r = step(*worker, code, setting, p, cells, w);
-    *worker = r;
-}
-
-// The step from record to record that a schedule takes: a copy is lent.
-pub fn turn(
-    worker: Worker,
-    code: &[u32],
-    setting: Setting,
-    p: Processor,
-    cells: &mut [i32],
-    w: &mut [u32],
-) -> Worker
-    requires { HasTurn code.now setting cells.old w.old p.0 worker }
-    ensures { TakesTurn code.now setting cells.old w.old p.0 worker cells.new w.new result }
-{
-    let mut u = worker;
-    step_record(&mut u, code, setting, p, cells, w);
-    u
+    *worker = step(*worker, code, setting, p, cells, w);
 }
 
 // The steps of a schedule, in order.
@@ -141,39 +115,38 @@ pub fn follow(
     schedule: &[u8],
     cells: &mut [i32],
     w: &mut [u32],
-    workers: [Worker; 8],
-) -> [Worker; 8]
-    requires { CanFollow code.now setting cells.old w.old workers schedule.now }
-    ensures { Follows code.now setting cells.old w.old workers schedule.now cells.new w.new result }
+    workers: &mut [Worker; 8],
+)
+    requires { CanFollow code.now setting cells.old w.old workers.old schedule.now }
+    ensures { Follows code.now setting cells.old w.old workers.old schedule.now cells.new w.new workers.new }
 {
-    let mut ws = workers;
-    let mut j = 0;
-    while j < schedule.len() {
-        let named = Processor(schedule[j] as u32);
-        let q = rules::index_of(named);
-        let x = ws[q];
-        let y = turn(x, code, setting, named, cells, w);
-        ws[q] = y;
-        j += 1;
+    for &b in schedule {
+        let p = Processor(u32::from(b));
+        step_record(&mut workers[p.0 as usize], code, setting, p, cells, w);
     }
-    ws
 }
 
 // A processor to its end.
 pub fn run_out(
+    worker: &mut Worker,
     code: &[u32],
     setting: Setting,
     p: Processor,
     cells: &mut [i32],
     w: &mut [u32],
-    worker: Worker,
-) -> Worker
-    requires { HasTurn code.now setting cells.old w.old p.0 worker }
-    ensures runs_out { RunsOut code.now setting cells.old w.old p.0 worker cells.new w.new result }
-    ensures over { Over setting p.0 result }
+)
+    requires { HasTurn code.now setting cells.old w.old p.0 worker.old }
+    ensures runs_out { RunsOut code.now setting cells.old w.old p.0 worker.old cells.new w.new worker.new }
+    ensures over { Over setting p.0 worker.new }
 {
-    let role = role_of(setting, p);
-    carry(worker, code, role, cells, w, Extent::ToTheEnd)
+    carry(
+        worker,
+        code,
+        role_of(setting, p),
+        cells,
+        w,
+        Extent::ToTheEnd,
+    );
 }
 
 // All processors to their end, in number order.
@@ -182,38 +155,35 @@ pub fn run_on(
     setting: Setting,
     cells: &mut [i32],
     w: &mut [u32],
-    workers: [Worker; 8],
-) -> [Worker; 8]
-    requires { CanRun code.now setting cells.old w.old workers }
-    ensures runs_on { RunsOn code.now setting cells.old w.old workers cells.new w.new result }
-    ensures all_over { AllOver setting result }
+    workers: &mut [Worker; 8],
+)
+    requires { CanRun code.now setting cells.old w.old workers.old }
+    ensures runs_on { RunsOn code.now setting cells.old w.old workers.old cells.new w.new workers.new }
+    ensures all_over { AllOver setting workers.new }
 {
-    let mut ws = workers;
-    let mut q: u32 = 0;
-    while q < setting.processors {
-        let p = Processor(q);
-        let k = rules::index_of(p);
-        let x = ws[k];
-        let y = run_out(code, setting, p, cells, w, x);
-        ws[k] = y;
-        q += 1;
+    for q in 0..setting.processors {
+        run_out(
+            &mut workers[q as usize],
+            code,
+            setting,
+            Processor(q),
+            cells,
+            w,
+        );
     }
-    ws
 }
 
 // ---- the start, and the whole
 
 // The tables of no access, by the entry value and the class of each cell.
-pub fn enter(processors: u32, cells: &[i32], classes: &[u32], w: &mut [u32])
+pub fn enter(processors: u32, cells: &[i32], classes: &[Class], w: &mut [u32])
     requires { (l : Loop) × (δ : Partition) × Entry processors l δ cells.now classes.now (length w.old) }
     ensures { Enters processors cells.now classes.now (length w.old) w.new }
 {
     tables::clear(w);
-    let mut c = 0;
-    while c < cells.len() {
+    for (c, &x) in cells.iter().enumerate() {
         let row = tables::row_of(c, processors);
-        tables::begin_row(w, row, processors, cells[c], classes[c]);
-        c += 1;
+        tables::begin_row(w, row, processors, x, classes[c]);
     }
 }
 
@@ -221,14 +191,9 @@ pub fn enter(processors: u32, cells: &[i32], classes: &[u32], w: &mut [u32])
 pub fn record_at(i: Iteration) -> Worker
     ensures { result ≡ waiting i.0 }
 {
-    let pending = [0; 32];
     Worker {
-        pending: pending,
-        depth: 0,
-        place: 0,
-        iteration: i,
-        fault: 0,
-        line: 0,
+        pending: [0; 32],
+        point: stepping::unstopped_at(0, 0, i),
     }
 }
 
@@ -237,23 +202,16 @@ fn crew(setting: Setting) -> [Worker; 8]
     requires { (setting.iterations ≤ 65535) × ((0 < setting.processors) × (setting.processors ≤ 8)) }
     ensures { Crew setting result }
 {
-    let none = Iteration(0);
-    let first = record_at(none);
-    let mut ws = [first; 8];
-    let mut q: u32 = 0;
-    while q < setting.processors {
-        let p = Processor(q);
-        let k = rules::index_of(p);
-        let i = rules::block_start(setting.iterations, setting.processors, p);
-        let x = record_at(i);
-        ws[k] = x;
-        q += 1;
+    let mut workers = [record_at(Iteration(0)); 8];
+    for q in 0..setting.processors {
+        let i = rules::block_start(setting.iterations, setting.processors, Processor(q));
+        workers[q as usize] = record_at(i);
     }
-    ws
+    workers
 }
 
 // The start of a run: the workspace made ready and the processors' records. The cells stay as they are.
-pub fn begin(setting: Setting, classes: &[u32], cells: &[i32], w: &mut [u32]) -> [Worker; 8]
+pub fn begin(setting: Setting, classes: &[Class], cells: &[i32], w: &mut [u32]) -> [Worker; 8]
     requires { CanBegin setting cells.now classes.now (length w.old) }
     ensures { Begins setting cells.now classes.now (length w.old) w.new result }
 {
@@ -265,7 +223,7 @@ pub fn begin(setting: Setting, classes: &[u32], cells: &[i32], w: &mut [u32]) ->
 pub fn trial(
     code: &[u32],
     setting: Setting,
-    classes: &[u32],
+    classes: &[Class],
     schedule: &[u8],
     cells: &mut [i32],
     w: &mut [u32],
@@ -274,7 +232,8 @@ pub fn trial(
     ensures tries { Tries code.now setting cells.old classes.now schedule.now (length w.old) cells.new w.new result }
     ensures all_over { AllOver setting result }
 {
-    let first = begin(setting, classes, cells, w);
-    let then = follow(code, setting, schedule, cells, w, first);
-    run_on(code, setting, cells, w, then)
+    let mut workers = begin(setting, classes, cells, w);
+    follow(code, setting, schedule, cells, w, &mut workers);
+    run_on(code, setting, cells, w, &mut workers);
+    workers
 }

@@ -3,9 +3,8 @@ use mathlib.Core.Path.{◌≡◌, refl, sym, ◌∙◌, ap, subst}
 use mathlib.Core.Bool.{Bool, true, false}
 use mathlib.Core.List.{List, ◌++◌, append-nil}
 use mathlib.Core.Option.{Option, none, some}
-use Prim.Native.Nat.{ℕ, ◌≤◌, ◌<◌, max}
+use Prim.Native.Nat.{ℕ, max}
 use native.Mathlib.Omega.{arith}
-use lib.ListN.{length}
 use Rattle.rules.specs.declared.Operator.{Operator}
 use Rattle.syntax.specs.Grammar.{bare, Expr, expr, no_terms, term, Factors, Factor, Ref, show_ref}
 use Rattle.syntax.specs.Known.{Entry}
@@ -15,11 +14,11 @@ use Rattle.syntax.specs.Reader.{Parsed, done}
 use Rattle.syntax.specs.Forms.{Repeats}
 use Rattle.syntax.proofs.Forms.{repeats_of}
 use Rattle.parts.specs.Answer.{worst}
+use Rattle.std.specs.Prelude.{Option as Answer}
 use Rattle.parts.specs.declared.Got.{Got}
-use Rattle.parts.specs.declared.Got.TheVariants.{Done}
 use Rattle.parts.proofs.Laws.{worst_append}
 use Rattle.updates.specs.declared.Left.{Left}
-use Rattle.updates.specs.Forms.{Past, Rests}
+use Rattle.updates.specs.Forms.{Rests}
 
 module _ (t : List Entry) (v : List ℕ) where
   -- of a term alone
@@ -41,13 +40,9 @@ pub clash : {X : Type 0} (b : Bool) → b ≡ true → b ≡ false → X
 clash b p q = absurd (let z : ◌≡◌ {A = ℕ} 0 1 = cc in omega arith)
 
 -- by the operator of an arm
-pub rest_by : {o q : Operator} {l : Left} {T s : List ℕ} {from : ℕ} {b a : List ℕ} {r : Got} → o ≡ q → Rests q l T s from b a r → Rests o l T s from b a r
+pub rest_by : {o q : Operator} {l : Left} {T s : List ℕ} {from : ℕ} {b a : List ℕ} {r : Answer Got} → o ≡ q → Rests q l T s from b a r → Rests o l T s from b a r
 rest_by {o} {q} {l} {T} {s} {from} {b} {a} {r} e h = subst (λ (p : Operator). Rests p l T s from b a r) (sym e) h
 
 -- what is read twice is the same
 pub same_rest : {y z : Ref} {u w : List ℕ} → ◌≡◌ {A = Parsed (List ℕ) Ref} (done y u) (done z w) → u ≡ w
 same_rest h = cc
-
-pub past_done : (s : List ℕ) (at place : ℕ) (g : Got) (n p q : ℕ) → Past s at place g → g ≡ Done n p q → (at < n) × (n ≤ length s) × (p ≡ place)
-unfolding Past
-past_done s at place g n p q h e = subst (Past s at place) e h

@@ -1,5 +1,5 @@
 -- The parts of an update's right side, as the code finds them by the readers of `Rattle.syntax.specs.Reader` over what is left of a line's bytes.
-use Rattle.std.specs.Prelude.{◌≡◌, Bool, true, false, ◌&&◌, ◌||◌, not, List, ℕ, suc, ◌+◌, ◌-◌, ◌*◌, ◌≤◌, ◌<◌, max, length, take, drop}
+use Rattle.std.specs.Prelude.{◌≡◌, Bool, true, false, ◌&&◌, ◌||◌, not, List, ℕ, suc, ◌+◌, ◌-◌, ◌*◌, ◌≤◌, ◌<◌, max, length, take, drop, Option, None, IfSome, MatchOption}
 use Rattle.std.proofs.Math.Option.{some}
 use Rattle.rules.specs.declared.Operator.{Operator}
 use Rattle.rules.specs.declared.Operator.TheVariants.{Sum, Product, Maximum}
@@ -7,13 +7,13 @@ use Rattle.syntax.specs.Grammar.{Expr, Term, term, Ref, show_ref}
 use Rattle.syntax.specs.Known.{Entry}
 use Rattle.syntax.specs.Meaning.{alike, times, same_ref, repeated, remainder}
 use Rattle.syntax.specs.Conditions.{mentions, in_ref}
+use Rattle.syntax.specs.Ranks.{level}
 use Rattle.syntax.specs.Reader.{Parsed, broken, done, next, expects, peek_in, skip_in, read_expr, read_term, read_ref}
 use Rattle.syntax.specs.Spelled.{Spells}
 use Rattle.names.specs.Table.{variable_of, Tabled}
-use Rattle.parts.specs.Answer.{worst}
+use Rattle.parts.specs.Answer.{worst, Stops}
 use Rattle.parts.specs.Parts.{stands}
 use Rattle.parts.specs.declared.Got.{Got}
-use Rattle.parts.specs.declared.Got.TheVariants.{Broken, Done}
 use Rattle.updates.specs.declared.Left.{Left}
 
 -- ---- signs
@@ -30,24 +30,28 @@ ends u = not (scales u) && not (signs u)
 
 -- ---- the left side's reference
 
--- Broken where it is none; else the place u after it and the highest rank so far
-unfoldable pub Found : Bool → List ℕ → List ℕ → ℕ → ℕ → Got → Type 0
-Found false s u place rank r = r ≡ Broken
-Found true s u place rank r = (a : ℕ) × (r ≡ Done a place rank) × (u ≡ drop a s)
+-- None where it is none; else the place u after it and the worst rank so far
+unfoldable pub Found : Bool → List ℕ → List ℕ → ℕ → ℕ → Option Got → Type 0
+Found false s u place rank r = r ≡ None
+Found true s u place rank r = (a : ℕ) × Stops a place rank r × (u ≡ drop a s)
 
 -- x is the left side; a reference is read, or none
-unfoldable pub Met : ℕ → List Entry → List ℕ → List ℕ → Ref → Parsed (List ℕ) Ref → ℕ → ℕ → Got → Type 0
-Met depth t v s x broken place most r = r ≡ Broken
+unfoldable pub Met : ℕ → List Entry → List ℕ → List ℕ → Ref → Parsed (List ℕ) Ref → ℕ → ℕ → Option Got → Type 0
+Met depth t v s x broken place most r = r ≡ None
 Met depth t v s x (done y u) place most r = Found (alike (show_ref x) (show_ref y)) s u place (max most (worst t v (in_ref depth y))) r
 
 -- the place that is answered lies after another
-unfoldable pub Past : List ℕ → ℕ → ℕ → Got → Type 0
-Past s at place Broken = Unit {0}
-Past s at place (Done a p d) = (at < a) × (a ≤ length s) × (p ≡ place)
+pub record IsPast (s : List ℕ) (at place : ℕ) (g : Got) : Type 0 where
+  pub after : at < g.at
+  pub within : g.at ≤ length s
+  pub place_is : g.place ≡ place
 
-pub record Repeated (depth : ℕ) (l : Left) (T s : List ℕ) (at : ℕ) (before after : List ℕ) (r : Got) : Type 0 where
+abbrev pub Past : List ℕ → ℕ → ℕ → Option Got → Type 0
+Past s at place r = IfSome r (IsPast s at place)
+
+pub record Repeated (depth : ℕ) (l : Left) (T s : List ℕ) (at : ℕ) (before after : List ℕ) (r : Option Got) : Type 0 where
   pub met : (t : List Entry) → Tabled T t → (f : ℕ) → 3 * (length s - at) < f → (x : Ref) → Spells peek_in skip_in s (show_ref x) (drop l.end s)
-      → Met depth t (variable_of T) s x (read_ref peek_in skip_in f (drop at s)) l.place l.rank r
+      → Met depth t (variable_of T) s x (read_ref peek_in skip_in f (drop at s)) l.place (level l.rank) r
   pub kept : take (2 * l.place) after ≡ take (2 * l.place) before
   pub past : Past s at l.place r
 
@@ -94,12 +98,20 @@ pub record Remains (o : Operator) (t : List Entry) (v s : List ℕ) (x : Ref) (f
       → (e : Expr) × (read_expr peek_in skip_in (suc (suc (suc f))) (drop from s) ≡ done e w) × (repeated o e ≡ some ref) × (remainder o e ≡ m)
       × (max z (worst t v (mentions (depth_of o) m)) ≡ max most (worst t v (mentions 0 e)))
 
+-- the right side, from a place on, is that of no update of the left side by o
+abbrev pub NoUpdate : Operator → Left → List ℕ → List ℕ → ℕ → Type 0
+NoUpdate o l T s from =
+    (t : List Entry) → Tabled T t → (f : ℕ) → 3 * (length s - from) < f → (x : Ref) → Spells peek_in skip_in s (show_ref x) (drop l.end s)
+    → (c : Expr) (w : List ℕ) → read_expr peek_in skip_in (suc (suc (suc f))) (drop from s) ≡ done c w → same_ref x (repeated o c) ≡ false
+
+-- it is, and its remainder begins where g stopped
+abbrev pub IsUpdate : Operator → Left → List ℕ → List ℕ → ℕ → Got → Type 0
+IsUpdate o l T s from g =
+    (t : List Entry) → Tabled T t → (f : ℕ) → 3 * (length s - from) < f → (x : Ref) → Spells peek_in skip_in s (show_ref x) (drop l.end s)
+    → Remains o t (variable_of T) s x f from g.at (level l.rank) (level g.rank)
+
 -- whether the right side, from a place on, is that of an update by o, and where its remainder begins
-pub record Rests (o : Operator) (l : Left) (T s : List ℕ) (from : ℕ) (before after : List ℕ) (r : Got) : Type 0 where
-  pub none : r ≡ Broken → (t : List Entry) → Tabled T t → (f : ℕ) → 3 * (length s - from) < f → (x : Ref)
-      → Spells peek_in skip_in s (show_ref x) (drop l.end s) → (c : Expr) (w : List ℕ)
-      → read_expr peek_in skip_in (suc (suc (suc f))) (drop from s) ≡ done c w → same_ref x (repeated o c) ≡ false
-  pub found : (a q z : ℕ) → r ≡ Done a q z → (t : List Entry) → Tabled T t → (f : ℕ) → 3 * (length s - from) < f → (x : Ref)
-      → Spells peek_in skip_in s (show_ref x) (drop l.end s) → Remains o t (variable_of T) s x f from a l.rank z
+pub record Rests (o : Operator) (l : Left) (T s : List ℕ) (from : ℕ) (before after : List ℕ) (r : Option Got) : Type 0 where
+  pub found : MatchOption r (NoUpdate o l T s from) (IsUpdate o l T s from)
   pub kept : take (2 * l.place) after ≡ take (2 * l.place) before
   pub past : Past s from l.place r

@@ -4,6 +4,7 @@
 
 ghost use Rattle.std.specs.Prelude.{◌≡◌, suc, ◌*◌, ◌≤◌, length, take, drop};
 ghost use Rattle.syntax.specs.Conditions.{mentions};
+ghost use Rattle.syntax.specs.Ranks.{level};
 ghost use Rattle.code.specs.Compile.{code as code_expr};
 ghost use Rattle.parts.specs.Answer.{Answers, Ready};
 ghost use Rattle.updates.specs.Forms.{signs, ends, Repeated, Timed, Closed, Rests, depth_of, read_rest};
@@ -14,12 +15,13 @@ use lexer::pass;
 use names::Table;
 use parts::{Got, Joint, expect, join};
 use rules::Operator;
+use syntax::Rank;
 
-// The left side of an assignment: where it ends in the line, the highest rank so far, its line, and the place after the code of its subscripts.
-#[derive(Clone, Copy)]
+// The left side of an assignment: where it ends in the line, the worst rank so far, its line, and the place after the code of its subscripts.
+#[derive(Clone, Copy, Debug, PartialEq, Eq)]
 pub struct Left {
     pub end: usize,
-    pub rank: u32,
+    pub rank: Rank,
     pub line: u32,
     pub place: usize,
 }
@@ -31,13 +33,7 @@ fn signed(s: &[u8], at: usize) -> bool
     requires { at ≤ length s.now }
     ensures { result ≡ signs (drop at s.now) }
 {
-    let j = join(s, at, b'+', b'-');
-    let sign = j.joint;
-    match sign {
-        Joint::Neither => false,
-        Joint::First => true,
-        Joint::Second => true,
-    }
+    join(s, at, b'+', b'-').joint != Joint::Neither
 }
 
 // Whether no sign stands at a place that goes on with an expression.
@@ -45,40 +41,38 @@ fn ended(s: &[u8], at: usize) -> bool
     requires { at ≤ length s.now }
     ensures { result ≡ ends (drop at s.now) }
 {
-    let j = join(s, at, b'*', b'/');
-    let sign = j.joint;
-    match sign {
-        Joint::Neither => !signed(s, at),
-        Joint::First => false,
-        Joint::Second => false,
-    }
+    join(s, at, b'*', b'/').joint == Joint::Neither && !signed(s, at)
 }
 
 // ---- parts of the right side
 
 // The left side's reference at a place, with so many brackets open around it: the place after it.
-fn repeats(s: &[u8], at: usize, depth: usize, left: Left, table: &Table, code: &mut [u32]) -> Got
+fn repeats(
+    s: &[u8],
+    at: usize,
+    depth: usize,
+    left: Left,
+    table: &Table,
+    code: &mut [u32],
+) -> Option<Got>
     requires ready { Ready s.now at depth left.place code.old }
     requires end_in_bounds { (left.end ≤ length s.now) × (left.line ≤ 2049) }
     ensures { Repeated depth left table.now s.now at code.old code.new result }
 {
     let i = 2 * left.place;
-    match reference(s, at, depth, left.rank, left.line, table, &mut code[i..], 0) {
-        Got::Done {
-            at: to,
-            place: p,
-            rank: d,
-        } => {
-            if !alike(s, left.end, at, to) {
-                return Got::Broken;
-            }
-            Got::Done {
-                at: to,
-                place: left.place,
-                rank: d,
-            }
-        }
-        Got::Broken => Got::Broken,
+    let start = Got {
+        at,
+        place: 0,
+        rank: left.rank,
+    };
+    let g = reference(s, start, depth, left.line, table, &mut code[i..])?;
+    if alike(s, left.end, at, g.at) {
+        Some(Got {
+            place: left.place,
+            ..g
+        })
+    } else {
+        None
     }
 }
 
@@ -88,22 +82,19 @@ fn only_times(s: &[u8], at: usize, line: u32, table: &Table, code: &mut [u32]) -
     requires line_bound { line ≤ 2049 }
     ensures { Timed table.now s.now at result }
 {
-    match factor(s, at, 0, 0, line, table, code, 0) {
-        Got::Done {
-            at: n,
-            place: p,
-            rank: d,
-        } => {
-            let j = join(s, n, b'*', b'/');
-            let sign = j.joint;
-            let next = j.next;
-            match sign {
-                Joint::Neither => !signed(s, n),
-                Joint::First => only_times(s, next, line, table, code),
-                Joint::Second => false,
-            }
-        }
-        Got::Broken => false,
+    let start = Got {
+        at,
+        place: 0,
+        rank: Rank::InOrder,
+    };
+    let Some(g) = factor(s, start, 0, line, table, code) else {
+        return false;
+    };
+    let sign = join(s, g.at, b'*', b'/');
+    match sign.joint {
+        Joint::Neither => !signed(s, g.at),
+        Joint::First => only_times(s, sign.next, line, table, code),
+        Joint::Second => false,
     }
 }
 
@@ -115,104 +106,62 @@ fn closes(s: &[u8], at: usize, left: Left, table: &Table, code: &mut [u32]) -> b
     ensures code_unchanged { take (2 * left.place) code.new ≡ take (2 * left.place) code.old }
 {
     let i = 2 * left.place;
-    let g = expression(s, at, 1, 0, left.line, table, &mut code[i..], 0);
+    let start = Got {
+        at,
+        place: 0,
+        rank: Rank::InOrder,
+    };
+    let Some(g) = expression(s, start, 1, left.line, table, &mut code[i..]) else {
+        return false;
+    };
     match expect(s, g, b')') {
-        Got::Done {
-            at: n,
-            place: p,
-            rank: d,
-        } => ended(s, n),
-        Got::Broken => false,
+        Some(h) => ended(s, h.at),
+        None => false,
     }
 }
 
 // ---- the forms: the place where the remainder begins
 
 // The left side, followed by + or -: the place of that sign.
-fn summand(s: &[u8], from: usize, left: Left, table: &Table, code: &mut [u32]) -> Got
+fn summand(s: &[u8], from: usize, left: Left, table: &Table, code: &mut [u32]) -> Option<Got>
     requires ready { Ready s.now from 0 left.place code.old }
     requires end_in_bounds { (left.end ≤ length s.now) × (left.line ≤ 2049) }
     ensures { Rests Operator.Sum left table.now s.now from code.old code.new result }
 {
-    match repeats(s, from, 0, left, table, code) {
-        Got::Done {
-            at: to,
-            place: p,
-            rank: d,
-        } => {
-            if !signed(s, to) {
-                return Got::Broken;
-            }
-            Got::Done {
-                at: to,
-                place: p,
-                rank: d,
-            }
-        }
-        Got::Broken => Got::Broken,
-    }
+    let g = repeats(s, from, 0, left, table, code)?;
+    if signed(s, g.at) { Some(g) } else { None }
 }
 
 // The left side and *, and no +, - or / outside brackets after it.
-fn multiplicand(s: &[u8], from: usize, left: Left, table: &Table, code: &mut [u32]) -> Got
+fn multiplicand(s: &[u8], from: usize, left: Left, table: &Table, code: &mut [u32]) -> Option<Got>
     requires ready { Ready s.now from 0 left.place code.old }
     requires end_in_bounds { (left.end ≤ length s.now) × (left.line ≤ 2049) }
     ensures { Rests Operator.Product left table.now s.now from code.old code.new result }
 {
-    match repeats(s, from, 0, left, table, code) {
-        Got::Done {
-            at: to,
-            place: p,
-            rank: d,
-        } => {
-            let a = pass(s, to, b"*");
-            if s.len() < a {
-                return Got::Broken;
-            }
-            let i = 2 * left.place;
-            if !only_times(s, a, left.line, table, &mut code[i..]) {
-                return Got::Broken;
-            }
-            Got::Done {
-                at: a,
-                place: p,
-                rank: d,
-            }
-        }
-        Got::Broken => Got::Broken,
+    let g = repeats(s, from, 0, left, table, code)?;
+    let at = pass(s, g.at, b"*")?;
+    let i = 2 * left.place;
+    if only_times(s, at, left.line, table, &mut code[i..]) {
+        Some(Got { at, ..g })
+    } else {
+        None
     }
 }
 
 // max with the left side and an expression, and nothing after its bracket.
-fn rival(s: &[u8], from: usize, left: Left, table: &Table, code: &mut [u32]) -> Got
+fn rival(s: &[u8], from: usize, left: Left, table: &Table, code: &mut [u32]) -> Option<Got>
     requires ready { Ready s.now from 0 left.place code.old }
     requires end_in_bounds { (left.end ≤ length s.now) × (left.line ≤ 2049) }
     ensures { Rests Operator.Maximum left table.now s.now from code.old code.new result }
 {
-    let first = pass(s, pass(s, from, b"max"), b"(");
-    if s.len() < first {
-        return Got::Broken;
-    }
-    match repeats(s, first, 1, left, table, code) {
-        Got::Done {
-            at: to,
-            place: p,
-            rank: d,
-        } => {
-            let a = pass(s, to, b",");
-            if s.len() < a {
-                return Got::Broken;
-            }
-            if !closes(s, a, left, table, code) {
-                return Got::Broken;
-            }
-            Got::Done {
-                at: a,
-                place: p,
-                rank: d,
-            }
-        }
-        Got::Broken => Got::Broken,
+    let bracket = pass(s, from, b"max")?;
+    let first = pass(s, bracket, b"(")?;
+    let g = repeats(s, first, 1, left, table, code)?;
+    let at = pass(s, g.at, b",")?;
+    if closes(s, at, left, table, code) {
+        Some(Got { at, ..g })
+    } else {
+        None
     }
 }
 
@@ -224,7 +173,7 @@ pub fn rest(
     left: Left,
     table: &Table,
     code: &mut [u32],
-) -> Got
+) -> Option<Got>
     requires ready { Ready s.now from 0 left.place code.old }
     requires end_in_bounds { (left.end ≤ length s.now) × (left.line ≤ 2049) }
     ensures { Rests operator left table.now s.now from code.old code.new result }
@@ -238,27 +187,24 @@ pub fn rest(
 
 // ---- the remainder
 
-// The remainder at a place. That of a maximum stands in its bracket, which is read too.
+// The remainder that begins where something else was read. That of a maximum stands in its bracket, which is read too.
 pub fn remainder(
     s: &[u8],
-    at: usize,
+    from: Got,
     operator: Operator,
-    rank: u32,
     line: u32,
     table: &Table,
     code: &mut [u32],
-    place: usize,
-) -> Got
-    requires ready { Ready s.now at 1 place code.old }
+) -> Option<Got>
+    requires ready { Ready s.now from.at 1 from.place code.old }
     requires line_bound { line ≤ 2049 }
-    ensures { Answers (read_rest operator) (λ t v. code_expr t v line) (mentions (depth_of operator)) 2 (suc at) table.now s.now at place
-        rank code.old code.new result }
+    ensures { Answers (read_rest operator) (λ t v. code_expr t v line) (mentions (depth_of operator)) 2 (suc from.at) table.now s.now from.at from.place
+        (level from.rank) code.old code.new result }
 {
     match operator {
-        Operator::Sum => expression(s, at, 0, rank, line, table, code, place),
-        Operator::Product => expression(s, at, 0, rank, line, table, code, place),
+        Operator::Sum | Operator::Product => expression(s, from, 0, line, table, code),
         Operator::Maximum => {
-            let g = expression(s, at, 1, rank, line, table, code, place);
+            let g = expression(s, from, 1, line, table, code)?;
             expect(s, g, b')')
         }
     }

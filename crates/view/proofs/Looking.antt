@@ -4,6 +4,7 @@ use mathlib.Core.List.{List}
 use Prim.Native.Nat.{ℕ, ◌-◌, ◌*◌}
 use lib.ListN.{length, take, drop}
 use lib.IntN.{ℤ}
+use Rattle.rules.specs.declared.Class.{Class}
 use Rattle.rules.specs.Loop.{Loop, Partition}
 use Rattle.rules.specs.Marks.{marks}
 use Rattle.rules.specs.Answer.{viewed, look}
@@ -14,7 +15,6 @@ use Rattle.trial.specs.declared.Worker.{Worker}
 use Rattle.trial.specs.Running.{dealt, Run, Follows, CanFollow}
 use Rattle.trial.specs.Start.{Starts, CanTry, Begins}
 use Rattle.trial.specs.Standing.{Stands}
-use Rattle.fitting.proofs.Front.{front_is}
 use Rattle.view.specs.View.{Shown}
 use Rattle.view.specs.View.{ShowsAfter}
 
@@ -24,7 +24,7 @@ shown_look : (l : Loop) (δ : Partition) (ps : List ℕ) (v : List ℕ)
 unfolding look
 shown_look l δ ps v e = e
 
-module _ (code : List ℕ) (g : Setting) (M : List ℤ) (C ps : List ℕ) (n : ℕ) (W' : List ℕ) (ws : List Worker) (b : Begins g M C n W' ws) where
+module _ (code : List ℕ) (g : Setting) (M : List ℤ) (C : List Class) (ps : List ℕ) (n : ℕ) (W' : List ℕ) (ws : List Worker) (b : Begins g M C n W' ws) where
   pub can_follow : CanTry code g M C ps n → CanFollow code g M W' ws ps
   can_follow (l, st, nm) = (l, start l (dealt g), b code l st, nm)
 
@@ -44,16 +44,3 @@ module _ (code : List ℕ) (g : Setting) (M : List ℤ) (C ps : List ℕ) (n : �
     pub shows_after : (U : List ℕ) → Shown g.processors M'' W'' U → ShowsAfter code g M C ps n U
     shows_after U sh l st = shown_look l (dealt g) ps U
         (sh l (dealt g) (steps l (dealt g) ps (start l (dealt g))) (after l st).running.standing)
-
--- the cells at the front of a longer list
-module _ (own : List ℤ) (M : List ℤ) (e : take (length M) own ≡ M) where
-  same_front : take (length M - 0) (drop 0 own) ≡ M
-  same_front = front_is own M e
-
-  pub can_front : (code : List ℕ) (g : Setting) (C ps : List ℕ) (n : ℕ) (U : List ℕ) → CanTry code g M C ps n → length U ≡ 2 * length M
-      → CanTry code g (take (length M - 0) (drop 0 own)) C ps n × (length U ≡ 2 * length (take (length M - 0) (drop 0 own)))
-  can_front code g C ps n U c q = (subst (λ (m : List ℤ). CanTry code g m C ps n) (sym same_front) c, q ∙ ap (λ (m : List ℤ). 2 * length m) (sym same_front))
-
-  pub shows_front : (code : List ℕ) (g : Setting) (C ps : List ℕ) (n : ℕ) (U : List ℕ) → ShowsAfter code g (take (length M - 0) (drop 0 own)) C ps n U
-      → ShowsAfter code g M C ps n U
-  shows_front code g C ps n U h = subst (λ (m : List ℤ). ShowsAfter code g m C ps n U) same_front h

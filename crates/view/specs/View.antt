@@ -1,5 +1,6 @@
 -- What Look shows of a state, and after a schedule.
 use Rattle.std.specs.Prelude.{◌≡◌, List, ℕ, ℤ}
+use Rattle.rules.specs.declared.Class.{Class}
 use Rattle.rules.specs.Loop.{Loop, Partition}
 use Rattle.rules.specs.Marks.{marks}
 use Rattle.rules.specs.Steps.{State}
@@ -15,5 +16,5 @@ Shown k M W V' =
     (l : Loop) (δ : Partition) (s : State) → Standing k l δ M W s → V' ≡ viewed l.size s.cells (λ c. marks δ.group c s.log)
 
 -- the view V' of the loop's run after the schedule ps
-abbrev pub ShowsAfter : List ℕ → Setting → List ℤ → List ℕ → List ℕ → ℕ → List ℕ → Type 0
+abbrev pub ShowsAfter : List ℕ → Setting → List ℤ → List Class → List ℕ → ℕ → List ℕ → Type 0
 ShowsAfter code g M C ps n V' = (l : Loop) → Starts code g l M C n → V' ≡ look l (dealt g) ps

@@ -6,7 +6,7 @@ ghost use Rattle.trial.specs.Standing.{Stands};
 ghost use Rattle.trial.specs.Start.{CanTry};
 ghost use Rattle.view.specs.View.{Shown, ShowsAfter};
 
-use fitting::copy_front;
+use rules::Class;
 use trial::Setting;
 
 // For each cell the word of its shared value, and its marks.
@@ -14,12 +14,10 @@ pub fn show(processors: u32, cells: &[i32], w: &[u32], view: &mut [u32])
     requires { Stands processors cells.now w.now × (length view.old ≡ 2 * length cells.now) }
     ensures { Shown processors cells.now w.now view.new }
 {
-    let mut c = 0;
-    while c < cells.len() {
+    for (c, &x) in cells.iter().enumerate() {
         let row = tables::row_of(c, processors);
-        view[2 * c] = int32::to_word(cells[c]);
+        view[2 * c] = int32::to_word(x);
         view[2 * c + 1] = findings::marks_of(w, row);
-        c += 1;
     }
 }
 
@@ -27,7 +25,7 @@ pub fn show(processors: u32, cells: &[i32], w: &[u32], view: &mut [u32])
 fn show_after(
     code: &[u32],
     setting: Setting,
-    classes: &[u32],
+    classes: &[Class],
     schedule: &[u8],
     cells: &mut [i32],
     w: &mut [u32],
@@ -37,8 +35,8 @@ fn show_after(
     ensures shows_after { ShowsAfter code.now setting cells.old classes.now schedule.now (length w.old) view.new }
     ensures w_after { w.new ≡ replicate (length w.old) 0 }
 {
-    let first = trial::begin(setting, classes, cells, w);
-    let then = trial::follow(code, setting, schedule, cells, w, first);
+    let mut workers = trial::begin(setting, classes, cells, w);
+    trial::follow(code, setting, schedule, cells, w, &mut workers);
     show(setting.processors, cells, w, view);
     tables::clear(w);
 }
@@ -47,7 +45,7 @@ fn show_after(
 pub fn show_copied(
     code: &[u32],
     setting: Setting,
-    classes: &[u32],
+    classes: &[Class],
     schedule: &[u8],
     cells: &[i32],
     own: &mut [i32],
@@ -59,7 +57,7 @@ pub fn show_copied(
     ensures shows_after { ShowsAfter code.now setting cells.now classes.now schedule.now (length w.old) view.new }
     ensures w_after { w.new ≡ replicate (length w.old) 0 }
 {
-    let n = cells.len();
-    copy_front(own, cells);
-    show_after(code, setting, classes, schedule, &mut own[0..n], w, view);
+    let own = &mut own[..cells.len()];
+    own.copy_from_slice(cells);
+    show_after(code, setting, classes, schedule, own, w, view);
 }

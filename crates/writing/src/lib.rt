@@ -8,10 +8,10 @@ ghost use Rattle.lexer.specs.Lex.{part, kind_number};
 ghost use Rattle.printed.specs.Form.{shortest};
 ghost use Rattle.writing.specs.Written.{Fits, Writes, told, spanned, blanked, Moves};
 
-use lexer::{Kind, Tok, same_kind, token};
+use lexer::{Kind, Tok, token};
 
 // The place reached in the lent bytes, and the place reached in the line.
-#[derive(Clone, Copy)]
+#[derive(Clone, Copy, Debug, PartialEq, Eq)]
 pub struct Moved {
     pub to: usize,
     pub at: usize,
@@ -23,7 +23,6 @@ pub fn put(out: &mut [u8], to: usize, b: u8) -> usize
 {
     if to < out.len() {
         out[to] = b;
-        return to + 1;
     }
     to + 1
 }
@@ -33,10 +32,8 @@ pub fn put_bytes(out: &mut [u8], to: usize, s: &[u8]) -> usize
     ensures { Writes out.old to s.now out.new result }
 {
     let mut p = to;
-    let mut k = 0;
-    while k < s.len() {
-        p = put(out, p, s[k]);
-        k += 1;
+    for b in s {
+        p = put(out, p, *b);
     }
     p
 }
@@ -46,14 +43,13 @@ fn significant(s: &[u8], a: usize, e: usize) -> usize
     requires { (a ≤ e) × (e ≤ length s.now) }
     ensures { (a ≤ result) × (result ≤ e) × (part s.now result e ≡ shortest (part s.now a e)) }
 {
-    let mut i = a;
-    while i + 1 < e {
+    let last = e.saturating_sub(1).max(a);
+    for i in a..last {
         if s[i] != b'0' {
             return i;
         }
-        i += 1;
     }
-    i
+    last
 }
 
 // Where a token begins, without leading zeros.
@@ -61,13 +57,11 @@ pub fn start_of(s: &[u8], t: Tok) -> usize
     requires { (t.start ≤ t.stop) × (t.stop ≤ length s.now) }
     ensures { (result ≤ t.stop) × (part s.now result t.stop ≡ told (kind_number t.kind) (part s.now t.start t.stop)) }
 {
-    let k = t.kind;
-    let a = t.start;
-    let e = t.stop;
-    if same_kind(k, Kind::Digits) {
-        return significant(s, a, e);
+    if t.kind == Kind::Digits {
+        significant(s, t.start, t.stop)
+    } else {
+        t.start
     }
-    a
 }
 
 // The bytes from a up to e after a blank; nothing if there are none.
@@ -88,10 +82,8 @@ pub fn put_next(out: &mut [u8], to: usize, s: &[u8], at: usize) -> Moved
     ensures { Moves out.old to s.now at (take 1) (drop 1) out.new result }
 {
     let t = token(s, at);
-    let next = t.stop;
-    let a = start_of(s, t);
     Moved {
-        to: put_span(out, to, s, a, next),
-        at: next,
+        to: put_span(out, to, s, start_of(s, t), t.stop),
+        at: t.stop,
     }
 }

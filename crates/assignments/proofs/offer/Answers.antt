@@ -1,10 +1,12 @@
 -- `assignments::offer` meets its contract.
-use borrow.Author.Tests.{not-true, not-false}
-use Rattle.assignments.proofs.Assigned.{offers_none, offers_some}
+use Rattle.assignments.proofs.Assigned.{offers_none, offers_not, offers_some}
 use Rattle.assignments.proofs.offer.Goals as goal
 
-pub returns-then-not-target : goal.returns-then-not-target
-returns-then-not-target c = offers_none _ _ _ _ _ _ (not-true _ c.if-not-target.true)
+pub returns-in_err-operator : goal.returns-in_err-operator
+returns-in_err-operator c = rw c.from_residual.ensures (offers_none _ _ _ _ _ _ c.in_err-operator.was)
+
+pub returns-in_err-g : goal.returns-in_err-g
+returns-in_err-g c = rw c.from_residual-in_err-g.ensures (offers_not _ _ _ _ _ _ _ _ c.in_ok-operator.was c.in_err-g.ensures)
 
 pub returns : goal.returns
-returns c = offers_some _ _ _ _ _ _ _ _ (not-false _ c.if-not-target.false) c.rest.ensures
+returns c = offers_some _ _ _ _ _ _ _ _ c.in_ok-operator.was _ c.in_ok-g.ensures

@@ -1,34 +1,14 @@
 -- `assignments::storing` meets its contract.
-use native.Mathlib.Omega.{arith}
-use Rattle.parts.proofs.Spans.{within_done}
-use Rattle.assignments.proofs.Assigned.{room_back, closes_on, closes_not, stores_answers}
+use Rattle.assignments.proofs.Assigned.{stores_unread, stores_not, stores_answers}
 use Rattle.assignments.proofs.storing.Goals as goal
 
-pub reference-g-requires : goal.reference-g-requires
-reference-g-requires c =
-    let w = within_done _ _ _ _ _ _ _ _ c.expression.ensures.within c.in-Done.is in record {
-      ready = record {
-        inside = omega arith;
-        shallow = omega arith;
-        short = c.requires.le_at.2;
-        room = omega (arith, c.requires.le_at, w.1, w.2, c.expression.auto.code);
-      };
-      line_bound = c.requires.line_bound.0;
-    }
+pub returns-in_err-g : goal.returns-in_err-g
+returns-in_err-g c = rw c.from_residual.ensures (stores_unread _ _ _ _ _ _ _ _ _ c.in_err-g.ensures)
 
-pub then_emit-requires : goal.then_emit-requires
-then_emit-requires c =
-    let w = within_done _ _ _ _ _ _ _ _ c.expression.ensures.within c.in-Done.is in
-    room_back _ _ _ _ _ _ _ c.reference-g.ensures.within c.back.ensures
-    (omega (arith, c.requires.le_at, w.1, w.2, c.expression.auto.code, c.reference-g.auto.code))
+pub returns-in_err-h : goal.returns-in_err-h
+returns-in_err-h c = rw c.from_residual-in_err-h.ensures (stores_not _ _ _ _ _ _ _ _ _ c.in_ok-g.ensures _ _ c.in_err-h.ensures)
 
-pub returns-in-Done : goal.returns-in-Done
-returns-in-Done c =
-    stores_answers _ _ _ _ _ _ _ _ _ _ _ _ c.requires.line_bound.1 _ c.operation-o.ensures c.requires.le_at.0 c.expression.ensures
-    (closes_on _ _ _ _ _ _ _ _ _ _ _ _ _ _ _ c.in-Done.is c.reference-g.ensures c.back.ensures
-    c.then_emit.ensures)
-
-pub returns-in-Broken : goal.returns-in-Broken
-returns-in-Broken c =
-    stores_answers _ _ _ _ _ _ _ _ _ _ _ _ c.requires.line_bound.1 _ c.operation-o.ensures c.requires.le_at.0 c.expression.ensures
-    (closes_not _ _ _ _ _ _ _ _ c.in-Broken.is)
+pub returns : goal.returns
+returns c =
+    stores_answers _ _ _ _ _ _ _ _ _ c.in_ok-g.ensures _ _ _ _ _ c.requires.line_bound.1 _ c.operation-o.ensures c.requires.le_at.0
+    c.in_ok-h.ensures c.then_emit.ensures

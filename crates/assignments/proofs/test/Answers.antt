@@ -6,5 +6,5 @@ use Rattle.assignments.proofs.test.Goals as goal
 pub returns-then-subscripted : goal.returns-then-subscripted
 returns-then-subscripted c = tests_some c.if-subscripted.true c.emit.ensures
 
-pub returns : goal.returns
-returns c = tests_none c.if-subscripted.false refl
+pub returns-else-subscripted : goal.returns-else-subscripted
+returns-else-subscripted c = tests_none c.if-subscripted.false refl

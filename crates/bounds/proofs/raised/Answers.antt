@@ -1,4 +1,5 @@
 -- `bounds::raised` meets its contract, sign by sign.
+use mathlib.Core.Logic.{inl, inr}
 use mathlib.Core.Path.{◌≡◌, sym, ◌∙◌, ap}
 use Prim.Native.Nat.{ℕ}
 use Rattle.syntax.specs.Known.{signed}
@@ -13,10 +14,7 @@ arm : {l k : Leading} (n : ℕ) → l ≡ k → raise (signed (lead_of k) n) ≡
 arm n e = ap (λ (l : Leading). raise (signed (lead_of l) n)) (sym e)
 
 pub returns-in-Bare : goal.returns-in-Bare
-returns-in-Bare c = arm c.args.size c.in-Bare.is
-
-pub returns-in-Plus : goal.returns-in-Plus
-returns-in-Plus c = arm c.args.size c.in-Plus.is
+returns-in-Bare c = elim c.in-Bare.is [ inl e ↦ arm c.args.size e | inr e ↦ arm c.args.size e ]
 
 pub returns-in-Minus : goal.returns-in-Minus
 returns-in-Minus c = let n = c.args.size in sym (raise_down n) ∙ arm n c.in-Minus.is

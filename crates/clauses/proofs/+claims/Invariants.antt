@@ -4,4 +4,4 @@ use lib.ListN.{length}
 use Rattle.clauses.proofs.+claims.Given as goal
 
 abbrev pub decreases-claims : goal.decreases-claims
-decreases-claims l = length l.s.now - l.at
+decreases-claims l = length l.s.now - l.before.next

@@ -1,24 +1,24 @@
 -- `clauses::names_at` meets its contract: the kind, the names and the bracket.
-use Rattle.clauses.proofs.ClauseWords.{names_read, names_onward}
+use Rattle.clauses.proofs.ClauseWords.{claims_not, names_open, names_read, names_onward}
 use Rattle.clauses.proofs.names_at.Goals as goal
 
-pub kind_at-k-requires : goal.kind_at-k-requires
-kind_at-k-requires c = c.requires.0
+pub returns-in_err-c-clause-names_at : goal.returns-in_err-c-clause-names_at
+returns-in_err-c-clause-names_at c =
+    let k = c.in_ok-k in
+    rw c.from_residual-in_err-c.ensures (claims_not c.args.reading c.args.table.now _ c.args.before k.k.kind k.ensures.finds k.ensures.at_lt_next _ c.deed_of-deed.ensures c.claims.new.table c.in_err-c.ensures.claims)
 
-pub claims-c-requires : goal.claims-c-requires
-claims-c-requires c = (c.requires.0, c.requires.1)
-
-pub pass-requires : goal.pass-requires
-pass-requires c =
-    c.requires.0
+pub returns-in_err-pass-clause-names_at : goal.returns-in_err-pass-clause-names_at
+returns-in_err-pass-clause-names_at c =
+    let k = c.in_ok-k in
+    let n = c.in_ok-c in
+    rw c.from_residual-in_err-pass.ensures
+    (names_open c.args.reading _ _ c.args.before k.k.kind k.ensures.finds k.ensures.at_lt_next _ c.deed_of-deed.ensures _ n.c n.ensures.claims c.in_err-pass.ensures)
 
 pub returns : goal.returns
 returns c =
-    let k = c.kind_at-k in
-    let d = c.deed_of-deed in
-    let n = c.claims-c in record {
-      names_at = names_read c.args.reading _ _ _ _ _ k.result.kind k.ensures.goes k.ensures.at_lt_next d.result d.ensures _ n.result n.ensures.claims _ c.pass.ensures;
+    let k = c.in_ok-k in
+    let n = c.in_ok-c in record {
+      names_at = names_read c.args.reading _ _ c.args.before k.k.kind k.ensures.finds k.ensures.at_lt_next _ c.deed_of-deed.ensures _ n.c n.ensures.claims _ c.in_ok-pass.ensures;
       keeps = n.ensures.keeps;
-      at_lt_next = names_onward c.args.reading _ _ _ _ _ k.result.kind k.ensures.goes k.ensures.at_lt_next d.result d.ensures _ n.result n.ensures.claims _
-          c.pass.ensures c.requires.1;
+      at_lt_next = names_onward c.args.reading _ _ c.args.before k.k.kind k.ensures.finds k.ensures.at_lt_next _ c.deed_of-deed.ensures _ n.c n.ensures.claims c.requires c.in_ok-pass.ensures;
     }

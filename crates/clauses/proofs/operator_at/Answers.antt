@@ -1,14 +1,15 @@
--- `clauses::operator_at` meets its contract, by the sign or word that stands there.
-use native.Mathlib.Omega.{arith}
-use Rattle.clauses.proofs.ClauseWords.{operator_sum, operator_product, operator_maximum}
+-- `clauses::operator_at` meets its contract.
+use Rattle.clauses.proofs.ClauseWords.{operator_sum, operator_product, operator_maximum, operator_not}
 use Rattle.clauses.proofs.operator_at.Goals as goal
 
-pub returns-then-plus-s : goal.returns-then-plus-s
-returns-then-plus-s c = operator_sum c.pass-plus.ensures (omega arith)
+pub returns-in-Some : goal.returns-in-Some
+returns-in-Some c = operator_sum c.in-Some.ensures
 
-pub returns-then-times-s : goal.returns-then-times-s
-returns-then-times-s c = operator_product c.pass-plus.ensures (omega arith) c.pass-times.ensures (omega arith)
+pub returns-in-Some-pass : goal.returns-in-Some-pass
+returns-in-Some-pass c = operator_product c.in_default.ensures c.in-Some-pass.ensures
+
+pub returns-in_err-next : goal.returns-in_err-next
+returns-in_err-next c = rw c.from_residual.ensures (operator_not c.in_default.ensures c.in_default-pass.ensures c.in_err-next.ensures)
 
 pub returns : goal.returns
-returns c =
-    operator_maximum c.pass-plus.ensures (omega arith) c.pass-times.ensures (omega arith) c.pass.ensures
+returns c = operator_maximum c.in_default.ensures c.in_default-pass.ensures c.in_ok-next.ensures

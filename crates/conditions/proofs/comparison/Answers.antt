@@ -1,37 +1,28 @@
 -- `conditions::comparison` meets its contract.
-use mathlib.Core.Path.{refl}
-use native.Mathlib.Omega.{arith}
-use Rattle.parts.proofs.Spans.{within_inside, within_sealed, ready_later, ready_room}
-use Rattle.conditions.proofs.Comparisons.{related_by, related_not, within_word, compared_none, compared_answers}
+use Rattle.conditions.proofs.Comparisons.{compared_none, right_unread, right_unclosed, right_only, compared_answers}
 use Rattle.conditions.proofs.comparison.Goals as goal
 
-pub returns-in_default : goal.returns-in_default
-returns-in_default c = compared_none _ _ _ _ _ _ _ _ _ (related_not _ _ _ c.relation.ensures c.in_default.is) refl
+pub returns-in_err-by : goal.returns-in_err-by
+returns-in_err-by c = rw c.from_residual.ensures (compared_none _ _ _ _ _ _ _ _ c.in_err-by.ensures)
 
-pub expression-g-requires : goal.expression-g-requires
-expression-g-requires c =
-    let p = (related_by _ _ _ c.relation.ensures _ _ c.in-By.is).1 in
-    let h = c.requires in record {
-      ready = ready_later _ _ _ _ _ h.ready 1 _ _ _ p.from p.within (omega arith) refl;
-      line_bound = h.line_bound;
-    }
+pub returns-in_err-g : goal.returns-in_err-g
+returns-in_err-g c =
+    let p = c.in_ok-by.ensures in
+    rw c.from_residual-in_err-g.ensures (right_unread _ _ _ _ _ _ _ _ _ _ p.relation p.passed _ c.in_err-g.ensures)
 
-pub expect-requires : goal.expect-requires
-expect-requires c = (within_inside _ _ _ _ _ c.expression-g.ensures.within, refl)
+pub returns-in_err-g-2 : goal.returns-in_err-g-2
+returns-in_err-g-2 c =
+    let p = c.in_ok-by.ensures in
+    rw c.from_residual-in_err-g-2.ensures (right_unclosed _ _ _ _ _ _ _ _ _ _ p.relation p.passed _ _ c.in_ok-g.ensures c.in_err-g-2.ensures)
 
-pub then_word-h-requires : goal.then_word-h-requires
-then_word-h-requires c =
-    (within_inside _ _ _ _ _ (within_sealed _ _ _ c.expect.ensures c.expression-g.ensures.within), c.requires.ready.short)
-
-pub then_emit-requires : goal.then_emit-requires
-then_emit-requires c =
-    let p = (related_by _ _ _ c.relation.ensures _ _ c.in-By.is).1 in
-    let x = c.expression-g in
-    ready_room _ _ _ _ _ c.requires.ready 1 _ _ _ _ (omega (arith, p.from))
-    (within_word _ _ _ c.then_word-h.ensures (within_sealed _ _ _ c.expect.ensures x.ensures.within)) x.auto.code
+pub returns-in_err-at : goal.returns-in_err-at
+returns-in_err-at c =
+    let p = c.in_ok-by.ensures in
+    rw c.from_residual-in_err-at.ensures
+    (right_only _ _ _ _ _ _ _ _ _ _ p.relation p.passed _ _ c.in_ok-g.ensures _ c.in_ok-g-2.ensures c.in_err-at.ensures)
 
 pub returns : goal.returns
 returns c =
-    let (e, p) = related_by _ _ _ c.relation.ensures _ _ c.in-By.is in
-    compared_answers _ _ _ _ _ _ _ _ _ _ _ e p _ c.relation_number.ensures _ _ _ _
-    c.expression-g.ensures c.expect.ensures c.then_word-h.ensures c.then_emit.ensures
+    let p = c.in_ok-by.ensures in
+    compared_answers _ _ _ _ _ _ _ _ _ _ p.relation p.passed _ _ c.in_ok-g.ensures _ c.in_ok-g-2.ensures _ _ _ c.in_ok-at.ensures
+    c.relation_number.ensures c.then_emit.ensures

@@ -1,31 +1,20 @@
 -- `conditions::condition` meets its contract.
-use mathlib.Core.Path.{refl}
-use native.Mathlib.Omega.{arith}
-use Rattle.parts.proofs.Spans.{within_done}
-use Rattle.conditions.proofs.Comparisons.{compares_on, compares_not, condition_unread, condition_compiles}
+use Rattle.conditions.proofs.Comparisons.{condition_unsaid, condition_unopened, condition_unread, condition_compiles}
 use Rattle.conditions.proofs.condition.Goals as goal
 
-pub returns-then-s-b : goal.returns-then-s-b
-returns-then-s-b c = condition_unread _ _ _ _ _ _ _ c.pass-a.ensures c.pass-b.ensures (omega arith) refl
+pub returns-in_err-bracket : goal.returns-in_err-bracket
+returns-in_err-bracket c = rw c.from_residual.ensures (condition_unsaid _ _ _ _ _ _ c.in_err-bracket.ensures)
 
-pub comparison-requires : goal.comparison-requires
-comparison-requires c =
-    let w = within_done _ _ _ _ _ _ _ _ c.expression.ensures.within c.in-Done.is in record {
-      ready = record {
-        inside = w.1;
-        shallow = omega arith;
-        short = c.requires.0;
-        room = omega (arith, c.requires.2, w.1, w.2, c.expression.auto.code);
-      };
-      line_bound = c.requires.1;
-    }
+pub returns-in_err-at : goal.returns-in_err-at
+returns-in_err-at c =
+    rw c.from_residual-in_err-at.ensures (condition_unopened _ _ _ _ _ c.in_ok-bracket.ensures _ c.in_err-at.ensures)
 
-pub returns-in-Done : goal.returns-in-Done
-returns-in-Done c =
-    condition_compiles _ _ _ _ _ _ _ c.pass-a.ensures c.pass-b.ensures _ _ (omega arith) c.requires.2 c.expression.ensures
-    (compares_on _ _ _ _ _ _ _ _ _ _ c.in-Done.is c.comparison.ensures)
+pub returns-in_err-g : goal.returns-in_err-g
+returns-in_err-g c =
+    rw c.from_residual-in_err-g.ensures
+    (condition_unread _ _ _ _ _ c.in_ok-bracket.ensures c.in_ok-at.ensures _ c.in_err-g.ensures)
 
-pub returns-in-Broken : goal.returns-in-Broken
-returns-in-Broken c =
-    condition_compiles _ _ _ _ _ _ _ c.pass-a.ensures c.pass-b.ensures _ _ (omega arith) c.requires.2 c.expression.ensures
-    (compares_not _ _ _ _ _ _ c.in-Broken.is)
+pub returns : goal.returns
+returns c =
+    condition_compiles _ _ _ _ _ c.in_ok-bracket.ensures c.in_ok-at.ensures _ _ _ _ c.requires.2 c.in_ok-g.ensures
+    c.comparison.ensures

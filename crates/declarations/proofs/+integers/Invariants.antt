@@ -4,4 +4,4 @@ use lib.ListN.{length}
 use Rattle.declarations.proofs.+integers.Given as goal
 
 abbrev pub decreases-integers : goal.decreases-integers
-decreases-integers l = length l.s.now - l.at
+decreases-integers l = length l.s.now - l.before.next

@@ -1,27 +1,24 @@
 -- `describing::bounds` meets its contract.
-use mathlib.Core.Path.{◌≡◌, ◌∙◌}
-use native.Mathlib.Omega.{arith}
+use mathlib.Core.Path.{◌≡◌, ◌∙◌, ap}
 use mir.Syntax.{w32}
 use mir.Val.{to_z, of_z}
-use Rattle.answers.specs.declared.Bounded.TheVariants.{Range}
-use Rattle.preparing.proofs.Verdicts.{is_bad, is_fine}
-use Rattle.describing.proofs.Answering.{bounds_bad, bounds_fine}
+use lib.IntN.{ℤ}
+use Rattle.std.specs.Prelude.{Result, Ok}
+use Rattle.std.proofs.lemmas.Result.{err_from_is_err_and}
+use Rattle.answers.specs.declared.Bounds.{Bounds}
+use Rattle.answers.specs.declared.Refusal.{Refusal}
+use Rattle.describing.proofs.Answering.{bounds_refused, bounds_accepted}
 use borrow.Author.Rules.{rules}
 use Rattle.describing.proofs.bounds.Goals as goal
 
-pub returns-then-p-ne0 : goal.returns-then-p-ne0
-returns-then-p-ne0 c =
-    let h = c.read-r.ensures in
-    bounds_bad _ _ _ _ _ h (is_bad _ _ _ _ _ h c.if-p-ne0.true)
-
-pub overflow_cast-result : goal.overflow_cast-result
-overflow_cast-result c =
-    let h = c.read-r.ensures in
-    omega (arith, (is_fine _ _ _ _ _ h c.if-p-ne0.false).represents.few)
+pub returns-in_err-p : goal.returns-in_err-p
+returns-in_err-p c =
+    let q = err_from_is_err_and c.from_residual.result c.from_residual.ensures.1 in
+    rw (q.1, q.2) (bounds_refused _ _ c.in_err-p.ensures.refused)
 
 pub returns : goal.returns
 returns c =
-    let read = c.read-r in
-    let p = read.result.progress in
+    let p = c.in_ok-p.p in
     let m : to_z w32 (of_z w32 p.from) ≡ p.from = search rules in
-    (λ i. Range (m i) p.count p.grouping) ∙ bounds_fine _ _ _ _ _ read.ensures (is_fine _ _ _ _ _ read.ensures c.if-p-ne0.false)
+    let whole : ℤ → Result Bounds Refusal = λ x. Ok (record { from = x; iterations = p.count; grouping = p.grouping }) in
+    ap whole m ∙ bounds_accepted _ _ _ _ _ c.in_ok-p.ensures.accepted

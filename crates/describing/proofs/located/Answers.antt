@@ -6,14 +6,14 @@ use Rattle.reader.proofs.Whole.{lowered_at}
 use Rattle.describing.proofs.Answering.{declared, undeclared}
 use Rattle.describing.proofs.located.Goals as goal
 
-pub returns-then-e : goal.returns-then-e
-returns-then-e c =
+pub returns-in-Some : goal.returns-in-Some
+returns-in-Some c =
     let x = c.args.name.now in
     let l = lowered_at x (replicate 32 0) _ _ c.lowered.ensures refl (omega arith) in
-    λ t d. declared _ t d x _ l _ (c.find-e.ensures.1 t d) _ c.subscripts_of.ensures c.if-e.true
+    λ t d. declared _ t d x _ l _ (c.in-Some.ensures.known t d).0 _ c.subscripts_of.ensures
 
-pub returns : goal.returns
-returns c =
+pub returns-in-None : goal.returns-in-None
+returns-in-None c =
     let x = c.args.name.now in
     let l = lowered_at x (replicate 32 0) _ _ c.lowered.ensures refl (omega arith) in
-    λ t d. undeclared _ t d x _ l _ (c.find-e.ensures.1 t d) c.if-e.false
+    λ t d. rw c.of_lent-in-None.ensures (undeclared _ t d x _ l (c.in-None.ensures.known t d))

@@ -1,14 +1,12 @@
 -- `describing::name` meets its contract.
-use Rattle.preparing.proofs.Verdicts.{is_bad, is_fine}
-use Rattle.describing.proofs.Answering.{name_bad, name_fine}
+use Rattle.std.proofs.lemmas.Result.{err_from_is_err_and}
+use Rattle.describing.proofs.Answering.{name_refused, name_accepted}
 use Rattle.describing.proofs.name.Goals as goal
 
-pub returns-then-p-ne0 : goal.returns-then-p-ne0
-returns-then-p-ne0 c =
-    let a = c.args in
-    name_bad _ _ _ _ _ c.read-r.ensures a.name.now (is_bad _ _ _ _ _ c.read-r.ensures c.if-p-ne0.true)
+pub returns-in_err-read : goal.returns-in_err-read
+returns-in_err-read c =
+    let q = err_from_is_err_and c.from_residual.result c.from_residual.ensures.1 in
+    rw (q.1, q.2) (name_refused _ _ c.args.name.now c.in_err-read.ensures.refused)
 
 pub returns : goal.returns
-returns c =
-    let a = c.args in
-    name_fine _ _ _ _ _ c.read-r.ensures a.name.now _ c.located.ensures (is_fine _ _ _ _ _ c.read-r.ensures c.if-p-ne0.false)
+returns c = name_accepted _ _ _ _ _ c.in_ok-read.ensures.accepted c.args.name.now _ c.located.ensures

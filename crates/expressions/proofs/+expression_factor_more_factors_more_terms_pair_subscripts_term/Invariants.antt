@@ -10,22 +10,22 @@ abbrev pub left : List ℕ → ℕ → ℕ → ℕ
 left s at depth = 2 * (length s - at) + (length s - depth)
 
 abbrev pub decreases-expression : goal.decreases-expression
-decreases-expression l = left l.s.now l.at l.depth + 2
+decreases-expression l = left l.s.now l.from.at l.depth + 2
 
 abbrev pub decreases-factor : goal.decreases-factor
-decreases-factor l = left l.s.now l.at l.depth
+decreases-factor l = left l.s.now l.from.at l.depth
 
 abbrev pub decreases-more_factors : goal.decreases-more_factors
-decreases-more_factors l = left l.s.now l.at l.depth
+decreases-more_factors l = left l.s.now l.from.at l.depth
 
 abbrev pub decreases-more_terms : goal.decreases-more_terms
-decreases-more_terms l = left l.s.now l.at l.depth
+decreases-more_terms l = left l.s.now l.from.at l.depth
 
 abbrev pub decreases-pair : goal.decreases-pair
-decreases-pair l = left l.s.now l.at l.depth + 3
+decreases-pair l = left l.s.now l.from.at l.depth + 3
 
 abbrev pub decreases-subscripts : goal.decreases-subscripts
-decreases-subscripts l = left l.s.now l.at l.depth + 3
+decreases-subscripts l = left l.s.now l.from.at l.depth + 3
 
 abbrev pub decreases-term : goal.decreases-term
-decreases-term l = left l.s.now l.at l.depth + 1
+decreases-term l = left l.s.now l.from.at l.depth + 1

@@ -14,7 +14,7 @@ returns-then-bytes-size c =
     let b = c.args.bytes.now in
     let e = none_lent c.put_lines-size.new.out b c.put_lines-size.auto.out in
     let q = form_refused (lines_form c.args.s.now) b (omega (arith, c.if-bytes-size.true, c.put_lines-size.ensures.place, ap length e)) in record {
-      value = q.0;
+      value = rw c.of_lent.ensures q.0;
       bytes_after = e ∙ q.1;
     }
 
@@ -24,5 +24,5 @@ returns c =
     let e = none_lent c.put_lines-size.new.out b c.put_lines-size.auto.out in
     let f = lines_form c.args.s.now in
     let both = form_given f b (omega (arith, c.if-bytes-size.false, c.put_lines-size.ensures.place, ap length e))
-    (subst (λ (x : List ℕ). Writes x 0 f c.put_lines-end.new.out c.put_lines-end.result) e c.put_lines-end.ensures) in
+    (subst (λ (x : List ℕ). Writes x 0 f c.put_lines.new.out c.put_lines.result) e c.put_lines.ensures) in
     record { value = both.0; bytes_after = both.1 }

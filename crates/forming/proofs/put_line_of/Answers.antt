@@ -12,11 +12,11 @@ returns-then-is_skipped c =
 
 pub put_shape-requires : goal.put_shape-requires
 put_shape-requires c =
-    let e = spoken_prints c.args.s.now _ _ c.kind_of-k.ensures c.shape_of-shape.ensures c.requires.1 (sym c.is_skipped.ensures ∙ c.if-is_skipped.false) in
+    let e = spoken_prints c.args.s.now _ _ c.kind_of.ensures c.shape_of.ensures c.requires.1 (sym c.is_skipped.ensures ∙ c.if-is_skipped.false) in
     (c.requires.0, omega (arith, ap length e, c.requires.2))
 
 pub returns : goal.returns
 returns c =
     writes_as
-    (spoken_prints c.args.s.now _ _ c.kind_of-k.ensures c.shape_of-shape.ensures c.requires.1 (sym c.is_skipped.ensures ∙ c.if-is_skipped.false))
+    (spoken_prints c.args.s.now _ _ c.kind_of.ensures c.shape_of.ensures c.requires.1 (sym c.is_skipped.ensures ∙ c.if-is_skipped.false))
     c.put_shape.ensures

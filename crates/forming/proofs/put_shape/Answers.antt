@@ -10,13 +10,13 @@ pub put_line-requires : goal.put_line-requires
 unfolding shaped after_blanks
 put_line-requires c =
     let a = c.args in
-    (c.requires.0, shape_room a.to (tokens a.s.now) c.in-Own.is c.requires.1)
+    shape_room a.to (tokens a.s.now) c.in-Own.is c.requires.1
 
 pub put_line-requires-in-Copies : goal.put_line-requires-in-Copies
 unfolding shaped after_blanks
 put_line-requires-in-Copies c =
     let a = c.args in
-    (c.requires.0, shape_room a.to (tokens a.s.now) c.in-Copies.is c.requires.1)
+    shape_room a.to (tokens a.s.now) c.in-Copies.is c.requires.1
 
 pub put_bytes-requires : goal.put_bytes-requires
 unfolding shaped after_blanks

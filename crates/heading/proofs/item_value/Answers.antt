@@ -1,4 +1,5 @@
 -- `heading::item_value` meets its contract, sign by sign.
+use mathlib.Core.Logic.{inl, inr}
 use mathlib.Core.Path.{◌≡◌, sym, ◌∙◌, ap}
 use native.Mathlib.Omega.{arith}
 use lib.IntN.{ℤ}
@@ -16,12 +17,7 @@ arm x e = ap (λ (l : Leading). led (lead_of l) x) (sym e)
 pub returns-in-Bare : goal.returns-in-Bare
 returns-in-Bare c =
     landed c.of_word-n.ensures (value_fits c.args.size (omega (arith, c.ranges.size)))
-    ∙ arm (value c.args.size) c.in-Bare.is
-
-pub returns-in-Plus : goal.returns-in-Plus
-returns-in-Plus c =
-    landed c.of_word-n.ensures (value_fits c.args.size (omega (arith, c.ranges.size)))
-    ∙ arm (value c.args.size) c.in-Plus.is
+    ∙ (elim c.in-Bare.is [ inl e ↦ arm (value c.args.size) e | inr e ↦ arm (value c.args.size) e ])
 
 pub returns-in-Minus : goal.returns-in-Minus
 returns-in-Minus c =

@@ -4,10 +4,7 @@ use Rattle.writing.proofs.Writing.{Along}
 use Rattle.layout.specs.Copied.{literal_bytes, comma_bytes}
 use Rattle.layout.proofs.put_commas.Given as goal
 
-abbrev pub invariant-loop-k : goal.invariant-loop-k
-invariant-loop-k l =
+abbrev pub invariant-loop-copy : goal.invariant-loop-copy
+invariant-loop-copy l =
     let b = literal_bytes l.s l.l in
-    (1 ≤ l.k) × Along (comma_bytes (l.copies - 1) b) (comma_bytes (l.copies - l.k) b) l.initial.out l.to l.out l.p
-
-abbrev pub decreases-loop-k : goal.decreases-loop-k
-decreases-loop-k l = l.copies - l.k
+    (1 ≤ l._copy) × Along (comma_bytes (l.copies - 1) b) (comma_bytes (l.copies - l._copy) b) l.initial.out l.to l.out l.p

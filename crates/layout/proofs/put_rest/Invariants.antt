@@ -7,9 +7,9 @@ use Rattle.writing.proofs.Writing.{Along}
 use Rattle.layout.specs.Copied.{spread}
 use Rattle.layout.proofs.put_rest.Given as goal
 
-abbrev pub invariant-loop-i : goal.invariant-loop-i
-invariant-loop-i l =
-    (l.i ≤ length l.s) × Along (blanked (spread l.copying (tokens (drop l.at l.s)))) (blanked (spread l.copying (tokens (drop l.i l.s)))) l.initial.out l.to l.out l.p
+abbrev pub invariant-loop-m : goal.invariant-loop-m
+invariant-loop-m l =
+    (l.m.at ≤ length l.s) × Along (blanked (spread l.copying (tokens (drop l.at l.s)))) (blanked (spread l.copying (tokens (drop l.m.at l.s)))) l.initial.out l.to l.out l.m.to
 
-abbrev pub decreases-loop-i : goal.decreases-loop-i
-decreases-loop-i l = length l.s - l.i
+abbrev pub decreases-loop-m : goal.decreases-loop-m
+decreases-loop-m l = length l.s - l.m.at

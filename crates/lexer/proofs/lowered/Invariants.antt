@@ -1,14 +1,10 @@
 -- `lexer::lowered` meets its contract: what is written up to i are the first i bytes in lower case.
-use Prim.Native.Nat.{◌≤◌, ◌-◌}
 use mathlib.Core.Path.{◌≡◌}
 use mathlib.Core.List.{map}
-use lib.ListN.{length, take}
+use lib.ListN.{take}
 use lib.Seq.{sets}
 use Rattle.syntax.specs.Bytes.{lower}
 use Rattle.lexer.proofs.lowered.Given as goal
 
 abbrev pub invariant-loop-i : goal.invariant-loop-i
-invariant-loop-i l = (l.i ≤ length l.text) × (length l.low ≡ length l.initial.low) × (l.low ≡ sets l.initial.low 0 (map lower (take l.i l.text)))
-
-abbrev pub decreases-loop-i : goal.decreases-loop-i
-decreases-loop-i l = length l.text - l.i
+invariant-loop-i l = l.low ≡ sets l.initial.low 0 (map lower (take l.i l.text))

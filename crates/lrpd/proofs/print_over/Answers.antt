@@ -20,7 +20,7 @@ report-requires c =
       c.requires.0,
       λ (d : Completes run.result). (
         names_of (read c.args.text.now),
-        holds _ _ _ _ _ c.read.ensures load.new.cells run.new.cells few same (subst Completes run.ensures.value d),
+        holds _ _ _ _ _ c.read.ensures.accepted c.read.ensures.refused load.new.cells run.new.cells few same (subst Completes run.ensures.value d),
       ),
     )
 
@@ -37,7 +37,8 @@ returns c =
     _
     _
     _
-    c.read.ensures
+    c.read.ensures.accepted
+    c.read.ensures.refused
     load.new.cells
     run.new.cells
     few

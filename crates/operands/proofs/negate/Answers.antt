@@ -3,6 +3,7 @@ use mathlib.Core.Path.{sym, ◌∙◌, ap}
 use mathlib.Core.List.{◌∷◌}
 use Prim.Native.Nat.{◌-◌}
 use native.Mathlib.Omega.{arith}
+use borrow.Author.Rules.{rules}
 use mir.Syntax.{w32}
 use mir.Val.{SFits}
 use mir.ValLaws.{to_z-of_z}
@@ -27,7 +28,7 @@ unfolding perform
 returns c =
     let a = c.args in
     let p = c.requires in
-    let x : SFits w32 (get_or a.pending.now (a.depth - 1) (pos 0)) = record { sfits = c.x-1.given } in
-    let e = landed (c.negate.ensures ∙ ap negation (to_z-of_z w32 _ x)) (negation_fits _) in
-    λ v. pushes _ _ _ _ p.size _ _ _ (omega (arith, p.most)) c.put-n.ensures c.go_on.ensures
+    let x : SFits w32 (get_or a.pending.now (a.depth - 1) (pos 0)) = search rules in
+    let e = landed (c.negate-z.ensures ∙ ap negation (to_z-of_z w32 _ x)) (negation_fits _) in
+    λ v. pushes _ _ _ _ p.size _ _ _ (omega (arith, p.most)) c.put.ensures c.go_on.ensures
     (λ go. with1_taken _ _ _ (omega arith) ∙ ap (λ (z : ℤ). go a.place (z ∷ pendings a.pending.now (a.depth - 1))) (sym e))

@@ -16,4 +16,4 @@ pub returns : goal.returns
 returns c =
     let a = c.args in
     let e : to_z w32 (of_z w32 a.x) ≡ a.x = search rules in
-    pushes _ _ _ _ c.requires.size _ _ _ c.if-depth-ge32.false c.put-d.ensures c.go_on.ensures (λ go. rw e (room_in _ _ _ c.if-depth-ge32.false))
+    pushes _ _ _ _ c.requires.size _ _ _ c.if-depth-ge32.false c.put.ensures c.go_on.ensures (λ go. rw e (room_in _ _ _ c.if-depth-ge32.false))

@@ -8,11 +8,8 @@ use Rattle.trial.proofs.StandingLaws.{suits_low, standing_size, standing_room}
 use Rattle.outcome.proofs.ReadingOff.{blocked_at, standing_obstructed, standing_free}
 use Rattle.outcome.proofs.is_obstructed.Goals as goal
 
-pub loop-c-init : goal.loop-c-init
-loop-c-init c = (omega arith, λ j b. absurd (omega (arith, b)))
-
-pub row_of-row-requires : goal.row_of-row-requires
-row_of-row-requires c =
+pub row_of-requires : goal.row_of-requires
+row_of-requires c =
     let a = c.args in
     let (l, δ, s, h) = c.requires in
     suits_low h.suits (standing_size a.processors l δ a.cells.now a.w.now s h) c.loop-c.c c.loop-c-test.true
@@ -23,7 +20,7 @@ is_blocked-requires c =
     let (l, δ, s, h) = c.requires in
     omega (
       arith,
-      c.row_of-row.ensures,
+      c.row_of.ensures,
       standing_room a.processors l δ a.cells.now a.w.now s h c.loop-c.c c.loop-c-test.true,
     )
 
@@ -31,7 +28,7 @@ pub returns-then-is_blocked : goal.returns-then-is_blocked
 returns-then-is_blocked c =
     let a = c.args in
     let u = c.loop-c in
-    let e : blocked_at a.w.now a.processors u.c ≡ true = rw c.row_of-row.ensures at
+    let e : blocked_at a.w.now a.processors u.c ≡ true = rw c.row_of.ensures at
     (sym c.is_blocked.ensures ∙ c.if-is_blocked.true) in
     λ l δ s h. (λ _. refl, λ _. standing_obstructed a.processors l δ a.cells.now a.w.now s h u.c c.loop-c-test.true e)
 
@@ -39,15 +36,15 @@ pub loop-c-preserved : goal.loop-c-preserved
 loop-c-preserved c =
     let a = c.args in
     let u = c.loop-c in
-    let e : blocked_at a.w.now a.processors u.c ≡ false = rw c.row_of-row.ensures at
+    let e : blocked_at a.w.now a.processors u.c ≡ false = rw c.row_of.ensures at
     (sym c.is_blocked.ensures ∙ c.if-is_blocked.false) in
-    (omega arith, below_more _ _ u.invariant.1 e)
+    below_more _ _ u.invariant e
 
 pub returns : goal.returns
 returns c =
     let a = c.args in
     let u = c.loop-c in
     λ l δ s h. (
-      λ o. absurd (standing_free a.processors l δ a.cells.now a.w.now s h (λ j b. u.invariant.1 j (omega (arith, b, c.loop-c-test.false))) o),
+      λ o. absurd (standing_free a.processors l δ a.cells.now a.w.now s h (λ j b. u.invariant j (omega (arith, b, c.loop-c-test.false))) o),
       λ (e : false ≡ true). let z : ◌≡◌ {A = ℕ} 0 1 = cc in absurd (omega arith),
     )

@@ -20,31 +20,28 @@ use Rattle.outcome.proofs.merge.Goals as goal
 pub loop-c-init : goal.loop-c-init
 loop-c-init c =
     let a = c.args in
-    (omega arith, set_none (λ j. findings.merged a.w.now (row_at a.processors j) a.processors (cell_of a.cells.now j)) a.cells.now)
+    set_none (λ j. findings.merged a.w.now (row_at a.processors j) a.processors (cell_of a.cells.now j)) a.cells.now
 
 pub row_of-row-requires : goal.row_of-row-requires
 row_of-row-requires c =
     let a = c.args in
     let (l, δ, s, h) = c.requires in
     suits_low h.suits (standing_size a.processors l δ a.cells.now a.w.now s h) c.loop-c.c
-    (omega (arith, c.loop-c.invariant.1.size, c.loop-c-test.true))
+    c.loop-c-test.true
 
 pub merged_value-requires : goal.merged_value-requires
 merged_value-requires c =
     let a = c.args in
     let (l, δ, s, h) = c.requires in
     let y = suits_low h.suits (standing_size a.processors l δ a.cells.now a.w.now s h) c.loop-c.c
-    (omega (arith, c.loop-c.invariant.1.size, c.loop-c-test.true)) in
+    c.loop-c-test.true in
     omega (
       arith,
       c.row_of-row.ensures,
       row_small a.processors c.loop-c.c y.0 y.1,
       standing_room a.processors l δ a.cells.now a.w.now s h c.loop-c.c
-          (omega (arith, c.loop-c.invariant.1.size, c.loop-c-test.true)),
+          c.loop-c-test.true,
     )
-
-pub loop-c-smaller : goal.loop-c-smaller
-loop-c-smaller c = omega (arith, c.loop-c.invariant.1.size, c.loop-c-test.true)
 
 pub loop-c-preserved : goal.loop-c-preserved
 unfolding cell_of
@@ -56,15 +53,10 @@ loop-c-preserved c =
     let r : c.merged_value.result ≡ findings.merged a.w.now (row_at a.processors u.c) a.processors (cell_of a.cells.now u.c) =
     c.merged_value.ensures
     ∙ rw (e, c.row_of-row.ensures)
-    (ap (findings.merged a.w.now (row_at a.processors u.c) a.processors) (u.invariant.1.rest u.c (omega arith))) in (
-      omega (arith, u.invariant.1.size, c.loop-c-test.true),
-      rw (add-one, f, r)
-          (set_more (λ j. findings.merged a.w.now (row_at a.processors j) a.processors (cell_of a.cells.now j)) a.cells.now u.c
-          u.cells u.invariant.1 c.loop-c-test.true),
-    )
-
-pub shape_of-cells : goal.shape_of-cells
-shape_of-cells c = c.loop-c.invariant.1.size
+    (ap (findings.merged a.w.now (row_at a.processors u.c) a.processors) (u.invariant.rest u.c (omega arith))) in
+    rw (add-one, f, r)
+    (set_more (λ j. findings.merged a.w.now (row_at a.processors j) a.processors (cell_of a.cells.now j)) a.cells.now u.c
+    u.cells u.invariant (omega (arith, u.invariant.size)))
 
 pub returns : goal.returns
 returns c =
@@ -72,6 +64,6 @@ returns c =
     let u = c.loop-c in
     λ l δ s h.
     set_all (λ j. findings.merged a.w.now (row_at a.processors j) a.processors (cell_of a.cells.now j)) a.cells.now u.c u.cells
-    u.invariant.1 (omega (arith, u.invariant.0, u.invariant.1.size, c.loop-c-test.false)) (merged l δ s)
+    u.invariant (omega (arith, u.invariant.size, c.loop-c-test.false)) (merged l δ s)
     (λ j b. standing_merged a.processors l δ a.cells.now a.w.now s h j b)
     ∙ ap (λ (n : ℕ). listed n (merged l δ s)) (standing_size a.processors l δ a.cells.now a.w.now s h)

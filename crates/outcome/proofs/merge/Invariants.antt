@@ -1,6 +1,4 @@
 -- `outcome::merge` meets its contract: the cells passed are merged.
-use Prim.Native.Nat.{◌≤◌, ◌-◌}
-use lib.ListN.{length}
 use Rattle.rules.specs.Cells.{cell_of}
 use Rattle.tables.specs.Layout.{row_at}
 use Rattle.outcome.proofs.ReadingOff.{SettingTo}
@@ -9,7 +7,4 @@ use Rattle.outcome.proofs.merge.Given as goal
 
 abbrev pub invariant-loop-c : goal.invariant-loop-c
 invariant-loop-c l =
-    (l.c ≤ length l.initial.cells) × SettingTo (λ j. findings.merged l.w (row_at l.processors j) l.processors (cell_of l.initial.cells j)) l.initial.cells l.c l.cells
-
-abbrev pub decreases-loop-c : goal.decreases-loop-c
-decreases-loop-c l = length l.initial.cells - l.c
+    SettingTo (λ j. findings.merged l.w (row_at l.processors j) l.processors (cell_of l.initial.cells j)) l.initial.cells l.c l.cells

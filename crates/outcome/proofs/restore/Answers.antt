@@ -17,13 +17,13 @@ use Rattle.outcome.proofs.restore.Goals as goal
 pub loop-c-init : goal.loop-c-init
 loop-c-init c =
     let a = c.args in
-    (omega arith, set_none (λ j. value (get_or a.w.now (row_at a.processors j) 0)) a.cells.now)
+    set_none (λ j. value (get_or a.w.now (row_at a.processors j) 0)) a.cells.now
 
-pub row_of-row-requires : goal.row_of-row-requires
-row_of-row-requires c =
+pub row_of-requires : goal.row_of-requires
+row_of-requires c =
     let a = c.args in
     let (l, δ, h) = c.requires in
-    suits_low h.suits h.size c.loop-c.c (omega (arith, c.loop-c.invariant.1.size, c.loop-c-test.true))
+    suits_low h.suits h.size c.loop-c.c c.loop-c-test.true
 
 pub entry_value-requires : goal.entry_value-requires
 entry_value-requires c =
@@ -31,34 +31,26 @@ entry_value-requires c =
     let (l, δ, h) = c.requires in
     omega (
       arith,
-      c.row_of-row.ensures,
+      c.row_of.ensures,
       kept_room a.processors l δ a.cells.now a.w.now h c.loop-c.c
-          (omega (arith, c.loop-c.invariant.1.size, c.loop-c-test.true)),
+          c.loop-c-test.true,
     )
-
-pub loop-c-smaller : goal.loop-c-smaller
-loop-c-smaller c = omega (arith, c.loop-c.invariant.1.size, c.loop-c-test.true)
 
 pub loop-c-preserved : goal.loop-c-preserved
 loop-c-preserved c =
     let a = c.args in
     let u = c.loop-c in
-    let f : to_z w32 (of_z w32 c.entry_value.result) ≡ c.entry_value.result = search rules in (
-      omega (arith, u.invariant.1.size, c.loop-c-test.true),
-      rw (add-one, f, c.entry_value.ensures, c.row_of-row.ensures)
-          (set_more (λ j. value (get_or a.w.now (row_at a.processors j) 0)) a.cells.now u.c u.cells u.invariant.1
-          c.loop-c-test.true),
-    )
-
-pub shape_of-cells : goal.shape_of-cells
-shape_of-cells c = c.loop-c.invariant.1.size
+    let f : to_z w32 (of_z w32 c.entry_value.result) ≡ c.entry_value.result = search rules in
+    rw (add-one, f, c.entry_value.ensures, c.row_of.ensures)
+    (set_more (λ j. value (get_or a.w.now (row_at a.processors j) 0)) a.cells.now u.c u.cells u.invariant
+    (omega (arith, u.invariant.size)))
 
 pub returns : goal.returns
 returns c =
     let a = c.args in
     let u = c.loop-c in
     λ l δ h.
-    set_all (λ j. value (get_or a.w.now (row_at a.processors j) 0)) a.cells.now u.c u.cells u.invariant.1
-    (omega (arith, u.invariant.0, u.invariant.1.size, c.loop-c-test.false)) l.entry
+    set_all (λ j. value (get_or a.w.now (row_at a.processors j) 0)) a.cells.now u.c u.cells u.invariant
+    (omega (arith, u.invariant.size, c.loop-c-test.false)) l.entry
     (λ j b. kept_entry a.processors l δ a.cells.now a.w.now h j b)
     ∙ ap (λ (n : ℕ). listed n l.entry) h.size

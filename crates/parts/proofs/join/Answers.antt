@@ -2,17 +2,17 @@
 use Rattle.parts.proofs.Signs.{sign_seen, joins_first, joins_second, joins_none}
 use Rattle.parts.proofs.join.Goals as goal
 
-pub returns-then-is_sign : goal.returns-then-is_sign
-returns-then-is_sign c =
+pub returns-then-reads : goal.returns-then-reads
+returns-then-reads c =
     joins_first c.token-t.ensures _ _
-    (sign_seen c.token-t.ensures _ c.requires.1 c.is_sign.ensures c.if-is_sign.true)
+    (sign_seen c.token-t.ensures _ c.requires.1 c.reads.ensures c.if-reads.true)
 
-pub returns-then-is_sign-2 : goal.returns-then-is_sign-2
-returns-then-is_sign-2 c =
-    joins_second c.token-t.ensures _ _ (sign_seen c.token-t.ensures _ c.requires.1 c.is_sign.ensures c.if-is_sign.false)
-    (sign_seen c.token-t.ensures _ c.requires.2 c.is_sign-2.ensures c.if-is_sign-2.true)
+pub returns-then-reads-2 : goal.returns-then-reads-2
+returns-then-reads-2 c =
+    joins_second c.token-t.ensures _ _ (sign_seen c.token-t.ensures _ c.requires.1 c.reads.ensures c.if-reads.false)
+    (sign_seen c.token-t.ensures _ c.requires.2 c.reads-else-reads.ensures c.if-reads-2.true)
 
-pub returns : goal.returns
-returns c =
-    joins_none _ _ c.requires.0 (sign_seen c.token-t.ensures _ c.requires.1 c.is_sign.ensures c.if-is_sign.false)
-    (sign_seen c.token-t.ensures _ c.requires.2 c.is_sign-2.ensures c.if-is_sign-2.false)
+pub returns-else-reads-2 : goal.returns-else-reads-2
+returns-else-reads-2 c =
+    joins_none _ _ c.requires.0 (sign_seen c.token-t.ensures _ c.requires.1 c.reads.ensures c.if-reads.false)
+    (sign_seen c.token-t.ensures _ c.requires.2 c.reads-else-reads.ensures c.if-reads-2.false)

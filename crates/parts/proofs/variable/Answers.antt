@@ -2,14 +2,9 @@
 use mathlib.Core.Path.{sym, ◌∙◌}
 use native.Mathlib.Omega.{arith}
 use Rattle.parts.proofs.Leaves.{name_loads}
-use Rattle.parts.specs.Parts.{Room}
 use Rattle.parts.proofs.variable.Goals as goal
-
-pub then_read-requires : goal.then_read-requires
-unfolding Room
-then_read-requires c = c.requires
 
 pub returns : goal.returns
 returns c =
     name_loads c.token-t.ensures (λ z. omega (arith, sym c.token-t.ensures.kinds ∙ c.requires.1)) _ _ _ _ _ _ _ _
-    c.then_read.ensures c.named-worse.ensures
+    c.then_read.ensures c.named.ensures

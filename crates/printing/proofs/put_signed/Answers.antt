@@ -1,30 +1,17 @@
--- `printing::put_signed` meets its contract, by the word of the number.
+-- `printing::put_signed` meets its contract.
 use mathlib.Core.Path.{◌∙◌, ap}
+use lib.IntN.{nat_abs}
 use mir.Syntax.{w32}
 use mir.ValLaws.{to_z-of_z}
-use Rattle.int32.specs.Integers.{word}
 use Rattle.printing.proofs.Writing.{signed_plain, signed_negative}
-use native.Mathlib.Omega.{arith}
 use Rattle.printing.proofs.put_signed.Goals as goal
 
-pub returns-then-w-lt2147483648 : goal.returns-then-w-lt2147483648
-returns-then-w-lt2147483648 c =
-    let fits = c.ranges in
-    let args = c.args in
-    let to_word = c.to_word-w in
-    let if1 = c.if-w-lt2147483648 in
-    let put-digits = c.put_digits in
-    signed_plain _ _ fits.v (to_word.ensures ∙ ap word (to_z-of_z w32 args.v fits.v)) if1.true put-digits.ensures
-
-pub put_digits-requires-2 : goal.put_digits-requires-2
-put_digits-requires-2 c = omega (arith, c.put-p.ensures.place)
+pub returns-then-v-ge0 : goal.returns-then-v-ge0
+returns-then-v-ge0 c =
+    let e = to_z-of_z w32 c.args.v c.ranges.v in
+    signed_plain c.args.v (rw e at c.if-v-ge0.true) (c.unsigned_abs.ensures.value ∙ ap nat_abs e) c.put_digits.ensures
 
 pub returns : goal.returns
 returns c =
-    let fits = c.ranges in
-    let args = c.args in
-    let to_word = c.to_word-w in
-    let if1 = c.if-w-lt2147483648 in
-    let put = c.put-p in
-    let put-digits2 = c.put_digits-2 in
-    signed_negative _ _ fits.v (to_word.ensures ∙ ap word (to_z-of_z w32 args.v fits.v)) if1.false put.ensures put-digits2.ensures
+    let e = to_z-of_z w32 c.args.v c.ranges.v in
+    signed_negative c.args.v (rw e at c.if-v-ge0.false) (c.unsigned_abs-2.ensures.value ∙ ap nat_abs e) c.put-p.ensures c.put_digits-2.ensures

@@ -1,12 +1,8 @@
 -- `printing::put_values` meets its contract: the first k values stand in the buffer.
-use Prim.Native.Nat.{◌-◌, ◌≤◌}
-use lib.ListN.{length, take}
+use lib.ListN.{take}
 use Rattle.printing.specs.Printed.{values}
 use Rattle.writing.specs.Written.{Writes}
 use Rattle.printing.proofs.put_values.Given as goal
 
 abbrev pub invariant-loop-k : goal.invariant-loop-k
-invariant-loop-k l = (l.k ≤ length l.vs) × Writes l.initial.out l.at (values (take l.k l.vs)) l.out l.p
-
-abbrev pub decreases-loop-k : goal.decreases-loop-k
-decreases-loop-k l = length l.vs - l.k
+invariant-loop-k l = Writes l.initial.out l.at (values (take l.k l.vs)) l.out l.p

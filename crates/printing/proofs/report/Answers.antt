@@ -7,43 +7,20 @@ use native.Mathlib.Omega.{arith}
 use Rattle.printing.proofs.report.Goals as goal
 
 pub put_data_lines-requires : goal.put_data_lines-requires
-put_data_lines-requires c =
-    let args = c.args in
-    let pre = c.requires in
-    (omega (arith, comment_few args.answer, c.put_comment-at.ensures.place), pre.1 (subst Completes (sym c.in-Passed.is) tt))
+put_data_lines-requires c = (
+  omega (arith, comment_few c.args.answer, c.put_comment-at.ensures.place),
+  c.requires.1 (subst Completes (sym c.in-Ok.is) tt),
+)
 
-pub put_data_lines-requires-in-Rerun : goal.put_data_lines-requires-in-Rerun
-put_data_lines-requires-in-Rerun c =
+pub returns-in-Ok : goal.returns-in-Ok
+returns-in-Ok c =
     let args = c.args in
-    let pre = c.requires in
-    (omega (arith, comment_few args.answer, c.put_comment-at.ensures.place), pre.1 (subst Completes (sym c.in-Rerun.is) tt))
+    let d = subst Completes (sym c.in-Ok.is) tt in
+    let k = c.requires.1 d in
+    reports_lines args.answer args.table.now args.cells.now _ c.requires.0 d k.0 k.1 c.put_comment-at.ensures c.put_data_lines.ensures
 
-pub returns-in-Passed : goal.returns-in-Passed
-returns-in-Passed c =
+pub returns-in-Err : goal.returns-in-Err
+returns-in-Err c =
     let args = c.args in
-    let pre = c.requires in
-    let k = pre.1 (subst Completes (sym c.in-Passed.is) tt) in
-    reports_lines args.answer args.table.now args.cells.now _ pre.0 (subst Completes (sym c.in-Passed.is) tt) k.0 k.1
-    c.put_comment-at.ensures c.put_data_lines.ensures
-
-pub returns-in-Rerun : goal.returns-in-Rerun
-returns-in-Rerun c =
-    let args = c.args in
-    let pre = c.requires in
-    let k = pre.1 (subst Completes (sym c.in-Rerun.is) tt) in
-    reports_lines args.answer args.table.now args.cells.now _ pre.0 (subst Completes (sym c.in-Rerun.is) tt) k.0 k.1
-    c.put_comment-at.ensures c.put_data_lines-in-Rerun.ensures
-
-pub returns-in-Faulted : goal.returns-in-Faulted
-returns-in-Faulted c =
-    let args = c.args in
-    let pre = c.requires in
-    reports_refusal args.answer args.table.now args.cells.now _ pre.0
-    (λ (z : Completes args.answer). subst Completes c.in-Faulted.is z) c.put_comment-at.ensures
-
-pub returns-in-Refused : goal.returns-in-Refused
-returns-in-Refused c =
-    let args = c.args in
-    let pre = c.requires in
-    reports_refusal args.answer args.table.now args.cells.now _ pre.0
-    (λ (z : Completes args.answer). subst Completes c.in-Refused.is z) c.put_comment-at.ensures
+    reports_refusal args.answer args.table.now args.cells.now _ c.requires.0
+    (λ (z : Completes args.answer). subst Completes c.in-Err.is z) c.put_comment-at.ensures

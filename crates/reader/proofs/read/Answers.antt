@@ -6,7 +6,7 @@ use Rattle.reader.proofs.Whole.{over_long, in_lower, lowered_at}
 use Rattle.reader.proofs.read.Goals as goal
 
 pub returns-then-n-gt2048 : goal.returns-then-n-gt2048
-returns-then-n-gt2048 c = over_long _ _ _ _ _ c.if-n-gt2048.true c.too_long.ensures.0 c.too_long.ensures.1
+returns-then-n-gt2048 c = over_long _ _ _ _ _ c.if-n-gt2048.true refl
 
 pub returns : goal.returns
 returns c =

@@ -30,35 +30,26 @@ slice_bounds-judge_line-end c =
     let b = c.loop-at.invariant.within in
     omega (arith, end_within _ _ _ en b, end_after _ _ _ en b)
 
-pub judge_line-p-requires : goal.judge_line-p-requires
-judge_line-p-requires c =
+pub judge_line-requires : goal.judge_line-requires
+judge_line-requires c =
     line_lent _ _ _ _ _ c.loop-at.invariant c.requires.0 _ c.line_end-e.ensures
 
-pub shape_of-initial-then-p-ne0 : goal.shape_of-initial-then-p-ne0
-shape_of-initial-then-p-ne0 c =
-    (c.judge_line-p.auto.initial ∙ c.loop-at.invariant.initial)
-    ∙ sym (initial_long c.args.table.now c.args.initial.now c.args.code.now [] c.requires.1)
-
-pub shape_of-code-then-p-ne0 : goal.shape_of-code-then-p-ne0
-shape_of-code-then-p-ne0 c =
-    c.judge_line-p.auto.code ∙ c.loop-at.invariant.code ∙ sym c.requires.1.code
-
-pub returns-then-p-ne0 : goal.returns-then-p-ne0
-returns-then-p-ne0 c =
-    ends_bad _ _ _ _ _ c.loop-at.invariant c.requires.0 _ c.line_end-e.ensures _ refl _ c.judge_line-p.ensures c.if-p-ne0.true
+pub returns-in-Err : goal.returns-in-Err
+returns-in-Err c =
+    ends_bad _ _ _ _ _ c.loop-at.invariant c.requires.0 _ c.line_end-e.ensures _ refl _ _ _ _ _ c.in-Err.ensures
 
 pub shape_of-initial-then-last : goal.shape_of-initial-then-last
 shape_of-initial-then-last c =
-    (c.judge_line-p.auto.initial ∙ c.loop-at.invariant.initial)
+    (c.judge_line.auto.initial ∙ c.loop-at.invariant.initial)
     ∙ sym (initial_long c.args.table.now c.args.initial.now c.args.code.now [] c.requires.1)
 
 pub shape_of-code-then-last : goal.shape_of-code-then-last
 shape_of-code-then-last c =
-    c.judge_line-p.auto.code ∙ c.loop-at.invariant.code ∙ sym c.requires.1.code
+    c.judge_line.auto.code ∙ c.loop-at.invariant.code ∙ sym c.requires.1.code
 
 pub returns-then-last : goal.returns-then-last
 returns-then-last c =
-    ends_well _ _ _ _ _ c.loop-at.invariant c.requires.0 _ c.line_end-e.ensures _ refl _ c.judge_line-p.ensures c.if-p-ne0.false c.if-last.true-raw
+    ends_well _ _ _ _ _ c.loop-at.invariant c.requires.0 _ c.line_end-e.ensures _ refl _ _ _ _ _ c.in-Ok.ensures (omega (arith, c.if-last.true))
 
 pub overflow_add-at : goal.overflow_add-at
 overflow_add-at c =
@@ -74,8 +65,8 @@ loop-at-smaller c =
 
 pub loop-at-preserved : goal.loop-at-preserved
 loop-at-preserved c =
-    goes_further _ _ _ _ _ c.loop-at.invariant c.requires.0 _ c.line_end-e.ensures _ refl _ c.judge_line-p.ensures c.if-p-ne0.false
-    c.if-last.false-raw ((c.judge_line-p.auto.initial ∙ c.loop-at.invariant.initial)) c.judge_line-p.auto.code
+    goes_further _ _ _ _ _ c.loop-at.invariant c.requires.0 _ c.line_end-e.ensures _ refl _ _ _ _ _ c.in-Ok.ensures
+    (omega (arith, c.if-last.false)) ((c.judge_line.auto.initial ∙ c.loop-at.invariant.initial)) c.judge_line.auto.code
 
 pub shape_of-initial : goal.shape_of-initial
 shape_of-initial c =

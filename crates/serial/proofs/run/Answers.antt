@@ -10,9 +10,10 @@ carry_on-r-requires c =
     let a = c.args in
     let (l, h) = c.requires in
     let e = c.only_role-role.ensures in
-    can_serve a.code.now a.setting.from l _ (rw h.iterations e) _
+    rw c.unstopped_at-start.ensures
+    (can_serve a.code.now a.setting.from l _ (rw h.iterations e) _
     (serial_start a.code.now a.setting l a.cells.now a.classes.now (length a.w.now) h _
-    (c.enter.ensures l _ h.entry) _ (record { size = search rules; most = omega arith }))
+    (c.enter.ensures l _ h.entry) _ (record { size = search rules; most = omega arith })))
 
 pub returns : goal.returns
 returns c = λ l h.
@@ -22,5 +23,5 @@ returns c = λ l h.
     (serial_start a.code.now a.setting l a.cells.now a.classes.now (length a.w.now) h _
     (c.enter.ensures l _ h.entry) _
     (record { size = search rules; most = omega arith }))
-    c.carry_on-r.ensures.carries in
+    (rw c.unstopped_at-start.ensures at c.carry_on-r.ensures.carries) in
     serial_end a.code.now a.setting.from l _ s o

@@ -1,6 +1,5 @@
 -- `trial::carry` meets its contract.
 use Rattle.stepping.specs.Step.{scene}
-use Rattle.trial.specs.Running.{point_of}
 use Rattle.trial.proofs.RunningOut.{can_carry, carried, carried_ends}
 use Rattle.trial.proofs.carry.Goals as goal
 
@@ -8,7 +7,7 @@ pub carry_on-r-requires : goal.carry_on-r-requires
 carry_on-r-requires c =
     let a = c.args in
     let (g, p, q, (l, s, t)) = c.requires in
-    can_carry a.code.now g l p a.role q s (scene a.cells.now a.w.now a.worker.pending (point_of a.worker)) t
+    can_carry a.code.now g l p a.role q s (scene a.cells.now a.w.now a.worker.now.pending a.worker.now.point) t
 
 pub returns : goal.returns
 returns c = λ g p q.

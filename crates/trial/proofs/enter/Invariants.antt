@@ -1,6 +1,4 @@
 -- `trial::enter` meets its contract: the rows of the cells passed have begun.
-use mathlib.Core.Path.{◌≡◌}
-use Prim.Native.Nat.{◌≤◌, ◌-◌}
 use lib.ListN.{length}
 use Rattle.rules.specs.Loop.{Loop, Partition}
 use Rattle.tables.proofs.Start.{Begun}
@@ -9,9 +7,4 @@ use Rattle.trial.proofs.enter.Given as goal
 
 abbrev pub invariant-loop-c : goal.invariant-loop-c
 invariant-loop-c l =
-    (l.c ≤ length l.cells)
-    × (length l.w ≡ length l.initial.w)
-    × ((o : Loop) (δ : Partition) → Entry l.processors o δ l.cells l.classes (length l.initial.w) → Begun o.size l.processors o.class o.entry l.c l.w)
-
-abbrev pub decreases-loop-c : goal.decreases-loop-c
-decreases-loop-c l = length l.cells - l.c
+    (o : Loop) (δ : Partition) → Entry l.processors o δ l.cells l.classes (length l.initial.w) → Begun o.size l.processors o.class o.entry l.c l.w

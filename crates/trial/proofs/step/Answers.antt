@@ -4,5 +4,4 @@ use Rattle.trial.proofs.step.Goals as goal
 
 pub returns : goal.returns
 unfolding along
-returns c =
-    (c.carry.ensures c.args.setting c.args.p.0 c.role_of-role.ensures).turns
+returns c = (c.carry.ensures c.args.setting c.args.p.0 c.role_of.ensures).turns

@@ -1,48 +1,31 @@
 -- `trying::trial` meets its contract.
-use mathlib.Core.Path.{refl, sym, ◌∙◌}
 use native.Mathlib.Omega.{arith}
-use lib.ListN.{length}
-use Rattle.preparing.proofs.Beginning.{ready_bad, ready_fine, ready_few, can_try}
-use Rattle.fitting.proofs.Fits.{fit_zero}
-use Rattle.trying.proofs.Trying.{try_refused, try_unfit, stands_there, try_done}
+use Rattle.std.proofs.lemmas.Result.{err_from_is_err_and}
+use Rattle.preparing.proofs.Beginning.{can_try}
+use Rattle.trying.proofs.Trying.{try_refused, stands_there, try_done}
 use Rattle.trying.proofs.trial.Goals as goal
 
-pub returns-then-r-ne0 : goal.returns-then-r-ne0
-returns-then-r-ne0 c =
-    try_refused _ c.args.cells.now c.args.workspace.now c.args.schedule.now _ _ _ c.if-r-ne0.true
-    (ready_bad _ _ _ _ c.prepare-r.ensures c.if-r-ne0.true) c.untried.ensures
-
-pub unfit-number-requires : goal.unfit-number-requires
-unfit-number-requires c =
-    ready_few _ _ _ _ c.prepare-r.ensures (ready_fine _ _ _ _ c.prepare-r.ensures c.if-r-ne0.false)
-
-pub returns-then-number-ne0 : goal.returns-then-number-ne0
-returns-then-number-ne0 c =
-    try_unfit _ c.args.cells.now c.args.workspace.now c.args.schedule.now _ _ _ _
-    (ready_fine _ _ _ _ c.prepare-r.ensures c.if-r-ne0.false) _ c.unfit-number.ensures c.if-number-ne0.true
-    c.untried-then-number-ne0.ensures
-
-pub slice_bounds-trial-end : goal.slice_bounds-trial-end
-slice_bounds-trial-end c =
-    omega (arith, (ready_fine _ _ _ _ c.prepare-r.ensures c.if-r-ne0.false).prepares.short)
+pub returns-in_err-r : goal.returns-in_err-r
+returns-in_err-r c =
+    let a = c.args in
+    let q = err_from_is_err_and c.from_residual.result c.from_residual.ensures.1 in
+    rw (q.1, q.2) (try_refused a.text.now a.cells.now a.workspace.now a.schedule.now _ c.in_err-r.ensures.refused)
 
 pub trial-workers-requires : goal.trial-workers-requires
-trial-workers-requires c =
-    can_try _ _ _ _ (ready_fine _ _ _ _ c.prepare-r.ensures c.if-r-ne0.false) c.args.cells.now _ c.args.schedule.now
-    (fit_zero c.prepare-r.result.cells c.prepare-r.result.setting.processors (length c.args.cells.now)
-    (length c.args.workspace.now) c.args.schedule.now (sym c.unfit-number.ensures ∙ c.if-number-ne0.false))
+trial-workers-requires c = can_try _ c.args.cells.now _ _ _ _ _ c.in_ok-r.ensures.ready
 
-pub is_faulty-faulty-requires : goal.is_faulty-faulty-requires
-is_faulty-faulty-requires c =
-    (ready_few _ _ _ _ c.prepare-r.ensures (ready_fine _ _ _ _ c.prepare-r.ensures c.if-r-ne0.false)).1
+pub is_faulty-requires : goal.is_faulty-requires
+is_faulty-requires c =
+    let p = c.in_ok-r.ensures.ready.prepares in omega (arith, p.processors, p.few_processors)
 
-pub is_obstructed-obstructed-requires : goal.is_obstructed-obstructed-requires
-is_obstructed-obstructed-requires c =
-    stands_there _ c.args.cells.now c.args.workspace.now c.args.schedule.now _ _ _
-    (ready_fine _ _ _ _ c.prepare-r.ensures c.if-r-ne0.false) (sym c.unfit-number.ensures ∙ c.if-number-ne0.false) _ _ _ c.trial-workers.ensures.tries
+pub is_obstructed-requires : goal.is_obstructed-requires
+is_obstructed-requires c =
+    let a = c.args in
+    stands_there a.text.now a.cells.now a.workspace.now a.schedule.now _ _ _ c.in_ok-r.ensures.ready _ _ _ c.trial-workers.ensures.tries
 
 pub returns : goal.returns
 returns c =
-    try_done _ c.args.cells.now c.args.workspace.now c.args.schedule.now _ _ _ _
-    (ready_fine _ _ _ _ c.prepare-r.ensures c.if-r-ne0.false) _ c.unfit-number.ensures c.if-number-ne0.false _ _ _ _ _ c.trial-workers.ensures.tries
-    c.trial-workers.ensures.all_over c.is_faulty-faulty.ensures c.is_obstructed-obstructed.ensures refl refl refl refl refl refl
+    let a = c.args in
+    let t = c.trial-workers.ensures in
+    try_done a.text.now a.cells.now a.workspace.now a.schedule.now _ _ _ c.in_ok-r.ensures.ready _ _ _ _ _ t.tries t.all_over c.is_faulty.ensures
+    c.is_obstructed.ensures

@@ -1,14 +1,18 @@
--- `updates::signed` meets its contract, sign by sign.
-use mathlib.Core.Path.{refl, sym, ap}
-use Rattle.parts.specs.Parts.{joined}
-use Rattle.expressions.proofs.Shapes.{no_sign, some_sign}
+-- `updates::signed` meets its contract.
+use denote.Enum.Bare.{sameb}
+use mathlib.Core.Path.{◌≡◌, refl, ◌∙◌, ap}
+use mathlib.Core.Bool.{Bool, true, false, ◌||◌, not}
+use Rattle.parts.specs.Parts.{either}
+use Rattle.parts.specs.contracts.Joint.{the_type}
+use Rattle.parts.specs.declared.Joint.{Joint}
+use Rattle.parts.specs.declared.Joint.TheVariants.{Neither}
 use Rattle.updates.proofs.signed.Goals as goal
 
-pub returns-in-Neither : goal.returns-in-Neither
-returns-in-Neither c = sym (no_sign 43 45 _ _ _ c.join-j.ensures c.in-Neither.is)
+-- the code's test of which sign stands there
+by_test : (p q : Bool) → not (sameb the_type (either p q) Neither) ≡ p || q
+by_test true q = refl
+by_test false true = refl
+by_test false false = refl
 
-pub returns-in-First : goal.returns-in-First
-returns-in-First c = sym (some_sign 43 45 _ _ _ c.join-j.ensures refl (ap joined c.in-First.is)).0
-
-pub returns-in-Second : goal.returns-in-Second
-returns-in-Second c = sym (some_sign 43 45 _ _ _ c.join-j.ensures refl (ap joined c.in-Second.is)).0
+pub returns : goal.returns
+returns c = c.ne.ensures ∙ ap (λ (j : Joint). not (sameb the_type j Neither)) c.join.ensures.joint ∙ by_test _ _

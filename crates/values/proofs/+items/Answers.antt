@@ -1,53 +1,22 @@
 -- `values::items` meets its contract: an item, and then none or a comma and others.
-use mathlib.Core.Path.{◌∙◌}
 use native.Mathlib.Omega.{arith}
+use Rattle.values.specs.Data.{read_counted}
+use Rattle.heading.proofs.Turns.{onward}
 use Rattle.values.proofs.DataLines.{items_last, items_more}
-use Rattle.heading.proofs.Lists.{onward}
 use Rattle.values.proofs.+items.Goals as goal
 
-pub put_item-d-requires : goal.put_item-d-requires
-put_item-d-requires t c = c.requires
-
-pub pass-comma-requires : goal.pass-comma-requires
-pass-comma-requires t c = c.requires.0
-
-pub shape_of-cells-then-s-comma : goal.shape_of-cells-then-s-comma
-shape_of-cells-then-s-comma t c = c.put_item-d.ensures.cells_len_unchanged.0
-
-pub returns-then-s-comma : goal.returns-then-s-comma
-returns-then-s-comma t c = record {
-  items = items_last _ _ _ _ _ _ _ _ c.put_item-d.result c.put_item-d.ensures.goes
-      (omega (arith, c.put_item-d.ensures.cells_len_unchanged.1)) _ c.pass-comma.ensures c.if-s-comma.true;
-  cells_len_unchanged = c.put_item-d.ensures.cells_len_unchanged;
-}
-
 pub items-requires : goal.items-requires
-items-requires t c = (
-  onward _ _ _ _ c.decreases
-      c.put_item-d.ensures.goes c.pass-comma.ensures (omega arith),
-  (
-    c.requires.0,
-    omega (
-      arith,
-      c.requires.1,
-      c.put_item-d.ensures.cells_len_unchanged.0,
-    ),
-    c.requires.2,
-    c.put_item-d.ensures.cells_len_unchanged.1,
-  ),
-)
+items-requires t c =
+    let d = c.in_ok-d.ensures in (
+      omega (arith, c.decreases, onward read_counted d.finds c.in-Some.ensures, c.in-Some.ensures.within),
+      (c.in-Some.ensures.within, omega (arith, d.cells_len_unchanged, c.requires), omega (arith, d.few_values, d.cells_len_unchanged)),
+    )
 
-pub shape_of-cells : goal.shape_of-cells
-shape_of-cells t c = c.items.ensures.cells_len_unchanged.0 ∙ c.put_item-d.ensures.cells_len_unchanged.0
+pub returns-in-Some-clause-items : goal.returns-in-Some-clause-items
+returns-in-Some-clause-items t c =
+    items_more _ _ _ _ c.in_ok-d.ensures.cells_len_unchanged _ c.in_ok-d.ensures.finds c.in-Some.ensures _ _ c.items.ensures.items
 
-pub returns : goal.returns
-returns t c = record {
-  items = items_more _ _ _ _ _ _ _ _ c.put_item-d.result
-      c.put_item-d.ensures.goes
-      (omega (arith, c.put_item-d.ensures.cells_len_unchanged.1)) _
-      c.pass-comma.ensures (omega arith) _ _ c.items.ensures.items;
-  cells_len_unchanged = (
-    c.items.ensures.cells_len_unchanged.0 ∙ c.put_item-d.ensures.cells_len_unchanged.0,
-    c.items.ensures.cells_len_unchanged.1,
-  );
-}
+pub returns-in-None-clause-items : goal.returns-in-None-clause-items
+returns-in-None-clause-items t c =
+    let d = c.in_ok-d.ensures in
+    items_last _ _ _ _ d.cells_len_unchanged _ d.finds c.in-None.ensures (omega (arith, d.few_values, d.cells_len_unchanged))

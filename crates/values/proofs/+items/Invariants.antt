@@ -4,4 +4,4 @@ use lib.ListN.{length}
 use Rattle.values.proofs.+items.Given as goal
 
 abbrev pub decreases-items : goal.decreases-items
-decreases-items l = length l.s.now - l.at
+decreases-items l = length l.s.now - l.before.next

@@ -1,75 +1,54 @@
 -- `values::data_values` meets its contract.
-use mathlib.Core.Path.{refl, ap}
+use mathlib.Core.Path.{refl}
 use native.Mathlib.Omega.{arith}
-use lib.ListN.{length}
+use lib.ListN.{length-take, length-drop}
 use Rattle.names.proofs.Rows.{find_bounded}
-use Rattle.lexer.proofs.PlaceLaws.{goes_some}
-use Rattle.values.proofs.DataLines.{data_broken, data_read, gives_for, given_keeps}
-use Rattle.syntax.specs.Bytes.{bytes}
 use Rattle.lexer.specs.Lex.{part}
-use Rattle.values.specs.Data.{Puts}
-use Rattle.heading.proofs.Lists.{passed_from}
+use borrow.Rule.Slice.PartMut.{same_len_mid}
+use Rattle.values.proofs.DataLines.{lies, data_not, data_open, data_read, gives_in, given_keeps}
 use Rattle.values.proofs.data_values.Goals as goal
 
-pub returns-then-s-open : goal.returns-then-s-open
-returns-then-s-open c = record {
-  fact = λ t tab f b. data_broken _ _ c.name-x.result c.name-x.ensures _ c.pass-open.ensures _
-      c.if-s-open.true f;
-  keeps = (λ h. (h, refl), refl);
+pub slice_bounds-items-end : goal.slice_bounds-items-end
+slice_bounds-items-end c =
+    let (t, tab) = c.requires.1 in
+    let w = part c.args.s.now c.in_ok-x.x.start c.in_ok-x.x.next in
+    let (f, z) = lies c.args.table.now w t _ (c.find-n.ensures.known t tab) c.extent_of-first.result c.extent_of-first.ensures in
+    omega (arith, f, z, find_bounded c.args.table.now w t tab)
+
+pub items-requires : goal.items-requires
+items-requires c =
+    let (t, tab) = c.requires.1 in
+    let w = part c.args.s.now c.in_ok-x.x.start c.in_ok-x.x.next in
+    let (f, z) = lies c.args.table.now w t _ (c.find-n.ensures.known t tab) c.extent_of-first.result c.extent_of-first.ensures in (
+      c.in_ok-open.ensures.within,
+      simp (length-take, length-drop) (omega (arith, f, z, find_bounded c.args.table.now w t tab)),
+      omega arith,
+    )
+
+pub returns-in_err-d : goal.returns-in_err-d
+returns-in_err-d c = record {
+  fact = λ t tab f b. rw c.from_residual-in_err-d.ensures (data_not _ _ c.in_ok-x.x c.in_ok-x.ensures _ c.in_ok-open.ensures c.in_err-d.ensures.items f b);
+  keeps = (λ h. (h, refl), same_len_mid _ _ _ _ c.in_err-d.ensures.cells_len_unchanged);
 }
 
-pub slice_bounds-find-count : goal.slice_bounds-find-count
-slice_bounds-find-count c =
-    let (w, _, _, p) = goes_some c.name-x.ensures
-    (passed_from _ _ _ (bytes "/") c.pass-open.ensures (omega arith)) in
-    p.order
-
-pub slice_bounds-find-start : goal.slice_bounds-find-start
-slice_bounds-find-start c =
-    let (w, _, _, p) = goes_some c.name-x.ensures
-    (passed_from _ _ _ (bytes "/") c.pass-open.ensures (omega arith)) in
-    omega (arith, p.order, passed_from _ _ _ (bytes "/") c.pass-open.ensures (omega arith))
-
-pub slice_bounds-find-end : goal.slice_bounds-find-end
-slice_bounds-find-end c =
-    let (w, _, _, p) = goes_some c.name-x.ensures
-    (passed_from _ _ _ (bytes "/") c.pass-open.ensures (omega arith)) in
-    omega (arith, p.order, passed_from _ _ _ (bytes "/") c.pass-open.ensures (omega arith))
-
-pub find-n-requires : goal.find-n-requires
-find-n-requires c =
-    let (w, _, _, p) = goes_some c.name-x.ensures
-    (passed_from _ _ _ (bytes "/") c.pass-open.ensures (omega arith)) in
-    omega (arith, p.short, ap length p.bytes)
-
-pub items-d-requires : goal.items-d-requires
-items-d-requires c =
-    let (t, tab) = c.requires.2 in
-    let k = c.find-n.ensures.1 t tab in
-    let b = find_bounded c.args.table.now
-    (part c.args.s.now
-    c.name-x.result.start
-    c.name-x.result.next)
-    t tab in
-    (omega arith, omega (arith, k.first, k.size, b), omega (arith, k.first, k.size, b), omega arith)
-
-pub give_data-rank-requires : goal.give_data-rank-requires
-give_data-rank-requires c =
-    let (t, tab) = c.requires.2 in
-    λ k. omega (arith, (c.find-n.ensures.2 t tab k).within, tab.few)
+pub returns-in_err-next : goal.returns-in_err-next
+returns-in_err-next c = record {
+  fact = λ t tab f b. rw c.from_residual-in_err-next.ensures
+      (data_open _ _ c.in_ok-x.x c.in_ok-x.ensures _ c.in_ok-open.ensures _ _ c.in_ok-d.ensures.items c.in_err-next.ensures f b);
+  keeps = (λ h. (h, refl), same_len_mid _ _ _ _ c.items.ensures.cells_len_unchanged);
+}
 
 pub returns : goal.returns
 returns c =
     let a = c.args in
-    let w = c.name-x.result in
-    let f = c.find-n.ensures in
-    let n = c.find-n.result in record {
-      fact = (λ t tab. data_read _ _ w
-          c.name-x.ensures _
-          c.pass-open.ensures _
-          (Puts a.cells.now n.first n.size 0 0 _ c.items-d.result) (omega arith) _
-          c.items-d.ensures.items _ c.pass-next.ensures
-          (λ x is p q. gives_for t _ _ _ _ tab x (part a.s.now w.start w.next) p.bytes n (f.1 t tab) (f.2 t tab)
-          c.items-d.result is q _ c.give_data-rank.ensures _));
-      keeps = (given_keeps _ n _ _ _ _ c.give_data-rank.ensures, c.items-d.ensures.cells_len_unchanged.0);
+    let x = c.in_ok-x.x in
+    let w = part a.s.now x.start x.next in
+    let d = c.in_ok-d.d in record {
+      fact = λ t tab f b.
+          let k = c.find-n.ensures.known t tab in
+          let z = lies a.table.now w t _ k c.extent_of-first.result c.extent_of-first.ensures in
+          data_read _ _ x c.in_ok-x.ensures _ c.in_ok-open.ensures _ _ c.in_ok-d.ensures.items _ c.in_ok-next.ensures _
+          (λ y is p q. gives_in t _ a.cells.now _ tab c.requires.0 y w p.bytes c.find-n.result k _ _ z c.items.new.cells c.items.ensures.cells_len_unchanged
+          d is q _ c.give_data-rank.ensures _) f b;
+      keeps = (given_keeps _ _ _ _ _ _ c.give_data-rank.ensures, same_len_mid _ _ _ _ c.items.ensures.cells_len_unchanged);
     }

@@ -1,13 +1,15 @@
 -- `values::item_at` meets its contract: with digits and a star before it, or without.
 use mathlib.Core.Path.{refl}
 use mathlib.Core.Option.{none}
-use native.Mathlib.Omega.{arith}
-use Rattle.values.proofs.DataLines.{item_repeated, item_once}
+use Rattle.values.proofs.DataLines.{item_signed, item_once, item_repeated}
 use Rattle.values.proofs.item_at.Goals as goal
+use Rattle.values.proofs.item_at.Goals.{in-Some+in_default-pass, in_default}
 
-pub returns-then-star-s : goal.returns-then-star-s
-returns-then-star-s c = item_repeated _ _ _ _ c.digits-r.ensures _ c.pass-star.ensures _ (omega arith) c.copied.ensures
+pub returns-in-Some-pass : goal.returns-in-Some-pass
+returns-in-Some-pass c = item_repeated _ _ c.in-Some.r c.in-Some.ensures _ c.in-Some-pass.ensures _ c.copied.ensures
 
 pub returns : goal.returns
-returns c =
-    item_once _ _ _ _ c.digits-r.ensures _ c.pass-star.ensures _ (omega arith) (c.copied-2.ensures none refl)
+returns c = elim c.match-digits.branch [
+  | in-Some+in_default-pass w ↦ item_once _ _ w.in-Some.r w.in-Some.ensures w.in_default-pass.ensures _ (c.copied-2.ensures none refl)
+  | in_default w ↦ item_signed _ _ w.in_default.ensures c.requires _ (c.copied-2.ensures none refl)
+]

@@ -16,7 +16,7 @@ use Rattle.trial.proofs.StandingLaws.{suits_low, standing_size, standing_room}
 use Rattle.view.proofs.show.Goals as goal
 
 pub loop-c-init : goal.loop-c-init
-loop-c-init c = (omega arith, refl, λ j b. absurd (omega (arith, b)))
+loop-c-init c = (refl, λ j b. absurd (omega (arith, b)))
 
 pub row_of-row-requires : goal.row_of-row-requires
 row_of-row-requires c =
@@ -37,7 +37,7 @@ marks_of-requires c =
 
 pub bounds-view-c-in-loop-c : goal.bounds-view-c-in-loop-c
 bounds-view-c-in-loop-c c =
-    simp length-set (omega (arith, c.requires.1, c.loop-c.invariant.1, c.loop-c-test.true))
+    simp length-set (omega (arith, c.requires.1, c.loop-c.invariant.0, c.loop-c-test.true))
 
 pub loop-c-preserved : goal.loop-c-preserved
 unfolding cell_of
@@ -45,16 +45,15 @@ loop-c-preserved c =
     let a = c.args in
     let u = c.loop-c in
     let e : to_z w32 (of_z w32 (get_or a.cells.now u.c (pos 0))) ≡ get_or a.cells.now u.c (pos 0) = search rules in (
-      omega arith,
-      simp length-set u.invariant.1,
+      simp length-set u.invariant.0,
       rw (add-one, c.to_word.ensures, e, c.marks_of.ensures, c.row_of-row.ensures)
           (showing_more u.view u.c (λ j. word (cell_of a.cells.now j)) (λ j. marks_of a.w.now (row_at a.processors j))
-          (omega (arith, c.requires.1, u.invariant.1)) u.invariant.2),
+          (omega (arith, c.requires.1, u.invariant.0)) u.invariant.1),
     )
 
 pub returns : goal.returns
 returns c =
     let a = c.args in
     let u = c.loop-c in
-    let e : u.c ≡ length a.cells.now = omega (arith, u.invariant.0, c.loop-c-test.false) in
-    λ l δ s h. standing_shown a.processors l δ a.cells.now a.w.now s h u.view (omega (arith, c.requires.1, u.invariant.1)) (rw e at u.invariant.2)
+    let e : u.c ≡ length a.cells.now = omega (arith, c.loop-c-test.false) in
+    λ l δ s h. standing_shown a.processors l δ a.cells.now a.w.now s h u.view (omega (arith, c.requires.1, u.invariant.0)) (rw e at u.invariant.1)

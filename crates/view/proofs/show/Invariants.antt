@@ -1,6 +1,5 @@
 -- `view::show` meets its contract: the cells passed are shown.
 use mathlib.Core.Path.{◌≡◌}
-use Prim.Native.Nat.{◌≤◌, ◌-◌}
 use lib.ListN.{length}
 use Rattle.int32.specs.Integers.{word}
 use Rattle.rules.specs.Cells.{cell_of}
@@ -11,7 +10,4 @@ use Rattle.view.proofs.show.Given as goal
 
 abbrev pub invariant-loop-c : goal.invariant-loop-c
 invariant-loop-c l =
-    (l.c ≤ length l.cells) × (length l.view ≡ length l.initial.view) × Showing l.view l.c (λ j. word (cell_of l.cells j)) (λ j. marks_of l.w (row_at l.processors j))
-
-abbrev pub decreases-loop-c : goal.decreases-loop-c
-decreases-loop-c l = length l.cells - l.c
+    (length l.view ≡ length l.initial.view) × Showing l.view l.c (λ j. word (cell_of l.cells j)) (λ j. marks_of l.w (row_at l.processors j))
