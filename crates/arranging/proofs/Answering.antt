@@ -32,8 +32,11 @@ use Rattle.arranging.specs.Sought.{found, told, grid_told, sought_of}
 pub told_two : (l : Located) → 2 ≤ l.subscripts → Ok (found l.first l.rows l.columns) ≡ grid_told (Ok l)
 told_two l h = ap (λ (b : Bool). cond b (refuse 13 0) (Ok (found l.first l.rows l.columns))) (sym (le-ltb l.subscripts 2 h))
 
+pub told_few : (l : Located) → l.subscripts < 2 → refuse 13 0 ≡ grid_told (Ok l)
+told_few l h = ap (λ (b : Bool). cond b (refuse 13 0) (Ok (found l.first l.rows l.columns))) (sym (lt-ltb l.subscripts 2 h))
+
 pub told_none : (r : Result Located Refusal) → ((l : Located) → r ≡ Ok l → l.subscripts < 2) → refuse 13 0 ≡ grid_told r
-told_none (Ok l) h = ap (λ (b : Bool). cond b (refuse 13 0) (Ok (found l.first l.rows l.columns))) (sym (lt-ltb l.subscripts 2 (h l refl)))
+told_none (Ok l) h = told_few l (h l refl)
 told_none (Err e) h = refl
 
 pub told_located : (t : List Entry) (w : List ℕ) → grid_told (located_in t (map lower w)) ≡ told 0 (grid_named t w)

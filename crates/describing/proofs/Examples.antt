@@ -71,7 +71,7 @@ named t x l = record { got = name_of (read t) (bytes x); want = l }
 abbrev name : String → Result Located Refusal → Row (Result Located Refusal)
 name = named (loop plain "do i = 1, 0")
 
-pub name_rows : List (Row (Result Located Refusal))
+unfoldable pub name_rows : List (Row (Result Located Refusal))
 name_rows =
     -- first cell, how many, how many subscripts, the clause (each of the six), and the extents
     name "x" (cells 0 1 0 shared 0 0)

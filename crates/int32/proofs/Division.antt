@@ -85,6 +85,11 @@ module _ (a b : ℕ) where
 once : (m : ℕ) → m < 2 ^ 32 → (2 ^ 32 - m % 2 ^ 32) % 2 ^ 32 ≡ (2 ^ 32 - m) % 2 ^ 32
 once m h = omega arith
 
+pub sign_word_lem : (x : ℤ) → SFits w32 x → sign_word x (word x) ≡ nat_abs x
+unfolding sign_word word
+sign_word_lem (pos n) f = omega (arith, f.sfits)
+sign_word_lem (negsuc n) f = omega (arith, f.sfits)
+
 pub sign_signs : (f : ℕ → ℕ → ℕ) (x y : ℤ) → f (nat_abs x) (nat_abs y) < 2 ^ 32 → sign_word x (sign_word y (f (nat_abs x) (nat_abs y))) ≡ word (by_signs f x y)
 unfolding sign_word word by_signs
 sign_signs f (pos a) (pos b) h = omega arith

@@ -59,7 +59,7 @@ pub fn line_end(text: &[u8], at: usize) -> usize
 fn in_word(b: u8) -> bool
     ensures { result ≡ in_word b }
 {
-    matches!(b, b'a'..=b'z' | b'0'..=b'9' | b'_')
+    matches!(b, b'a'..=b'z') || matches!(b, b'0'..=b'9' | b'_')
 }
 
 // The end of the run that stands at a place: the bytes on which `goes_on` answers true.
@@ -81,11 +81,18 @@ pub fn run_end<F: Fn(u8) -> bool>(s: &[u8], at: usize, goes_on: F) -> usize
 fn reserved(w: &[u8]) -> bool
     ensures { result ≡ any (same w.now) reserved_words }
 {
-    const WORDS: [&[u8]; 11] = [
-        b"integer", b"data", b"do", b"end", b"enddo", b"endif", b"if", b"then", b"else", b"rdiv",
-        b"max",
-    ];
-    WORDS.contains(&w)
+    let is = |word: &[u8]| w == word;
+    is(b"integer")
+        || is(b"data")
+        || is(b"do")
+        || is(b"end")
+        || is(b"enddo")
+        || is(b"endif")
+        || is(b"if")
+        || is(b"then")
+        || is(b"else")
+        || is(b"rdiv")
+        || is(b"max")
 }
 
 // The kind of a word.
@@ -104,15 +111,11 @@ fn sign_length(s: &[u8]) -> usize
     ensures { result ≡ sign_size s.now }
 {
     if s.starts_with(b"!$omp") {
-        5
-    } else if s.starts_with(b"==")
-        || s.starts_with(b"/=")
-        || s.starts_with(b"<=")
-        || s.starts_with(b">=")
-    {
-        2
-    } else {
-        1
+        return 5;
+    }
+    match s {
+        [b'=' | b'/' | b'<' | b'>', b'=', ..] => 2,
+        _ => 1,
     }
 }
 
@@ -130,12 +133,12 @@ pub fn token(s: &[u8], at: usize) -> Tok
         };
     }
     if s[start].is_ascii_lowercase() {
-        let stop = run_end(s, start, in_word);
+        let stop = run_end(s, start + 1, in_word);
         let kind = word_kind(&s[start..stop]);
         return Tok { kind, start, stop };
     }
     if s[start].is_ascii_digit() {
-        let stop = run_end(s, start, |b| b.is_ascii_digit());
+        let stop = run_end(s, start + 1, |b| b.is_ascii_digit());
         return Tok {
             kind: Kind::Digits,
             start,
@@ -169,7 +172,7 @@ pub fn reads(s: &[u8], t: Tok, w: &[u8]) -> bool
 pub fn pass(s: &[u8], at: usize, w: &[u8]) -> Option<usize>
     ensures { Finds (λ next. next) (λ _. Any) s.now at (passes w.now) result }
 {
-    let mut c = Cursor::new(s, at)?;
+    let mut c = Cursor::within(s, at)?;
     let t = c.take();
     if reads(s, t, w) { Some(c.at) } else { None }
 }
@@ -234,7 +237,7 @@ pub struct Sign {
 pub fn name(s: &[u8], at: usize) -> Option<Word>
     ensures { Finds (λ r. r.next) (Spells s.now) s.now at (read_name peek_in skip_in) result }
 {
-    let mut c = Cursor::new(s, at)?;
+    let mut c = Cursor::within(s, at)?;
     let t = c.take();
     if t.kind != Kind::Name {
         return None;
@@ -249,7 +252,7 @@ pub fn name(s: &[u8], at: usize) -> Option<Word>
 pub fn digits(s: &[u8], at: usize) -> Option<Number>
     ensures { Finds (λ r. r.next) Numbers s.now at (read_digits peek_in skip_in) result }
 {
-    let mut c = Cursor::new(s, at)?;
+    let mut c = Cursor::within(s, at)?;
     let t = c.take();
     if t.kind != Kind::Digits {
         return None;
@@ -260,11 +263,11 @@ pub fn digits(s: &[u8], at: usize) -> Option<Number>
     })
 }
 
-// The sign at a place, or none.
+// The sign at a place, or none; of a place past the line's end none, and the place after the end.
 #[tactic(auto, using(crate::proofs::InTurn::lead_plus_to, crate::proofs::InTurn::lead_minus_to))]
 pub fn lead(s: &[u8], at: usize) -> Sign
     ensures read { at ≤ length s.now → ReadTo (Leads result) s.now at (read_lead peek_in skip_in) result.next }
-    ensures past { length s.now < at → (result.next ≡ at) × (result.sign ≡ Leading.Bare) }
+    ensures past { length s.now < at → (result.next ≡ length s.now + 1) × (result.sign ≡ Leading.Bare) }
 {
     if let Some(next) = pass(s, at, b"+") {
         return Sign {
@@ -279,7 +282,7 @@ pub fn lead(s: &[u8], at: usize) -> Sign
         };
     }
     Sign {
-        next: at,
+        next: at.min(s.len() + 1),
         sign: Leading::Bare,
     }
 }

@@ -146,7 +146,7 @@ pub fn loop_line(s: &[u8], p: Progress, table: &mut Table) -> Result<Progress, F
 // ---- lines after do
 
 // How far a text was read, with this line's stage, and another place and depth.
-fn onward(p: Progress, stage: u32, place: usize, depth: usize) -> Progress
+pub fn onward(p: Progress, stage: u32, place: usize, depth: usize) -> Progress
     ensures { result ≡ moved p stage place depth }
 {
     Progress {

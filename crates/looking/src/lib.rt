@@ -7,7 +7,7 @@ ghost use Rattle.syntax.specs.Text.{read as read_text};
 ghost use Rattle.answers.specs.Answers.{look_of, view_shown, look_workspace};
 
 use answers::Refusal;
-use preparing::prepare;
+use preparing::prepare_run;
 use rules::Class;
 
 // The shared value and the marks of each cell after the schedule's bytes.
@@ -26,7 +26,7 @@ pub fn look(
 {
     let mut code = [0; code::WORDS];
     let mut classes = [Class::Shared; 4096];
-    let r = prepare(
+    let r = prepare_run(
         text,
         cells.len(),
         workspace.len(),

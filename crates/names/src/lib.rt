@@ -98,12 +98,20 @@ pub fn end_of(table: &Table, i: usize) -> usize
     table[ENTRY * i + FIRST] as usize + table[ENTRY * i + SIZE] as usize
 }
 
+// The number of the class of entry i.
+pub fn class_number_of(table: &Table, i: usize) -> u32
+    requires { i ≤ variable_entry }
+    ensures { result ≡ class_at table.now i }
+{
+    table[ENTRY * i + FACTS] / 4
+}
+
 // The class of entry i.
 pub fn class_of(table: &Table, i: usize) -> Class
     requires { i ≤ variable_entry }
     ensures { result ≡ class_by (class_at table.now i) }
 {
-    Class::of_number(table[ENTRY * i + FACTS] / 4)
+    Class::of_number(class_number_of(table, i))
 }
 
 // How many subscripts a name of these extents takes.

@@ -12,7 +12,7 @@ ghost use Rattle.sweeping.specs.Sweep.{Zeros, CanSweep, Sweeps};
 ghost use Rattle.planning.specs.Plan.{Ends, CanPlan, Plans};
 
 use answers::{Failure, Fault, Refusal};
-use preparing::prepare;
+use preparing::prepare_run;
 use rules::Class;
 use stepping::Point;
 use trial::Setting;
@@ -101,7 +101,7 @@ pub fn plan(
 {
     let mut code = [0; code::WORDS];
     let mut classes = [Class::Shared; 4096];
-    let r = prepare(
+    let r = prepare_run(
         text,
         cells.len(),
         workspace.len(),

@@ -1,18 +1,16 @@
 -- A run can begin: by the verdict on the text and by what is lent.
-use mathlib.Core.Path.{◌≡◌, refl, sym, ◌∙◌, ap, subst}
+use mathlib.Core.Path.{◌≡◌, sym, ap, subst}
 use mathlib.Core.List.{List}
-use Prim.Native.Nat.{ℕ, ◌+◌, ◌-◌, ◌*◌, ◌≤◌, ◌<◌}
+use Prim.Native.Nat.{ℕ, ◌+◌, ◌*◌, ◌≤◌, ◌<◌}
 use native.Mathlib.Nat.{mul-le-mul}
 use native.Mathlib.Omega.{arith}
-use lib.ListN.{length, get_or, take, drop}
+use lib.ListN.{length, get_or, take}
 use lib.IntN.{ℤ}
 use Rattle.rules.specs.declared.Class.{Class}
 use Rattle.syntax.specs.Known.{State, cells}
-use Rattle.syntax.specs.Text.{Verdict, refused, good, read}
+use Rattle.syntax.specs.Text.{read}
 use Rattle.syntax.specs.Meaning.{loop_of, partition_of}
 use Rattle.syntax.proofs.Sane.{accepted_sane}
-use Rattle.code.specs.Instr.{words}
-use Rattle.code.specs.Compile.{code_of}
 use Rattle.tables.specs.Layout.{row_at}
 use Rattle.trial.specs.Running.{dealt}
 use Rattle.trial.specs.Start.{Starts, CanTry}

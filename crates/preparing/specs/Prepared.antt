@@ -34,6 +34,7 @@ pub record Accepts (v : Verdict) (p : Progress) (T : List ℕ) (I : List ℤ) (C
 
 -- for the text of s: the first words of K are its code, and C has its cells' classes
 pub record Prepares (s : State) (r : Ready) (K : List ℕ) (C : List Class) : Type 0 where
+  pub cells_are : r.cells ≡ cells s.table
   pub processors : r.setting.processors ≡ s.processors
   pub grouping : r.setting.grouping ≡ s.grouping
   pub iterations : r.setting.iterations ≡ s.count
@@ -43,6 +44,12 @@ pub record Prepares (s : State) (r : Ready) (K : List ℕ) (C : List Class) : Ty
   pub few_cells : cells s.table ≤ length C
   pub few_processors : s.processors ≤ 8
   pub classes : (c : ℕ) → c < cells s.table → get_or C c shared ≡ class_of s.table c
+
+-- the text is accepted, and made ready
+pub record Prepared (v : Verdict) (r : Ready) (K : List ℕ) (C : List Class) : Type 0 where
+  pub state : State
+  pub verdict : v ≡ good state
+  pub prepares : Prepares state r K C
 
 -- ready, where m cells, w words and the schedule ps are lent: they fit
 pub record Readies (v : Verdict) (m w : ℕ) (ps : List ℕ) (r : Ready) (K : List ℕ) (C : List Class) : Type 0 where

@@ -5,7 +5,7 @@ ghost use Rattle.std.specs.Prelude.{◌≡◌, length, IfOk, IfErr};
 ghost use Rattle.syntax.specs.Text.{read as read_text};
 ghost use Rattle.code.specs.Compile.{code_words};
 ghost use Rattle.reader.specs.Judged.{Fresh};
-ghost use Rattle.preparing.specs.Prepared.{Accepts, Refuses, Readies, RefusesRun};
+ghost use Rattle.preparing.specs.Prepared.{Accepts, Refuses, Prepared, Readies, RefusesRun};
 
 use answers::Refusal;
 use fitting::check_lent;
@@ -69,15 +69,38 @@ impl Source {
 
 // ---- a text made ready for a run
 
-// What is ready: the setting, and where the code ends.
+// What is ready: N, the setting, and where the code ends.
 #[derive(Clone, Copy)]
 pub struct Ready {
+    pub cells: u32,
     pub setting: Setting,
     pub end: usize,
 }
 
-// Reads a text, looks at what is lent for its run, and makes its code and the classes of its cells ready.
-pub fn prepare(
+// Reads a text, and makes its code and the classes of its cells ready. Free: after a refusal both slices; else the code past its end, and the classes past N.
+pub fn prepare(text: &[u8], code: &mut [u32], classes: &mut [Class]) -> Result<Ready, Refusal>
+    requires { (length code.old ≡ code_words) × (length classes.old ≡ 4096) }
+    ensures ready { IfOk result (λ r. Prepared (read_text text.now) r code.new classes.new) }
+    ensures refused { IfErr result (Refuses (read_text text.now)) }
+{
+    let mut table = [0; names::WORDS];
+    let mut initial = [0; 4096];
+    let p = read(text, &mut table, &mut initial, code)?;
+    setup::classes(&table, p.cells as usize, classes);
+    Ok(Ready {
+        cells: p.cells,
+        setting: Setting {
+            processors: p.processors,
+            grouping: p.grouping,
+            iterations: p.count as u32,
+            from: p.from,
+        },
+        end: 2 * p.place,
+    })
+}
+
+// The same for a run over so many cells and words and this schedule, where they can be taken for it.
+pub fn prepare_run(
     text: &[u8],
     cells: usize,
     words: usize,
@@ -89,18 +112,7 @@ pub fn prepare(
     ensures ready { IfOk result (λ r. Readies (read_text text.now) cells words schedule.now r code.new classes.new) }
     ensures refused { IfErr result (RefusesRun (read_text text.now) cells words schedule.now) }
 {
-    let mut table = [0; names::WORDS];
-    let mut initial = [0; 4096];
-    let p = read(text, &mut table, &mut initial, code)?;
-    check_lent(p.cells, p.processors, cells, words, schedule)?;
-    setup::classes(&table, p.cells as usize, classes);
-    Ok(Ready {
-        setting: Setting {
-            processors: p.processors,
-            grouping: p.grouping,
-            iterations: p.count as u32,
-            from: p.from,
-        },
-        end: 2 * p.place,
-    })
+    let r = prepare(text, code, classes)?;
+    check_lent(r.cells, r.setting.processors, cells, words, schedule)?;
+    Ok(r)
 }

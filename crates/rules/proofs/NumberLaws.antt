@@ -1,6 +1,7 @@
 -- The numbers of classes.
 use mathlib.Core.Path.{◌≡◌, refl}
-use Prim.Native.Nat.{◌≤◌, ◌<◌}
+use mathlib.Core.List.{[], ◌∷◌, map}
+use Prim.Native.Nat.{◌≤◌}
 use native.Mathlib.Omega.{arith}
 use Rattle.rules.specs.declared.Operator.{Operator}
 use Rattle.rules.specs.declared.Operator.TheVariants.{Sum, Product, Maximum}
@@ -16,11 +17,11 @@ class_most (reduction Sum) = omega arith
 class_most (reduction Product) = omega arith
 class_most (reduction Maximum) = omega arith
 
--- a reduction's class has not the number of a shared one
-pub reduction_number : (o : Operator) → 0 < class_number (reduction o)
-reduction_number Sum = omega arith
-reduction_number Product = omega arith
-reduction_number Maximum = omega arith
+-- a class with updates has none of the other classes' numbers
+pub reduction_number : (o : Operator) → (2 ≤ class_number (reduction o)) × (class_number (reduction o) ≡ 3 → ⊥)
+reduction_number Sum = (omega arith, λ e. omega arith)
+reduction_number Product = (omega arith, λ e. omega arith)
+reduction_number Maximum = (omega arith, λ e. omega arith)
 
 -- the number of a class gives it back
 pub numbered : (k : Class) → class_by (class_number k) ≡ k
@@ -30,3 +31,7 @@ numbered copied = refl
 numbered (reduction Sum) = refl
 numbered (reduction Product) = refl
 numbered (reduction Maximum) = refl
+
+-- RULES 9.2 c, row by row: 0 no clause, 1 lastprivate alone, 2 a sum, 3 both clauses, 4 a product, 5 a maximum
+pub number_rows : map class_number (shared ∷ lastprivate ∷ reduction Sum ∷ copied ∷ reduction Product ∷ reduction Maximum ∷ []) ≡ 0 ∷ 1 ∷ 2 ∷ 3 ∷ 4 ∷ 5 ∷ []
+number_rows = refl

@@ -8,7 +8,7 @@ ghost use Rattle.answers.specs.Numbers.{served_numbers};
 ghost use Rattle.serving.specs.Serial.{SerialOf, serial_numbers};
 
 use answers::{Counts, Failure, Fault};
-use preparing::prepare;
+use preparing::prepare_run;
 use rules::Class;
 
 // The serial run, in place over the cells: the text and the cells alone decide it. A refusal apart, the workspace keeps the cells at entry, in the rows of
@@ -23,7 +23,7 @@ pub fn run_serially(
 {
     let mut code = [0; code::WORDS];
     let mut classes = [Class::Shared; 4096];
-    let r = prepare(
+    let r = prepare_run(
         text,
         cells.len(),
         workspace.len(),

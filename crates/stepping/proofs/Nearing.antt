@@ -8,12 +8,16 @@ use mathlib.Core.Bool.{cond}
 use Rattle.std.specs.declared.option.Option.TheVariants.{None, Some}
 use Rattle.std.specs.Prelude.{is_none}
 use Rattle.stepping.specs.declared.Fault.{Fault as Stop}
+use Rattle.code.specs.Instr.{instructions}
+use Rattle.operands.specs.Pending.{pendings}
+use Rattle.operands.specs.Performing.{left}
 use Rattle.operands.specs.declared.Move.{Move}
 use Rattle.operands.specs.declared.Move.TheVariants.{Read, Write, Update, Fault, End}
 use Rattle.machine.specs.Machine.{accesses}
 use Rattle.stepping.specs.declared.Point.{Point}
 use Rattle.stepping.specs.declared.Role.{Role}
-use Rattle.stepping.specs.Step.{Scene, at, moved, Goes}
+use Rattle.stepping.specs.Step.{Scene, at, variable, moved, Goes}
+use Rattle.stepping.proofs.Faults.{resume_fault}
 
 -- a number that falls with each step of a processor whose block ends before e, with n instructions
 unfoldable pub togo : ℕ → ℕ → Point → ℕ
@@ -48,6 +52,12 @@ module _ (n e : ℕ) (t t' : Point) (f : t.fault ≡ None) where
 module _ (x : Role) (code : List ℕ) (z z' : Scene) (g : Goes x code z z') where
   abbrev n : ℕ
   n = length code / 2
+
+  -- a fault has a number other than 0
+  pub fault_some : (k t : ℕ) → g.reached.done ≡ Fault k t → 0 < k
+  unfolding left
+  fault_some k t e = resume_fault (instructions code) z.point.place (pendings z.pending z.point.depth) (variable x z) k t
+      (rw e at g.comes.meaning)
 
   pub goes_nearer : (e : ℕ) → z.point.fault ≡ None → at z < e → togo n e z'.point < togo n e z.point
   unfolding moved

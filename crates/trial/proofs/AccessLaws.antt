@@ -67,7 +67,7 @@ seen_as : (l : Loop) (δ : Partition) (s : State) (i c : ℕ) (k : Class) (x : �
 seen_as l δ s i c shared x e y f = pick_same refl x y ∙ e
 seen_as l δ s i c lastprivate x e y f = pick_other {i = 1} {j = 0} (omega arith) x y ∙ f
 seen_as l δ s i c copied x e y f = pick_other {i = 3} {j = 0} (omega arith) x y ∙ f
-seen_as l δ s i c (reduction o) x e y f = pick_other {i = class_number (reduction o)} {j = 0} (omega (arith, reduction_number o)) x y ∙ f
+seen_as l δ s i c (reduction o) x e y f = pick_other {i = class_number (reduction o)} {j = 0} (omega (arith, (reduction_number o).0)) x y ∙ f
 
 stored_as : (n : ℕ) (f : ℕ → ℤ) (c : ℕ) (v : ℤ) (k : Class) (M : List ℤ) → M ≡ listed n f → c < n
     → cond (eqb (class_number k) 0) (set M c v) M ≡ listed n (steps.stored k f c v)

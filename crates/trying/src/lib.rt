@@ -6,7 +6,7 @@ ghost use Rattle.syntax.specs.Text.{read as read_text};
 ghost use Rattle.trying.specs.Trial.{TrialOf};
 
 use answers::Refusal;
-use preparing::prepare;
+use preparing::prepare_run;
 use rules::Class;
 use trial::Worker;
 
@@ -32,7 +32,7 @@ pub fn trial(
 {
     let mut code = [0; code::WORDS];
     let mut classes = [Class::Shared; 4096];
-    let r = prepare(
+    let r = prepare_run(
         text,
         cells.len(),
         workspace.len(),

@@ -10,7 +10,6 @@ use Rattle.std.proofs.Common.{rules}
 use Rattle.syntax.specs.Bytes.{run, in_word, digit, sign_size}
 use Rattle.lexer.specs.declared.Kind.TheVariants.{Digits, Sign}
 use Rattle.lexer.specs.Lex.{blank, part, kind_number}
-use Rattle.lexer.proofs.Laws.{run_on, or_yes}
 use Rattle.lexer.proofs.Tokens.{lexed_end, lexed_some, size_word, size_digits, size_sign, kind_word, kind_digits, kind_sign}
 use Rattle.lexer.proofs.Signs.{sign_within, sign_some}
 use Rattle.lexer.proofs.token.Goals as goal
@@ -27,9 +26,9 @@ returns-then-is_ascii_lowercase c =
     let h : a < length s = omega arith in
     let l = sym c.is_ascii_lowercase.ensures.value ∙ c.if-is_ascii_lowercase.true in
     lexed_some s c.args.at a (c.run_end-start.ensures.value blank (λ b r l e. search rules)) h c.run_end-stop.result c.word_kind-kind.result
-    (c.run_end-stop.ensures.value in_word (λ b r l e. e) ∙ run_on in_word s a h (or_yes _ l) ∙ ap (λ (n : ℕ). n + run in_word (drop n s)) (add-one a)
+    (c.run_end-stop.ensures.value in_word (λ b r l e. e) ∙ ap (λ (n : ℕ). n + run in_word (drop n s)) (add-one a)
     ∙ omega (arith, size_word (get_or s a 0) (drop (suc a) s) l))
-    (omega (arith, c.run_end-stop.ensures.value in_word (λ b r l e. e), run_on in_word s a h (or_yes _ l)))
+    (omega (arith, c.run_end-stop.ensures.bounds.0))
     c.run_end-stop.ensures.bounds.1
     (kind_word (get_or s a 0) (part s a c.run_end-stop.result) (kind_number c.word_kind-kind.result) l c.word_kind-kind.ensures)
 
@@ -42,9 +41,9 @@ returns-then-is_ascii_digit c =
     let d = sym c.is_ascii_digit.ensures.value ∙ c.if-is_ascii_digit.true in
     let stop = c.run_end-stop-then-is_ascii_digit in
     lexed_some s c.args.at a (c.run_end-start.ensures.value blank (λ b r l e. search rules)) h stop.result Digits
-    (stop.ensures.value digit (λ b r l e. search rules) ∙ run_on digit s a h d ∙ ap (λ (n : ℕ). n + run digit (drop n s)) (add-one a)
+    (stop.ensures.value digit (λ b r l e. search rules) ∙ ap (λ (n : ℕ). n + run digit (drop n s)) (add-one a)
     ∙ omega (arith, size_digits (get_or s a 0) (drop (suc a) s) l d))
-    (omega (arith, stop.ensures.value digit (λ b r l e. search rules), run_on digit s a h d))
+    (omega (arith, stop.ensures.bounds.0))
     stop.ensures.bounds.1
     (kind_digits (get_or s a 0) (part s a stop.result) l d)
 
