@@ -1,6 +1,6 @@
 -- Laws of runs of bytes, of equal strings, and of stores one after another.
 use mathlib.Core.Path.{◌≡◌, refl, sym, ◌∙◌, ap}
-use mathlib.Core.Bool.{Bool, true, false, ◌&&◌, ◌||◌}
+use mathlib.Core.Bool.{Bool, true, false, cond, ◌&&◌, ◌||◌}
 use mathlib.Core.List.{List, [], ◌∷◌, ◌++◌, map, map-append}
 use Prim.Native.Nat.{ℕ, suc, ◌+◌, ◌-◌, ◌*◌, ◌≤◌, ◌<◌}
 use native.Mathlib.Numerals.{add-one}
@@ -10,7 +10,7 @@ use lib.Pointwise.{pointwise}
 use lib.ListN.{length, get_or, set, take, drop, drop_of_length-le, length-map}
 use lib.Seq.{sets, drop-cons, take-suc, length-take-le}
 use Rattle.std.specs.Char.{to_ascii_lowercase}
-use Rattle.syntax.specs.Bytes.{choose, run, any, same, lower}
+use Rattle.syntax.specs.Bytes.{choose, run, any, same, lower, bytes, reserved}
 use Rattle.syntax.specs.Grammar.{number, number_from}
 use Rattle.lexer.specs.Lex.{part}
 
@@ -104,6 +104,69 @@ same_of [] [] = refl
 same_of [] (b ∷ y) = refl
 same_of (a ∷ w) [] = refl
 same_of (a ∷ w) (b ∷ y) = λ i. eqb_swap b a i && same_of w y i
+
+pub same_other : (w y : List ℕ) → (length w ≡ length y → ⊥) → same w y ≡ false
+same_other [] [] h = absurd (h refl)
+same_other [] (b ∷ y) h = refl
+same_other (a ∷ w) [] h = refl
+same_other (a ∷ w) (b ∷ y) h = rw (same_other w y (λ e. h (ap suc e))) (both_false (eqb a b))
+  where
+    both_false : (c : Bool) → c && false ≡ false
+    both_false true = refl
+    both_false false = refl
+
+-- only the words as long as w can be w
+sized : ℕ → List (List ℕ) → List (List ℕ)
+sized n [] = []
+sized n (y ∷ ws) = cond (eqb (length y) n) (y ∷ sized n ws) (sized n ws)
+
+any_sized : (w : List ℕ) (n : ℕ) → length w ≡ n → (ws : List (List ℕ)) → any (same w) ws ≡ any (same w) (sized n ws)
+unfolding sized
+any_sized w n e [] = refl
+any_sized w n e (y ∷ ws) = go (eqb (length y) n) refl (any_sized w n e ws)
+  where
+    eqb_not : (m n : ℕ) → eqb m n ≡ false → m ≡ n → ⊥
+    eqb_not m n q h = grind arith
+
+    go : (b : Bool) → eqb (length y) n ≡ b → any (same w) ws ≡ any (same w) (sized n ws) → any (same w) (y ∷ ws) ≡ any (same w) (cond b (y ∷ sized n ws) (sized n ws))
+    go true q h = ap (λ (c : Bool). same w y || c) h
+    go false q h = ap (λ (c : Bool). c || any (same w) ws) (same_other w y (λ k. eqb_not (length y) n q (sym k ∙ e))) ∙ h
+
+pub reserved_two : (w : List ℕ) → length w ≡ 2 → any (same w) reserved ≡ (same w (bytes "do") || (same w (bytes "if") || false))
+unfolding sized
+reserved_two w e = any_sized w 2 e reserved
+
+pub reserved_three : (w : List ℕ) → length w ≡ 3 → any (same w) reserved ≡ (same w (bytes "end") || (same w (bytes "max") || false))
+unfolding sized
+reserved_three w e = any_sized w 3 e reserved
+
+pub reserved_four : (w : List ℕ) → length w ≡ 4
+    → any (same w) reserved ≡ (same w (bytes "data") || (same w (bytes "then") || (same w (bytes "else") || (same w (bytes "rdiv") || false))))
+unfolding sized
+reserved_four w e = any_sized w 4 e reserved
+
+pub reserved_five : (w : List ℕ) → length w ≡ 5 → any (same w) reserved ≡ (same w (bytes "enddo") || (same w (bytes "endif") || false))
+unfolding sized
+reserved_five w e = any_sized w 5 e reserved
+
+pub reserved_seven : (w : List ℕ) → length w ≡ 7 → any (same w) reserved ≡ (same w (bytes "integer") || false)
+unfolding sized
+reserved_seven w e = any_sized w 7 e reserved
+
+-- and no word where none is as long
+none_sized : (n : ℕ) → (n ≡ 2 → ⊥) → (n ≡ 3 → ⊥) → (n ≡ 4 → ⊥) → (n ≡ 5 → ⊥) → (n ≡ 7 → ⊥) → sized n reserved ≡ []
+unfolding sized
+none_sized n a b c d e =
+    let two : eqb 2 n ≡ false = grind arith in
+    let three : eqb 3 n ≡ false = grind arith in
+    let four : eqb 4 n ≡ false = grind arith in
+    let five : eqb 5 n ≡ false = grind arith in
+    let seven : eqb 7 n ≡ false = grind arith in
+    rw (two, three, four, five, seven) (refl {a = []})
+
+pub reserved_none : (w : List ℕ) → (length w ≡ 2 → ⊥) → (length w ≡ 3 → ⊥) → (length w ≡ 4 → ⊥) → (length w ≡ 5 → ⊥) → (length w ≡ 7 → ⊥)
+    → any (same w) reserved ≡ false
+reserved_none w a b c d e = any_sized w (length w) refl reserved ∙ ap (any (same w)) (none_sized (length w) a b c d e)
 
 pub any_word : (w : List ℕ) (ws : List (List ℕ)) → any (λ y. pointwise eqb y w) ws ≡ any (same w) ws
 any_word w [] = refl

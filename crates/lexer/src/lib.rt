@@ -82,17 +82,14 @@ fn reserved(w: &[u8]) -> bool
     ensures { result ≡ any (same w.now) reserved_words }
 {
     let is = |word: &[u8]| w == word;
-    is(b"integer")
-        || is(b"data")
-        || is(b"do")
-        || is(b"end")
-        || is(b"enddo")
-        || is(b"endif")
-        || is(b"if")
-        || is(b"then")
-        || is(b"else")
-        || is(b"rdiv")
-        || is(b"max")
+    match w.len() {
+        2 => is(b"do") || is(b"if"),
+        3 => is(b"end") || is(b"max"),
+        4 => is(b"data") || is(b"then") || is(b"else") || is(b"rdiv"),
+        5 => is(b"enddo") || is(b"endif"),
+        7 => is(b"integer"),
+        _ => false,
+    }
 }
 
 // The kind of a word.
@@ -110,11 +107,9 @@ fn word_kind(w: &[u8]) -> Kind
 fn sign_length(s: &[u8]) -> usize
     ensures { result ≡ sign_size s.now }
 {
-    if s.starts_with(b"!$omp") {
-        return 5;
-    }
     match s {
         [b'=' | b'/' | b'<' | b'>', b'=', ..] => 2,
+        [b'!', ..] if s.starts_with(b"!$omp") => 5,
         _ => 1,
     }
 }
